@@ -1,0 +1,3 @@
+-- What the contracts of `hash` cite.
+pub mod Fnv
+pub mod Rows
