@@ -1,0 +1,57 @@
+-- The form in which every rule of a server is shown to keep the invariant: it adds to the log, and server, messages and answers
+-- agree with what it added.
+use mathlib.Core.Path.{_≡_}
+use mathlib.Core.List.{List, [], _∷_, _++_, map}
+use Prim.Native.Nat.{ℕ}
+use Rattle.model.specs.Calls.{Answer}
+use Rattle.model.specs.Cluster.{Server, Message}
+use Rattle.model.specs.Leader.{Reaction}
+use Rattle.history.specs.Members.{_∈_}
+use Rattle.consistency.specs.Log.{Vote, Win, Write, Accept, Report, Opened, Check, Begun, Ended, Log}
+use Rattle.consistency.specs.Claims.{MessageOk}
+use Rattle.consistency.specs.Invariant.{LogOk, ServerOk}
+use Rattle.consistency.specs.Growth.{Adds}
+
+-- ---- a log with one entry more
+
+abbrev pub addVote : Vote → Log → Log
+addVote x l = record { votes = x ∷ l .votes; wins = l .wins; writes = l .writes; accepts = l .accepts; reports = l .reports; rounds = l .rounds; checks = l .checks; begins = l .begins; ends = l .ends }
+
+abbrev pub addWin : Win → Log → Log
+addWin x l = record { votes = l .votes; wins = x ∷ l .wins; writes = l .writes; accepts = l .accepts; reports = l .reports; rounds = l .rounds; checks = l .checks; begins = l .begins; ends = l .ends }
+
+abbrev pub addWrite : Write → Log → Log
+addWrite x l = record { votes = l .votes; wins = l .wins; writes = x ∷ l .writes; accepts = l .accepts; reports = l .reports; rounds = l .rounds; checks = l .checks; begins = l .begins; ends = l .ends }
+
+abbrev pub addAccept : Accept → Log → Log
+addAccept x l = record { votes = l .votes; wins = l .wins; writes = l .writes; accepts = x ∷ l .accepts; reports = l .reports; rounds = l .rounds; checks = l .checks; begins = l .begins; ends = l .ends }
+
+abbrev pub addReport : Report → Log → Log
+addReport x l = record { votes = l .votes; wins = l .wins; writes = l .writes; accepts = l .accepts; reports = x ∷ l .reports; rounds = l .rounds; checks = l .checks; begins = l .begins; ends = l .ends }
+
+abbrev pub addRound : Opened → Log → Log
+addRound x l = record { votes = l .votes; wins = l .wins; writes = l .writes; accepts = l .accepts; reports = l .reports; rounds = x ∷ l .rounds; checks = l .checks; begins = l .begins; ends = l .ends }
+
+abbrev pub addCheck : Check → Log → Log
+addCheck x l = record { votes = l .votes; wins = l .wins; writes = l .writes; accepts = l .accepts; reports = l .reports; rounds = l .rounds; checks = x ∷ l .checks; begins = l .begins; ends = l .ends }
+
+abbrev pub addBegun : Begun → Log → Log
+addBegun x l = record { votes = l .votes; wins = l .wins; writes = l .writes; accepts = l .accepts; reports = l .reports; rounds = l .rounds; checks = l .checks; begins = x ∷ l .begins; ends = l .ends }
+
+abbrev pub addEnded : Ended → Log → Log
+addEnded x l = record { votes = l .votes; wins = l .wins; writes = l .writes; accepts = l .accepts; reports = l .reports; rounds = l .rounds; checks = l .checks; begins = l .begins; ends = x ∷ l .ends }
+
+-- ---- what a rule of server p gives
+
+-- answers printed in a line, as the log has them
+abbrev pub endsOf : ℕ → List Answer → List Ended
+endsOf now l = map (λ a. record { number = a .call; result = a .result; line = now }) l
+
+pub record Kept (n buckets now taken p : ℕ) (log : Log) (r : Reaction) : Type 0 where
+  pub next : Log
+  pub adds : Adds p log next
+  pub facts : LogOk n now taken next
+  pub server : ServerOk n buckets next p (r .server)
+  pub sends : (m : Message) → m ∈ r .sends → MessageOk buckets next m
+  pub begins : next .begins ≡ log .begins
+  pub ends : (x : Ended) → (x ∈ next .ends → x ∈ (endsOf now (r .answers) ++ log .ends)) × (x ∈ (endsOf now (r .answers) ++ log .ends) → x ∈ next .ends)

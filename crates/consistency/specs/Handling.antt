@@ -1,0 +1,47 @@
+-- A server handles a message: every kind keeps the invariant.
+use mathlib.Core.Path.{_≡_, refl, sym, _∙_, ap}
+use mathlib.Core.List.{List, []}
+use Prim.Native.Nat.{ℕ, _*_, _<_}
+use Rattle.model.specs.Measures.{majority}
+use Rattle.model.specs.Cluster.{Server, Body, pleaseVote, ackVote, nackVote, replicaWrite, ackWrite, nackWrite, replicaRead, ackRead, nackRead, Message, freshCopy, acknowledged, refused}
+use Rattle.model.specs.Replica.{reading, writing}
+use Rattle.model.specs.Leader.{Reaction, quiet, onAckVote, onPleaseVote, onRequest, onReply, handle}
+use Rattle.history.specs.Members.{none-in}
+use Rattle.consistency.specs.Log.{Log}
+use Rattle.consistency.specs.Claims.{MessageOk}
+use Rattle.consistency.specs.Invariant.{LogOk, ServerOk}
+use Rattle.consistency.specs.Acts.{Kept}
+use Rattle.consistency.specs.Chaining.{unmoved}
+use Rattle.consistency.specs.Voting.{vote-kept}
+use Rattle.consistency.specs.Requests.{read-kept, write-kept}
+use Rattle.consistency.specs.Electing.{ackvote-kept}
+use Rattle.consistency.specs.Replies.{reply-kept, refused-reply, write-reply, read-reply}
+
+module _ (n buckets now taken : ℕ) (half : n < 2 * majority n) {log : Log} (ok : LogOk n now taken log) {s : Server} (m : Message)
+    (agrees : ServerOk n buckets log (m .receiver) s) (good : MessageOk buckets log m) where
+  by-body : (body : Body) → m .body ≡ body
+      → Kept n buckets now taken (m .receiver) log
+        (elim body as (λ _. Reaction) [
+          pleaseVote ↦ onPleaseVote (m .receiver) m s
+        | ackVote ↦ onAckVote n (m .sender) (m .election) s
+        | nackVote ↦ quiet s
+        | replicaWrite v t ↦ onRequest (m .receiver) m (writing v t) s
+        | ackWrite ↦ onReply n (m .receiver) m acknowledged freshCopy s
+        | nackWrite ↦ onReply n (m .receiver) m refused freshCopy s
+        | replicaRead ↦ onRequest (m .receiver) m reading s
+        | ackRead v t ↦ onReply n (m .receiver) m acknowledged (record { version = v; table = t }) s
+        | nackRead ↦ onReply n (m .receiver) m refused freshCopy s
+        ])
+  by-body pleaseVote e = vote-kept n buckets now taken (m .receiver) log ok s agrees m refl good
+  by-body ackVote e = ackvote-kept n buckets now taken half (m .receiver) log ok s agrees m refl good e
+  by-body nackVote e = unmoved ok agrees [] (λ x i. none-in i)
+  by-body (replicaWrite v t) e = write-kept n buckets now taken half (m .receiver) log ok s agrees m refl good v t e
+  by-body ackWrite e = reply-kept n buckets now taken (m .receiver) half ok agrees m acknowledged freshCopy (write-reply ok m good e)
+  by-body nackWrite e = reply-kept n buckets now taken (m .receiver) half ok agrees m refused freshCopy (refused-reply ok m good)
+  by-body replicaRead e = read-kept n buckets now taken half (m .receiver) log ok s agrees m refl good e
+  by-body (ackRead v t) e = reply-kept n buckets now taken (m .receiver) half ok agrees m acknowledged _ (read-reply ok m good v t e)
+  by-body nackRead e = reply-kept n buckets now taken (m .receiver) half ok agrees m refused freshCopy (refused-reply ok m good)
+
+  pub handle-kept : Kept n buckets now taken (m .receiver) log (handle n (m .receiver) m s)
+  unfolding handle
+  handle-kept = by-body (m .body) refl

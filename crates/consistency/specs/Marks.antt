@@ -1,0 +1,51 @@
+-- A majority of marks is a majority of servers, each of which has done what its mark stands for.
+use mathlib.Core.Path.{_≡_, refl, sym, _∙_, ap}
+use mathlib.Core.List.{List, [], _∷_}
+use mathlib.Core.Bool.{Bool, true, false}
+use Prim.Native.Nat.{ℕ, suc, _≤_, _+_}
+use native.Mathlib.Omega.{arith}
+use lib.Dec.{leb}
+use lib.ListN.{length, getD}
+use borrow.Author.Tests.{leb-true}
+use Rattle.model.specs.Measures.{majority}
+use Rattle.model.specs.Cluster.{Version, Mark, silent, acknowledged, refused, Round}
+use Rattle.model.specs.Leader.{acknowledgements, closes}
+use Rattle.history.specs.Members.{_∈_}
+use Rattle.history.specs.Quorum.{Majority, count, marked, quorum-of, quorum-marked}
+use Rattle.consistency.specs.Log.{Log}
+use Rattle.consistency.specs.Claims.{Chosen, quorum}
+use Rattle.consistency.specs.Invariant.{MarksAccepted}
+
+abbrev isAck : Mark → Bool
+isAck silent = false
+isAck acknowledged = true
+isAck refused = false
+
+acknowledged-count : (l : List Mark) → acknowledgements l ≡ count isAck l
+unfolding acknowledgements count
+acknowledged-count [] = refl
+acknowledged-count (silent ∷ l) = omega (arith, acknowledged-count l)
+acknowledged-count (acknowledged ∷ l) = omega (arith, acknowledged-count l)
+acknowledged-count (refused ∷ l) = omega (arith, acknowledged-count l)
+
+is-acknowledged : (m : Mark) → isAck m ≡ true → m ≡ acknowledged
+is-acknowledged silent e = cc
+is-acknowledged acknowledged e = refl
+is-acknowledged refused e = cc
+
+-- who acknowledged
+pub acknowledgers : Round → List ℕ
+acknowledgers r = marked isAck (r .marks)
+
+module _ (n : ℕ) (r : Round) (size : length (r .marks) ≡ n) (shut : closes n r ≡ true) where
+  pub closed-majority : Majority n (majority n) (acknowledgers r)
+  unfolding acknowledgers closes
+  closed-majority = quorum-of isAck n (majority n) (r .marks) (omega arith) (rw (← acknowledged-count (r .marks)) (leb-true _ _ shut))
+
+  pub closed-marked : (q : ℕ) → q ∈ acknowledgers r → getD (r .marks) q silent ≡ acknowledged
+  unfolding acknowledgers
+  closed-marked q m = is-acknowledged _ (quorum-marked isAck (r .marks) q m silent)
+
+  -- a writing round that closes leaves its version chosen
+  pub closed-chosen : {log : Log} (b : ℕ) (x : Version) → MarksAccepted log b x (r .marks) → Chosen n log b x
+  closed-chosen b x marks = quorum (acknowledgers r) closed-majority (λ q m. marks q (closed-marked q m))

@@ -1,0 +1,116 @@
+-- A server handles a leader's request: below its vote it refuses; otherwise it takes over the leader's number as its vote, reports
+-- its copy or stores the version, and acknowledges.
+use mathlib.Core.Path.{_≡_, refl, sym, _∙_}
+use mathlib.Core.Logic.{inr}
+use mathlib.Core.List.{List, [], _∷_}
+use mathlib.Core.Bool.{Bool, true, false}
+use Prim.Native.Nat.{ℕ, _*_, _≤_, _<_}
+use native.Mathlib.Omega.{arith}
+use lib.Dec.{ltb}
+use borrow.Author.Tests.{ltb-false}
+use Rattle.entries.specs.Entries.{Entry}
+use Rattle.model.specs.Measures.{majority}
+use Rattle.model.specs.Cluster.{Version, Stored, copyAt, Server, Body, replicaWrite, replicaRead, Message}
+use Rattle.model.specs.Replica.{voting, Request, reading, writing, heeds, storing, accepting, acknowledging, refusing}
+use Rattle.model.specs.Leader.{reaction, withStored, settle, replyTo, replying, onRequest}
+use Rattle.history.specs.Members.{first-in, none-in, each-cons}
+use Rattle.consistency.specs.Log.{Log}
+use Rattle.consistency.specs.Claims.{Won, later, BodyOk, MessageOk}
+use Rattle.consistency.specs.Invariant.{LogOk, StoredOk, ServerOk}
+use Rattle.consistency.specs.Growth.{round-grows, holds-grows, one-winner}
+use Rattle.consistency.specs.Acts.{addAccept, addReport, Kept}
+use Rattle.consistency.specs.Added.{adds-accept, adds-report}
+use Rattle.consistency.specs.Extend.{accept-added, report-added}
+use Rattle.consistency.specs.Chaining.{unmoved}
+use Rattle.consistency.specs.Replying.{StoredOnly, unsettled-after, replied}
+use Rattle.consistency.specs.Storing.{storing-keeps, acceptance, accept-stored, reporting, report-stored}
+
+-- the number of a leader that a server heeds becomes its vote
+heeded-stored : {log : Log} {p e q : ℕ} {st : Stored} → StoredOk log p st → st .vote ≤ e → Won log e q → StoredOk log p (voting e q st)
+heeded-stored h l won =
+    record {
+      number = omega (arith, h .number);
+      votes = λ x m f. omega (arith, h .votes x m f);
+      voted = λ o. inr won;
+      wins = h .wins;
+      copies = λ b. (h .copies b .0, omega (arith, h .copies b .1));
+      accepts = λ x m f. (h .accepts x m f .0, omega (arith, h .accepts x m f .1));
+      reports = λ x m f. omega (arith, h .reports x m f);
+    }
+
+module _ (n buckets now taken : ℕ) (half : n < 2 * majority n) (p : ℕ) (log : Log) (ok : LogOk n now taken log) (s : Server) (agrees : ServerOk n buckets log p s)
+    (m : Message) (here : m .receiver ≡ p) (good : MessageOk buckets log m) where
+  -- a reply goes to another server, under the request's number
+  reply-ok : (next : Log) (body : Body) → BodyOk buckets next (replyTo p m body) body → MessageOk buckets next (replyTo p m body)
+  reply-ok next body claim = record { apart = λ e. good .apart (sym e ∙ sym here); positive = good .positive; claim = claim }
+
+  refused-ok : (request : Request) → MessageOk buckets log (replyTo p m (refusing request))
+  unfolding refusing
+  refused-ok reading = reply-ok log _ tt
+  refused-ok (writing v t) = reply-ok log _ tt
+
+  -- a request that is heeded is all that needs a proof
+  heeding : (request : Request)
+      → (s .stored .vote ≤ m .election →
+      let st = accepting (m .bucket) (m .election) (m .sender) request (s .stored) in
+      Kept n buckets now taken p log (replying (settle (withStored s st)) (replyTo p m (acknowledging (m .bucket) request st))))
+      → Kept n buckets now taken p log (onRequest p m request s)
+  unfolding onRequest heeds
+  heeding request accepted = go (ltb (m .election) (s .stored .vote)) refl
+    where
+      go : (t : Bool) → ltb (m .election) (s .stored .vote) ≡ t → Kept n buckets now taken p log (elim (elim t as (λ _. Bool) [ true ↦ false | false ↦ true ]) [
+        | false ↦ reaction s (replyTo p m (refusing request) ∷ []) []
+        | true ↦
+            let st = accepting (m .bucket) (m .election) (m .sender) request (s .stored) in
+            replying (settle (withStored s st)) (replyTo p m (acknowledging (m .bucket) request st))
+      ])
+      go true e = unmoved ok agrees _ (each-cons (refused-ok request) (λ x i. none-in i))
+      go false e = accepted (ltb-false _ _ e)
+
+  -- a leader is not asked under its own number: only the server that won a number asks under it
+  not-own : Won log (m .election) (m .sender) → s .stored .vote ≤ m .election → m .election ≤ s .stored .number → Won log (s .stored .number) p → ⊥
+  not-own won l k mine =
+      let e : s .stored .number ≡ m .election = omega (arith, agrees .stored .number) in
+      good .apart (one-winner n half (ok .votes) won (rw e at mine) ∙ sym here)
+
+  pub read-kept : m .body ≡ replicaRead → Kept n buckets now taken p log (onRequest p m reading s)
+  unfolding accepting acknowledging
+  read-kept body =
+      heeding reading (λ l.
+      let claim : BodyOk buckets log m replicaRead = rw body at (good .claim) in
+      let st = voting (m .election) (m .sender) (s .stored) in
+      let v = copyAt (s .stored) (m .bucket) .version in
+      let add = adds-report log (reporting p (m .bucket) (m .election) (m .round) v) in
+      let h = agrees .stored in
+      let same : StoredOnly log (addReport (reporting p (m .bucket) (m .election) (m .round) v) log)
+      = record { wins = refl; writes = refl; rounds = refl; begins = refl; ends = refl } in
+      let o = claim .2 in
+      replied n buckets p add same
+      (report-added ok _ (o .opened) (o .had) (o .election) (o .number) (omega (arith, h .copies (m .bucket) .1))
+      (λ a i e f. rw f at (h .accepts a i e .0)) (λ x i e. omega (arith, h .votes x i e)))
+      (withStored s st)
+      (unsettled-after n buckets p add same s agrees st refl (agrees .shape .copies)
+      (report-stored p (m .bucket) (m .election) (m .round) v log st (heeded-stored h l (claim .0)) (omega arith))
+      (λ k. not-own (claim .0) l k))
+      _ (reply-ok _ _ (claim .1, round-grows (add .grows) o, first-in, holds-grows (add .grows) (h .copies (m .bucket) .0))))
+
+  pub write-kept : (v : Version) (t : List Entry) → m .body ≡ replicaWrite v t → Kept n buckets now taken p log (onRequest p m (writing v t) s)
+  unfolding accepting acknowledging
+  write-kept v t body =
+      heeding (writing v t) (λ l.
+      let claim : BodyOk buckets log m (replicaWrite v t) = rw body at (good .claim) in
+      let before = voting (m .election) (m .sender) (s .stored) in
+      let st = storing (m .bucket) v t before in
+      let keeps = storing-keeps (m .bucket) v t before in
+      let add = adds-accept log (acceptance p (m .bucket) v) in
+      let h = agrees .stored in
+      let same : StoredOnly log (addAccept (acceptance p (m .bucket) v) log)
+      = record { wins = refl; writes = refl; rounds = refl; begins = refl; ends = refl } in
+      replied n buckets p add same
+      (accept-added ok _ (claim .2) (claim .3) (claim .4) (claim .5) (λ r i e. omega (arith, h .reports r i e, claim .1)))
+      (withStored s st)
+      (unsettled-after n buckets p add same s agrees st (keeps .0) (keeps .2 ∙ agrees .shape .copies)
+      (accept-stored p (m .bucket) v log t before (heeded-stored h l (claim .0)) (omega (arith, claim .1)) (rw (agrees .shape .copies) (claim .8))
+      (later (claim .2) (claim .3) (claim .4) (claim .5) (claim .6)))
+      (λ k. not-own (claim .0) l (omega (arith, keeps .0, keeps .1))))
+      _ (reply-ok _ _ (v, round-grows (add .grows) (claim .7), first-in)))

@@ -1,0 +1,104 @@
+-- What a replica stores: a copy is replaced by a greater version, and what it acknowledged stays in agreement with the log.
+use mathlib.Core.Path.{_≡_, refl}
+use mathlib.Core.Logic.{inl, inr, _≢_}
+use mathlib.Core.List.{List}
+use mathlib.Core.Bool.{Bool, true, false}
+use Prim.Native.Nat.{ℕ, _≤_, _<_}
+use native.Mathlib.Decide.{ℕ-discrete}
+use lib.ListN.{length, getD, set, length-set}
+use lib.Seq.{getD-set-same, getD-set-other}
+use Rattle.entries.specs.Entries.{Entry}
+use Rattle.model.specs.Cluster.{Version, above, Copy, freshCopy, Stored, copyAt}
+use Rattle.model.specs.Replica.{storing}
+use Rattle.history.specs.Members.{each-cons}
+use Rattle.history.specs.Version.{_≼_, _≺_, le-refl, le-trans, le-of-lt}
+use Rattle.consistency.specs.Log.{Accept, Report, Log}
+use Rattle.consistency.specs.Claims.{Holds}
+use Rattle.consistency.specs.Invariant.{StoredOk}
+use Rattle.consistency.specs.Growth.{won-grows, holds-grows}
+use Rattle.consistency.specs.Acts.{addAccept, addReport}
+use Rattle.consistency.specs.Above.{above-lt, above-not}
+use Rattle.consistency.specs.Added.{adds-accept, adds-report}
+
+-- what holds of the new element and of each other holds of all after `set`
+pub each-set : {A : Type 0} (P : ℕ → A → Type 0) (l : List A) (b : ℕ) (x d : A) → b < length l → P b x → ((k : ℕ) → k ≢ b → P k (getD l k d)) → (k : ℕ) → P k (getD (set l b x) k d)
+each-set P l b x d h new others k = go (ℕ-discrete k b)
+  where
+    go : Dec (k ≡ b) → P k (getD (set l b x) k d)
+    go (yes e) = rw (e, getD-set-same l b x d h) new
+    go (no e) = rw (getD-set-other l b k x d e) (others k e)
+
+module _ (b : ℕ) (v : Version) (t : List Entry) (st : Stored) where
+  -- an accepted write is stored if its version is above the copy's, and otherwise changes nothing
+  storing-cases : (P : Stored → Type 0) → (v ≼ copyAt st b .version → P st)
+      → (copyAt st b .version ≺ v → P (record { number = st .number; vote = st .vote; leader = st .leader; copies = set (st .copies) b (record { version = v; table = t }) }))
+      → P (storing b v t st)
+  unfolding storing
+  storing-cases P old new = go (above v (copyAt st b .version)) refl
+    where
+      go : (x : Bool) → above v (copyAt st b .version) ≡ x → P (elim x [
+        | false ↦ st
+        | true ↦ record { number = st .number; vote = st .vote; leader = st .leader; copies = set (st .copies) b (record { version = v; table = t }) }
+      ])
+      go false e = old (above-not _ _ e)
+      go true e = new (above-lt _ _ e)
+
+  pub storing-keeps : (storing b v t st .number ≡ st .number) × (storing b v t st .vote ≡ st .vote) × (length (storing b v t st .copies) ≡ length (st .copies))
+  storing-keeps =
+      storing-cases (λ x. (x .number ≡ st .number) × (x .vote ≡ st .vote) × (length (x .copies) ≡ length (st .copies)))
+      (λ l. (refl, refl, refl)) (λ l. (refl, refl, length-set (st .copies) b (record { version = v; table = t })))
+
+-- ---- an acknowledged write
+
+abbrev pub acceptance : ℕ → ℕ → Version → Accept
+acceptance p b v = record { server = p; bucket = b; at = v }
+
+module _ (p b : ℕ) (v : Version) (log : Log) where
+  -- with copies none of which is older, and that on b no older than v
+  copies-replaced : (st : Stored) → StoredOk log p st → v .election ≤ st .vote → (cs : List Copy)
+      → ((k : ℕ) → Holds log k (getD cs k freshCopy .version) (getD cs k freshCopy .table) × (getD cs k freshCopy .version .election ≤ st .vote))
+      → ((k : ℕ) → copyAt st k .version ≼ getD cs k freshCopy .version)
+      → v ≼ getD cs b freshCopy .version
+      → StoredOk (addAccept (acceptance p b v) log) p (record { number = st .number; vote = st .vote; leader = st .leader; copies = cs })
+  copies-replaced st h bound cs held newer here =
+      let g = adds-accept log (acceptance p b v) .grows in
+      record {
+        number = h .number;
+        votes = h .votes;
+        voted = λ l. elim (h .voted l) [ inl x ↦ inl x | inr x ↦ inr (won-grows g x) ];
+        wins = h .wins;
+        copies = λ k. (holds-grows g (held k .0), held k .1);
+        accepts = each-cons (λ e. (here, bound)) (λ x m e. (le-trans (h .accepts x m e .0) (newer (x .bucket)), h .accepts x m e .1));
+        reports = h .reports;
+      }
+
+  pub accept-stored : (t : List Entry) (st : Stored) → StoredOk log p st → v .election ≤ st .vote → b < length (st .copies) → Holds log b v t
+      → StoredOk (addAccept (acceptance p b v) log) p (storing b v t st)
+  accept-stored t st h bound inside held =
+      storing-cases b v t st (λ x. StoredOk (addAccept (acceptance p b v) log) p x)
+      (λ l. copies-replaced st h bound (st .copies) (h .copies) (λ k. le-refl _) l)
+      (λ l.
+      let new : Copy = record { version = v; table = t } in
+      copies-replaced st h bound (set (st .copies) b new)
+      (each-set (λ k c. Holds log k (c .version) (c .table) × (c .version .election ≤ st .vote)) (st .copies) b new freshCopy inside (held, bound) (λ k d. h .copies k))
+      (each-set (λ k c. copyAt st k .version ≼ c .version) (st .copies) b new freshCopy inside (le-of-lt l) (λ k d. le-refl _))
+      (rw (getD-set-same (st .copies) b new freshCopy inside) (le-refl v)))
+
+-- ---- an acknowledged read
+
+abbrev pub reporting : ℕ → ℕ → ℕ → ℕ → Version → Report
+reporting p b e k v = record { server = p; bucket = b; election = e; round = k; at = v }
+
+module _ (p b e k : ℕ) (v : Version) (log : Log) where
+  pub report-stored : (st : Stored) → StoredOk log p st → e ≤ st .vote → StoredOk (addReport (reporting p b e k v) log) p st
+  report-stored st h bound =
+      let g = adds-report log (reporting p b e k v) .grows in
+      record {
+        number = h .number;
+        votes = h .votes;
+        voted = λ l. elim (h .voted l) [ inl x ↦ inl x | inr x ↦ inr (won-grows g x) ];
+        wins = h .wins;
+        copies = λ c. (holds-grows g (h .copies c .0), h .copies c .1);
+        accepts = h .accepts;
+        reports = each-cons (λ f. bound) (λ x m f. h .reports x m f);
+      }

@@ -1,0 +1,255 @@
+-- A leader opens a writing round: the log gets the write, the round and the leader's own acceptance, the leader's copy becomes the
+-- new version, and the server agrees with that.
+use mathlib.Core.Path.{_≡_, refl, sym, _∙_, ap}
+use mathlib.Core.Logic.{_⊎_, inl, inr, _≢_}
+use mathlib.Core.List.{List, [], _∷_}
+use mathlib.Core.Bool.{Bool, true, false}
+use mathlib.Core.Option.{Option, none, some}
+use Prim.Native.Nat.{ℕ, zero, suc, _+_, _≤_, _*_, _<_}
+use native.Mathlib.Omega.{arith}
+use lib.ListN.{length, getD, set, replicate, length-set, length-replicate}
+use lib.Seq.{getD-set-same, getD-set-other}
+use Rattle.entries.specs.Entries.{Entry}
+use Rattle.model.specs.Measures.{majority}
+use Rattle.model.specs.Cluster.{Version, version, above, Copy, Stored, freshCopy, copyAt, Purpose, recoveryRead, recoveryWrite, check, ownWrite, silent, acknowledged, Round, Call, roundAt, callAt, Server}
+use Rattle.model.specs.Replica.{writing, accepting, storing}
+use Rattle.model.specs.Leader.{isOwn, oneMore, newRound, opening}
+use Rattle.history.specs.Members.{_∈_, first-in, each-cons}
+use Rattle.history.specs.Version.{_≼_, _≺_, le-refl, le-trans, le-of-lt}
+use Rattle.consistency.specs.Log.{Vote, Win, Write, Accept, Report, Opened, Log, Grows}
+use Rattle.consistency.specs.Claims.{Won, Holds, later}
+use Rattle.consistency.specs.Invariant.{Unwritten, Unended, LogOk, Origin, Succeeds, StoredOk, MarksAccepted, PhaseOk, CallOk, RoundOk, CopyNewest, Shape, ServerOk}
+use Rattle.consistency.specs.Growth.{won-grows, holds-grows, Adds, adds-trans, TakenAt}
+use Rattle.consistency.specs.Buckets.{Untouched, call-grows, bucket-grows}
+use Rattle.consistency.specs.Acts.{addWrite, addAccept, addRound}
+use Rattle.consistency.specs.Added.{adds-round, adds-write, adds-accept}
+use Rattle.consistency.specs.Above.{above-lt}
+use Rattle.consistency.specs.Extend.{round-added, write-added, accept-added}
+use Rattle.consistency.specs.Ready.{Leads, Ready, Bucket, each-place, round-agrees}
+use Rattle.consistency.specs.Opening.{more, call-more, only-own, entry, above-all}
+
+-- a new write by the leader s of bucket b, for call c or for recovery
+pub record NewWrite (n now : ℕ) (log : Log) (b : ℕ) (c : Call) (s : Server) (v u : Version) (t : List Entry) (owner : Option ℕ) : Type 0 where
+  pub election : v .election ≡ s .stored .number
+  pub counter : 1 ≤ v .counter
+  pub above : above v (copyAt (s .stored) b .version) ≡ true
+  pub newest : (w : Write) → w ∈ log .writes → w .bucket ≡ b → w .at .election ≡ s .stored .number → w .at ≺ v
+  pub origin : Origin log (record { bucket = b; at = v; parent = u; table = t; call = owner; line = now })
+  pub succeeds : Succeeds n log (record { bucket = b; at = v; parent = u; table = t; call = owner; line = now })
+  pub mine : (i : ℕ) → owner ≡ some i → i ≡ c .number
+  pub unwritten : Unwritten log (c .number)
+
+module _ (n buckets now taken p b : ℕ) (half : n < 2 * majority n) {log : Log} (ok : LogOk n now taken log) {c : Call} {s : Server} (h : Ready n buckets log p b c s)
+    (v u : Version) (t : List Entry) (owner : Option ℕ) (new : NewWrite n now log b c s v u t owner) (why : Purpose) (other : why ≡ check → ⊥) where
+  abbrev e : ℕ
+  e = s .stored .number
+
+  abbrev pub wrote : Write
+  wrote = record { bucket = b; at = v; parent = u; table = t; call = owner; line = now }
+
+  abbrev own : Accept
+  own = record { server = p; bucket = b; at = v }
+
+  abbrev opens : Opened
+  opens = entry n buckets now taken p b half ok h why v
+
+  abbrev pub writeLog : Log
+  writeLog = addAccept own (addRound opens (addWrite wrote log))
+
+  not-below : (w : Write) → w ∈ log .writes → w .bucket ≡ b → w .at ≡ v → ⊥
+  not-below w m i j = let l = new .newest w m i (ap (λ y. y .election) j ∙ new .election) in
+      omega (arith, l .counters (omega (arith, ap (λ y. y .election) j)), ap (λ y. y .counter) j)
+
+  took : TakenAt log p (c .number)
+  took = (_, h .call .begun, refl, refl)
+
+  pub write-adds : Adds p log writeLog
+  write-adds =
+      adds-trans
+      (adds-write log p wrote (rw (new .election) (h .leads .won)) (λ i m. rw (new .mine i m) took))
+      (adds-trans (adds-round (addWrite wrote log) opens) (adds-accept (addRound opens (addWrite wrote log)) own))
+
+  pub write-facts : LogOk n now taken writeLog
+  write-facts =
+      let won = h .leads .won in
+      let one =
+          write-added ok wrote refl (rw (new .election) (h .leads .positive)) (new .counter) not-below (new .origin) (new .succeeds)
+          (won .win) (won .had) (won .election ∙ rw (new .election)) (λ i m. rw (new .mine i m) (new .unwritten, h .call .unended)) in
+      let two =
+          round-added one opens refl (record { win = won .win; had = won .had; election = won .election; leader = won .leader })
+          (above-all n buckets now taken p b half ok h) (λ i. absurd (other i)) in
+      accept-added two own wrote first-in refl refl
+      (λ r m i. rw (new .election, ← h .leads .vote) (h .leads .stored .reports r m i))
+
+  -- the server afterwards
+  abbrev pub copy : Copy
+  copy = record { version = v; table = t }
+
+  abbrev stored : Stored
+  stored = record { number = e; vote = e; leader = p; copies = set (s .stored .copies) b copy }
+
+  abbrev writer : Server
+  writer =
+      record {
+        stored = stored;
+        volatile =
+          record {
+            role = s .volatile .role;
+            votes = s .volatile .votes;
+            lastRound = s .volatile .lastRound + 1;
+            rounds = set (s .volatile .rounds) b (some (newRound n p b why s));
+            calls = set (s .volatile .calls) b (oneMore (isOwn why) (callAt (s .volatile) b))
+          };
+        stopped = s .stopped
+      }
+
+  writes-server : opening n p b why (writing v t) s ≡ writer
+  unfolding opening accepting storing
+  writes-server = rw (storing, new .above)
+
+  copy-here : copyAt stored b ≡ copy
+  copy-here = getD-set-same (s .stored .copies) b copy freshCopy (rw (h .leads .shape .copies) (h .inside))
+
+  copy-there : (j : ℕ) → j ≢ b → copyAt stored j ≡ copyAt (s .stored) j
+  copy-there j d = getD-set-other (s .stored .copies) b j copy freshCopy d
+
+  abbrev grows : Grows log writeLog
+  grows = write-adds .grows
+
+  held : Holds writeLog b v t
+  held = later wrote first-in refl refl refl
+
+  accepted-below : (y : Accept) → y ∈ log .accepts → y .server ≡ p → y .at ≼ copyAt stored (y .bucket) .version
+  accepted-below y m i =
+      each-place (λ j. y .bucket ≡ j → y .at ≼ copyAt stored j .version) b
+      (λ j d q. rw (copy-there j d, ← q) (h .leads .stored .accepts y m i .0))
+      (λ q. rw copy-here (le-trans (rw q at (h .leads .stored .accepts y m i .0)) (le-of-lt (above-lt _ _ (new .above)))))
+      (y .bucket) refl
+
+  write-stored : StoredOk writeLog p stored
+  write-stored =
+      let st = h .leads .stored in
+      let vote = h .leads .vote in
+      record {
+        number = omega arith;
+        votes = λ y m i. rw vote at (st .votes y m i);
+        voted = λ l. inr (won-grows grows (h .leads .won));
+        wins = st .wins;
+        copies =
+          each-place (λ j. Holds writeLog j (copyAt stored j .version) (copyAt stored j .table) × (copyAt stored j .version .election ≤ e)) b
+          (λ j d. rw (copy-there j d) (holds-grows grows (st .copies j .0), rw vote at (st .copies j .1)))
+          (rw copy-here (held, omega (arith, new .election)));
+        accepts =
+          each-cons {P = λ y. y .server ≡ p → (y .at ≼ copyAt stored (y .bucket) .version) × (y .at .election ≤ e)}
+          (λ i. (rw copy-here (le-refl v), omega (arith, new .election)))
+          (λ y m i. (accepted-below y m i, rw vote at (st .accepts y m i .1)));
+        reports = λ y m i. rw vote at (st .reports y m i)
+      }
+
+  write-newest : (j : ℕ) → CopyNewest writeLog e j (copyAt stored j)
+  write-newest =
+      each-place (λ j. CopyNewest writeLog e j (copyAt stored j)) b
+      (λ j d.
+      rw (copy-there j d)
+      (record {
+        recovered = λ i.
+          each-cons {P = λ w. w .bucket ≡ j → w .at .election ≡ e → w .at ≼ copyAt (s .stored) j .version}
+          (λ q l. absurd (d (sym q))) (h .leads .newest j .recovered i);
+        unrecovered = λ i.
+          each-cons {P = λ w. w .bucket ≡ j → w .at .election ≡ e → ⊥}
+          (λ q l. d (sym q)) (h .leads .newest j .unrecovered i)
+      }))
+      (rw copy-here
+      (record {
+        recovered = λ i.
+          each-cons {P = λ w. w .bucket ≡ b → w .at .election ≡ e → w .at ≼ v}
+          (λ q l. le-refl v) (λ w m q l. le-of-lt (new .newest w m q l));
+        unrecovered = λ i w m q l. i (new .election)
+      }))
+
+  write-leads : Leads n buckets writeLog p writer
+  write-leads =
+      let sh = h .leads .shape in
+      record {
+        shape =
+          record {
+            copies = simp length-set (sh .copies);
+            votes = sh .votes;
+            rounds = simp length-set (sh .rounds);
+            calls = simp length-set (sh .calls)
+          };
+        stored = write-stored;
+        numbered =
+          each-cons {P = λ o. o .leader ≡ p → o .election ≡ e → o .number ≤ s .volatile .lastRound + 1}
+          (λ i j. omega arith) (λ o m i j. omega (arith, h .leads .numbered o m i j));
+        role = h .leads .role;
+        won = won-grows grows (h .leads .won);
+        vote = refl;
+        positive = h .leads .positive;
+        newest = write-newest
+      }
+
+  -- a call on another bucket is another call
+  untouched : (j : ℕ) → j ≢ b → (y : Call) → CallOk log p j y → Untouched log writeLog (y .number)
+  untouched j d y k =
+      record {
+        unwritten = λ f.
+          each-cons {P = λ w. w .call ≡ some (y .number) → ⊥}
+          (λ i. d (ap (λ z. z .bucket) (ok .calls .begun-once _ _ (k .begun) (h .call .begun) (new .mine _ i)))) f;
+        unended = λ f. f
+      }
+
+  write-elsewhere : (j : ℕ) → j ≢ b → Bucket n writeLog p writer j
+  write-elsewhere j d =
+      let w = s .volatile in
+      rw (copy-there j d, getD-set-other (w .rounds) b j (some (newRound n p b why s)) none d, getD-set-other (w .calls) b j (oneMore (isOwn why) (callAt w b)) none d)
+      (bucket-grows grows n p e j (copyAt (s .stored) j) (roundAt w j) (callAt w j) (λ y i k. untouched j d y k) (h .elsewhere j d))
+
+  abbrev write-call : CallOk writeLog p b (more (isOwn why) c)
+  write-call = record { line = h .call .line; begun = h .call .begun; unended = h .call .unended }
+
+  writer-ready : Ready n buckets writeLog p b (more (isOwn why) c) writer
+  unfolding oneMore
+  writer-ready =
+      record {
+        leads = write-leads;
+        elsewhere = write-elsewhere;
+        inside = h .inside;
+        here =
+          getD-set-same (s .volatile .calls) b (oneMore (isOwn why) (callAt (s .volatile) b)) none (rw (h .leads .shape .calls) (h .inside))
+          ∙ rw (h .here);
+        call = write-call
+      }
+
+  pub write-ready : Ready n buckets writeLog p b (more (isOwn why) c) (opening n p b why (writing v t) s)
+  write-ready = rw writes-server writer-ready
+
+  pub write-marks : MarksAccepted writeLog b v (newRound n p b why s .marks)
+  unfolding newRound
+  write-marks q m = let i = only-own n p q m in rw i first-in
+
+  -- the open round completes the server, once its phase is known
+  pub write-rests : PhaseOk n writeLog e b v copy (newRound n p b why s) (more (isOwn why) c) why → ServerOk n buckets writeLog p (opening n p b why (writing v t) s)
+  unfolding newRound
+  write-rests phase =
+      rw writes-server
+      (round-agrees writer-ready (newRound n p b why s)
+      (getD-set-same (s .volatile .rounds) b (some (newRound n p b why s)) none (rw (h .leads .shape .rounds) (h .inside)))
+      (rw copy-here
+      (record {
+        call = write-call;
+        election = refl;
+        marks = simp (length-set, length-replicate);
+        at = v;
+        line = now;
+        opened = first-in;
+        after = ok .time .begins _ (h .call .begun);
+        phase = phase
+      })))
+
+  -- what the server stores at bucket b afterwards
+  pub write-copy : copyAt (opening n p b why (writing v t) s .stored) b ≡ copy
+  write-copy = rw writes-server copy-here
+
+  pub write-number : opening n p b why (writing v t) s .stored .number ≡ e
+  write-number = rw writes-server

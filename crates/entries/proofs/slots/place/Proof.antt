@@ -1,0 +1,86 @@
+-- `slots::place` meets its contract: the keys passed stand before k.
+use Prim.Native.Nat.{_-_}
+use Rattle.entries.specs.Places.{Placed}
+use Rattle.entries.specs.Decoded.{keyBytes, tableIn}
+use mathlib.Core.Path.{_≡_, sym, _∙_}
+use Rattle.entries.proofs.Placing.{Placing, placing-starts, placing-before, placing-same, placing-goes-on, placing-ends}
+use borrow.Author.Needs.{needs}
+use Rattle.entries.proofs.Views.{entriesIn, table-whole}
+use Rattle.entries.proofs.slots.place.Statement.{statement}
+use Rattle.entries.proofs.slots.place.Tie as tie
+
+abbrev Inv-loop : tie.InvT-loop
+Inv-loop k n slots i₀ i = Placing (keyBytes k) n slots i
+
+abbrev μ-loop : tie.MeasureT-loop
+μ-loop k n slots i₀ i = n - i
+
+count-of-requires : tie.Need-count-of-requires Inv-loop μ-loop
+count-of-requires c κs = search needs
+
+loop-holds : tie.Need-loop-holds Inv-loop μ-loop
+loop-holds c = placing-starts (c .before .count-of .ensures .low) (c .before .count-of .ensures .four)
+
+mul-s : tie.Need-mul-s Inv-loop μ-loop
+mul-s c = search needs
+
+array-copy-out-s : tie.Need-array-copy-out-s Inv-loop μ-loop
+array-copy-out-s c = search needs
+
+compare-requires : tie.Need-compare-requires Inv-loop μ-loop
+compare-requires c κs = search needs
+
+enum-told : tie.Need-enum-told Inv-loop μ-loop
+enum-told c = search needs
+
+returns : tie.Need-returns Inv-loop μ-loop
+returns c =
+    rw (table-whole (c .before .before .before .before .before .before .before .before .before .args .t) (c .before .before .before .before .before .before .before .before .count-of .ensures)) at
+    (placing-before (c .before .before .before .before .before .before .loop .inv) (c .before .before .before .before .before .loop-test .taken) (sym (c .before .before .compare .ensures) ∙ c .enum-told .given .1))
+
+enum-told-2 : tie.Need-enum-told-2 Inv-loop μ-loop
+enum-told-2 c = search needs
+
+returns-2 : tie.Need-returns-2 Inv-loop μ-loop
+returns-2 c =
+    rw (table-whole (c .before .before .before .before .before .before .before .before .before .args .t) (c .before .before .before .before .before .before .before .before .count-of .ensures)) at
+    (placing-same (c .before .before .before .before .before .before .loop .inv) (c .before .before .before .before .before .loop-test .taken) (sym (c .before .before .compare .ensures) ∙ c .enum-told2 .given .1))
+
+enum-told-3 : tie.Need-enum-told-3 Inv-loop μ-loop
+enum-told-3 c = search needs
+
+add-i : tie.Need-add-i Inv-loop μ-loop
+add-i c = search needs
+
+loop-less : tie.Need-loop-less Inv-loop μ-loop
+loop-less c = search needs
+
+loop-again : tie.Need-loop-again Inv-loop μ-loop
+loop-again c =
+    placing-goes-on (c .before .before .before .before .before .before .loop .inv) (c .before .before .before .before .before .loop-test .taken) (sym (c .before .before .compare .ensures) ∙ c .enum-told3 .given .1)
+
+returns-3 : tie.Need-returns-3 Inv-loop μ-loop
+returns-3 c =
+    rw (table-whole (c .before .before .before .before .args .t) (c .before .before .before .count-of .ensures)) at
+    (placing-ends (c .before .loop .inv) (c .loop-test .left))
+
+pub place-spec : {M : Type 1} → statement M
+place-spec =
+    tie.close
+    (tie.spec
+    Inv-loop
+    μ-loop
+    count-of-requires
+    loop-holds
+    mul-s
+    array-copy-out-s
+    compare-requires
+    enum-told
+    returns
+    enum-told-2
+    returns-2
+    enum-told-3
+    add-i
+    loop-less
+    loop-again
+    returns-3)

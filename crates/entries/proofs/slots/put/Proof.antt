@@ -1,0 +1,62 @@
+-- `slots::put` meets its contract: the key's slot is replaced, or a new one is put in at its place.
+use Rattle.entries.specs.Decoded.{keyBytes, valueBytes, entryIn}
+use mathlib.Core.Path.{refl}
+use native.Mathlib.Omega.{arith}
+use Rattle.entries.proofs.Edits.{held-below, place-within, storing-replaced, storing-inserted, storing-full}
+use borrow.Author.Needs.{needs}
+use Rattle.entries.proofs.slots.put.Statement.{statement}
+use Rattle.entries.proofs.slots.put.Tie as tie
+
+place-requires : tie.Need-place-requires
+place-requires c κs = search needs
+
+count-of-requires : tie.Need-count-of-requires
+count-of-requires c κs = search needs
+
+replaced-requires : tie.Need-replaced-requires
+replaced-requires c κs =
+    let p = c .before .before .before .place in
+    omega (arith, held-below (c .before .before .before .before .args .t) (p .result) (p .ensures) (c .if1 .taken), p .ensures .low)
+
+returns : tie.Need-returns
+unfolding entryIn
+returns c =
+    let a = c .before .before .before .before .before .args in
+    let p = c .before .before .before .before .place in
+    rw (c .replaced .ensures)
+    (storing-replaced (a .t) (p .result) (p .ensures) (c .before .before .before .count-of .ensures) (valueBytes (a .v)) (c .before .before .before .before .before .pre) (record { key = a .k; value = a .v }) refl (c .before .if1 .taken))
+
+inserted-requires : tie.Need-inserted-requires
+inserted-requires c κs =
+    let p = c .before .before .before .before .place in
+    omega (arith, place-within (c .before .before .before .before .before .args .t) (p .result) (p .ensures), c .before .before .before .count-of .ensures .is, c .if2 .taken)
+
+add-t13 : tie.Need-add-t13
+add-t13 c = search needs
+
+returns-2 : tie.Need-returns-2
+unfolding entryIn
+returns-2 c =
+    let a = c .before .before .before .before .before .before .args in
+    let p = c .before .before .before .before .before .place in
+    storing-inserted (a .t) (p .result) (p .ensures) (c .before .before .before .before .count-of .ensures) (valueBytes (a .v)) (c .before .before .before .before .before .before .pre) (record { key = a .k; value = a .v }) (c .inserted .result) refl
+    (c .before .before .if1 .left) (c .before .if2 .taken) (c .inserted .ensures)
+
+returns-3 : tie.Need-returns-3
+returns-3 c =
+    let a = c .before .before .before .before .before .args in
+    let p = c .before .before .before .before .place in
+    storing-full (a .t) (p .result) (p .ensures) (c .before .before .before .count-of .ensures) (valueBytes (a .v)) (c .before .before .before .before .before .pre) (c .before .if1 .left) (c .if2 .left)
+
+pub put-spec : {M : Type 1} → statement M
+put-spec =
+    tie.close
+    (tie.spec
+    place-requires
+    count-of-requires
+    replaced-requires
+    returns
+    inserted-requires
+    add-t13
+    returns-2
+    returns-3)

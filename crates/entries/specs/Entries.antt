@@ -1,0 +1,56 @@
+-- A table: keys with their values, in rising order of key bytes. Keys and values are lists of bytes.
+-- A value of no bytes means that the key is absent (document 01, 'Bucket bytes'), so no entry holds one.
+use mathlib.Core.List.{List, [], _∷_, map}
+use mathlib.Core.Bool.{Bool, true, false}
+use mathlib.Core.Option.{Option, none, some}
+use Prim.Native.Nat.{ℕ}
+use lib.Dec.{ltb}
+use lib.ListN.{length}
+use Rattle.entries.specs.declared.Order.{Order}
+use Rattle.entries.specs.declared.Order.the-variants.{Before, Same, After}
+
+pub record Entry : Type 0 where
+  pub key : List ℕ
+  pub value : List ℕ
+
+abbrev pub entry : List ℕ → List ℕ → Entry
+entry k v = record { key = k; value = v }
+
+-- how one byte list stands to another: by the first byte that differs; a shorter list before its extensions
+unfoldable pub order : List ℕ → List ℕ → Order
+order [] [] = Same
+order [] (b ∷ m) = Before
+order (a ∷ l) [] = After
+order (a ∷ l) (b ∷ m) = elim (ltb a b) [ true ↦ Before | false ↦ elim (ltb b a) [ true ↦ After | false ↦ order l m ] ]
+
+-- the value of a key, no bytes where it is absent; the search ends at the first key that is not before it
+unfoldable pub valueOf : List ℕ → List Entry → List ℕ
+valueOf k [] = []
+valueOf k (e ∷ t) = elim (order k (e .key)) [ Before ↦ [] | Same ↦ e .value | After ↦ valueOf k t ]
+
+-- whether a key stands in the table
+unfoldable pub holds : List ℕ → List Entry → Bool
+holds k [] = false
+holds k (e ∷ t) = elim (order k (e .key)) [ Before ↦ false | Same ↦ true | After ↦ holds k t ]
+
+-- the table in which the key has the value, in its place
+unfoldable pub put : List ℕ → List ℕ → List Entry → List Entry
+put k v [] = entry k v ∷ []
+put k v (e ∷ t) = elim (order k (e .key)) [ Before ↦ entry k v ∷ (e ∷ t) | Same ↦ entry k v ∷ t | After ↦ e ∷ put k v t ]
+
+-- the table without the key
+unfoldable pub remove : List ℕ → List Entry → List Entry
+remove k [] = []
+remove k (e ∷ t) = elim (order k (e .key)) [ Before ↦ e ∷ t | Same ↦ t | After ↦ e ∷ remove k t ]
+
+-- `set K V` of document 01, with at most `most` keys: no bytes take the key away; a new key where `most`
+-- others stand is none, which is answered `full`
+unfoldable pub stored : ℕ → List ℕ → List ℕ → List Entry → Option (List Entry)
+stored most k [] t = some (remove k t)
+stored most k (b ∷ v) t =
+    elim (holds k t) [ true ↦ some (put k (b ∷ v) t) | false ↦
+    elim (ltb (length t) most) [ true ↦ some (put k (b ∷ v) t) | false ↦ none ] ]
+
+-- all keys, rising
+abbrev pub keysOf : List Entry → List (List ℕ)
+keysOf t = map (λ e. e .key) t

@@ -1,0 +1,3 @@
+pub mod Entries
+pub mod Decoded
+pub mod Places

@@ -1,0 +1,46 @@
+// The bucket form of document 01: tables of up to four keys, decoded into arrays by value, changed, and encoded again.
+pub mod keys;
+pub mod slots;
+
+// How one key stands to another.
+pub enum Order {
+    Before,
+    Same,
+    After,
+}
+
+// A key: the first `len` of eight bytes.
+pub struct Key {
+    pub bytes: [u8; 8],
+    pub len: usize,
+}
+
+// A value: the first `len` of sixteen bytes.
+pub struct Value {
+    pub bytes: [u8; 16],
+    pub len: usize,
+}
+
+// A key with its value.
+pub struct Slot {
+    pub key: Key,
+    pub value: Value,
+}
+
+// A table: the first `count` of four slots.
+pub struct Decoded {
+    pub count: usize,
+    pub slots: [Slot; 4],
+}
+
+// Where a key stands in a table, or would stand.
+pub struct Place {
+    pub at: usize,
+    pub held: bool,
+}
+
+// A table after a change, and whether there was no room for it.
+pub struct Stored {
+    pub full: bool,
+    pub table: Decoded,
+}

@@ -1,0 +1,327 @@
+-- Every line keeps the measures, so every run does: `within-always`.
+use mathlib.Core.Path.{_≡_, refl, sym, ap, subst}
+use mathlib.Core.List.{List, [], _∷_}
+use mathlib.Core.Bool.{Bool, true, false, not}
+use mathlib.Core.Option.{Option, none, some}
+use Prim.Native.Nat.{ℕ, zero, suc, _+_, _*_, _≤_, _<_, min}
+use native.Mathlib.Omega.{arith}
+use native.Mathlib.Nat.{mod-lt}
+use lib.Dec.{leb}
+use lib.ListN.{length, length-set, length-replicate, getD-replicate}
+use borrow.Author.Tests.{ltb-false, leb-false, leb-true, eqb-false}
+use Rattle.hash.specs.Fnv.{bucketOf}
+use Rattle.model.specs.Measures.{maxServers, maxBuckets, maxMessages, maxAccepted, maxElection}
+use Rattle.model.specs.Calls.{Words, get, set, setif, del, keys, bucketFor}
+use Rattle.model.specs.Cluster.{Role, follower, candidate, leading, Round, Call, Message, Cluster, freshServer, freshCluster, freshCopy}
+use Rattle.model.specs.Leader.{Reaction}
+use Rattle.model.specs.Lines.{Line, cluster, elect, call, deliver, copy, lose, timeout, stop, State, nothing, Tally, firstOf, conditions, either, noServer, noBucket, noBucketFor, badKey, badValue, badWords, spent, stoppedAt, isLeading, lastNumber, serverAt, dropAt, Work, stepped, byLine, wasted, handing, work, tallied, Stepped, inRange}
+use Rattle.model.specs.Parse.{parse}
+use Rattle.model.specs.Run.{step, stateAfter}
+use Rattle.limits.specs.Lists.{All, nil, cons, all-head, all-tail, all-imply, all-append, all-take, all-drop, all-set, all-at, all-replicate}
+use Rattle.limits.specs.Refusals.{ComesOut, turned, founded, took, comes-out}
+use Rattle.limits.specs.Tally.{none-applies, message-there, work-counts}
+use Rattle.limits.specs.Measures.{limitsAfter, KeySized, WordsSized, idle, RoleWithin, ServerWithin, MessageWithin, AnswersWithin, endings, ReactionWithin, ClusterWithin, Grows, next-line, server-grows, message-grows}
+use Rattle.limits.specs.Tables.{fresh-copy-within}
+use Rattle.limits.specs.Rules.{cease-within, elect-within, beginCall-within, handle-within}
+
+-- ---- what the tests of a line tell
+
+either-false : (x y : Bool) → either x y ≡ false → (x ≡ false) × (y ≡ false)
+unfolding either
+either-false false y e = (refl, e)
+either-false true y e = let z : _≡_ {A = ℕ} 0 1 = cc in absurd (omega arith)
+
+key-sized : (k : List ℕ) → badKey k ≡ false → KeySized k
+unfolding badKey
+key-sized k e =
+    let (x, y) = either-false _ _ e in
+    (omega (arith, eqb-false (length k) 0 x), ltb-false _ _ y)
+
+words-sized : (w : Words) → badWords w ≡ false → WordsSized w
+unfolding badWords badValue
+words-sized (get k) e = key-sized k e
+words-sized (set k v) e =
+    let (x, y) = either-false _ _ e in
+    (key-sized k x, ltb-false _ _ y)
+words-sized (setif k x v) e =
+    let (y, r) = either-false _ _ e in
+    let (z, u) = either-false _ _ r in
+    (key-sized k y, ltb-false _ _ z, ltb-false _ _ u)
+words-sized (del k) e = key-sized k e
+words-sized (keys i) e = tt
+
+bucketOf-less : (b : ℕ) (k : List ℕ) → 1 ≤ b → bucketOf b k < b
+unfolding bucketOf
+bucketOf-less zero k h = absurd (omega arith)
+bucketOf-less (suc b) k h = mod-lt _ (omega arith)
+
+bucket-less : (c : Cluster) (w : Words) → 1 ≤ c .buckets → noBucketFor c w ≡ false → bucketFor (c .buckets) w < c .buckets
+unfolding noBucketFor noBucket bucketFor
+bucket-less c (get k) h e = bucketOf-less (c .buckets) k h
+bucket-less c (set k v) h e = bucketOf-less (c .buckets) k h
+bucket-less c (setif k x v) h e = bucketOf-less (c .buckets) k h
+bucket-less c (del k) h e = bucketOf-less (c .buckets) k h
+bucket-less c (keys i) h e = leb-false _ _ e
+
+server-there : (c : Cluster) (s : ℕ) → noServer c s ≡ false → s < length (c .servers)
+unfolding noServer
+server-there c s e = leb-false _ _ e
+
+leader-elected : (r : Role) (number : ℕ) → not (isLeading r) ≡ false → RoleWithin r number → 1 ≤ number
+unfolding isLeading
+leader-elected follower number e h = let z : _≡_ {A = ℕ} 0 1 = cc in absurd (omega arith)
+leader-elected candidate number e h = h
+leader-elected leading number e h = h
+
+-- ---- one line
+
+-- the cluster after one more line, and the answers
+pub record Taken (n b k : ℕ) (w : Work) : Type 0 where
+  pub cluster : ClusterWithin n b (k + 1) (w .cluster)
+  pub answers : AnswersWithin b (limitsAfter (k + 1) (w .cluster .calls)) (w .answers)
+
+module _ (n b k : ℕ) (c : Cluster) (bLow : 1 ≤ b) (w : ClusterWithin n b k c) where
+  -- the calls made after the line: the same, or one more by a server that was elected
+  record CallsAfter (calls : ℕ) : Type 0 where
+    from : c .calls ≤ calls
+    to : calls ≤ c .calls + 1
+    elected : 1 ≤ calls → calls < k + 1
+
+  same-calls : CallsAfter (c .calls)
+  same-calls = record { from = omega arith; to = omega arith; elected = λ h. omega (arith, w .elected h) }
+
+  line-grows : {calls : ℕ} (q : ℕ) → q ≤ 4 → CallsAfter calls → Grows (limitsAfter k (c .calls)) 0 (limitsAfter (k + 1) calls) q
+  line-grows {calls} q h x = next-line k (c .calls) calls q (x .from) (x .to) h
+
+  -- messages and servers as they were, under the next line's limits
+  kept-messages : {calls : ℕ} {l : List Message} → CallsAfter calls → All (MessageWithin n b (limitsAfter k (c .calls))) l →
+      All (MessageWithin n b (limitsAfter (k + 1) calls)) l
+  kept-messages x m = all-imply (message-grows (line-grows 0 (omega arith) x)) m
+
+  kept-servers : {calls : ℕ} → CallsAfter calls → All (ServerWithin n b (limitsAfter (k + 1) calls) 0) (c .servers)
+  kept-servers x = all-imply (server-grows (line-grows 0 (omega arith) x)) (w .servers)
+
+  server-before : (s : ℕ) → s < n → ServerWithin n b (limitsAfter k (c .calls)) 0 (serverAt c s)
+  server-before s h = all-at s _ (omega (arith, w .size)) (w .servers)
+
+  -- the server that the line is about, which may make four rounds
+  server-at : {calls : ℕ} (s : ℕ) → CallsAfter calls → s < n → ServerWithin n b (limitsAfter (k + 1) calls) 4 (serverAt c s)
+  server-at s x h = server-grows (line-grows 4 (omega arith) x) _ (server-before s h)
+
+  stepped-within : {calls : ℕ} (s : ℕ) (kept : List Message) (r : Reaction) → CallsAfter calls →
+      All (MessageWithin n b (limitsAfter k (c .calls))) kept →
+      ReactionWithin n b (limitsAfter (k + 1) calls) r → ClusterWithin n b (k + 1) (stepped c s kept calls r)
+  stepped-within s kept r x m y =
+      record {
+        size = rw length-set (w .size);
+        buckets = w .buckets;
+        accepted = omega (arith, w .accepted);
+        calls = omega (arith, w .calls, x .to);
+        elected = x .elected;
+        servers = all-set s (kept-servers x) (y .server);
+        messages = all-append (kept-messages x m) (y .sends);
+      }
+
+  byLine-taken : {calls : ℕ} (s : ℕ) (r : Reaction) → CallsAfter calls → ReactionWithin n b (limitsAfter (k + 1) calls) r →
+      Taken n b k (byLine c s calls r)
+  byLine-taken s r x y = record { cluster = stepped-within s (c .messages) r x (w .messages) y; answers = y .answers }
+
+  wasted-taken : (kept : List Message) (copied : ℕ) → All (MessageWithin n b (limitsAfter k (c .calls))) kept →
+      Taken n b k (wasted c kept copied)
+  wasted-taken kept copied m =
+      record {
+        cluster =
+            record {
+              size = w .size;
+              buckets = w .buckets;
+              accepted = omega (arith, w .accepted);
+              calls = omega (arith, w .calls);
+              elected = same-calls .elected;
+              servers = kept-servers same-calls;
+              messages = kept-messages same-calls m;
+            };
+        answers = endings {out = []} (omega arith) nil;
+      }
+
+  handing-taken : (m : Message) (kept : List Message) (copied : ℕ) → MessageWithin n b (limitsAfter k (c .calls)) m →
+      All (MessageWithin n b (limitsAfter k (c .calls))) kept → Taken n b k (handing c m kept copied)
+  unfolding handing
+  handing-taken m kept copied x o = go (stoppedAt c (m .receiver)) refl
+    where
+      go : (t : Bool) → stoppedAt c (m .receiver) ≡ t → Taken n b k (handing c m kept copied)
+      go true e = rw (handing, e) (wasted-taken kept copied o)
+      go false e =
+          let g = message-grows (line-grows 0 (omega arith) same-calls) m x in
+          let r = handle-within n b (limitsAfter (k + 1) (c .calls)) m _ g (server-at (m .receiver) same-calls (x .receiver)) in
+          rw (handing, e, w .size) (record { cluster = stepped-within (m .receiver) kept _ same-calls o r; answers = r .answers })
+
+  dropped : (i : ℕ) → All (MessageWithin n b (limitsAfter k (c .calls))) (dropAt i (c .messages))
+  dropped i = all-append (all-take i (w .messages)) (all-drop (i + 1) (w .messages))
+
+  named : (s : ℕ) → noServer c s ≡ false → s < n
+  named s e = omega (arith, server-there c s e, w .size)
+
+  elect-taken : (s : ℕ) → noServer c s ≡ false → lastNumber c s ≡ false → Taken n b k (work c (elect s))
+  unfolding work lastNumber
+  elect-taken s e f =
+      let old = server-before s (named s e) .stored in
+      let below-last = leb-false maxElection (serverAt c s .stored .number) f in
+      rw (w .size)
+      (byLine-taken s _ same-calls
+      (elect-within n b (limitsAfter (k + 1) (c .calls)) s _ (named s e) bLow (omega arith) (omega arith) (server-at s same-calls (named s e))))
+
+  call-taken : (s : ℕ) (x : Words) → noServer c s ≡ false → noBucketFor c x ≡ false → badWords x ≡ false →
+      not (isLeading (serverAt c s .volatile .role)) ≡ false → Taken n b k (work c (call s x))
+  unfolding work
+  call-taken s x e f g h =
+      let old = server-before s (named s e) in
+      let number = leader-elected _ _ h (old .frame .standing) in
+      let line = old .stored .lines in
+      let more : CallsAfter (c .calls + 1) = record { from = omega arith; to = omega arith; elected = λ y. omega arith } in
+      let bucket : bucketFor (c .buckets) x < b = omega (arith, bucket-less c x (omega (arith, w .buckets)) f, w .buckets) in
+      let same-bucket = ap (λ z. bucketFor z x) (sym (w .buckets)) in
+      rw (w .size)
+      (byLine-taken s _ more
+      (beginCall-within n b (limitsAfter (k + 1) (c .calls + 1)) s _ (named s e) bucket (c .calls + 1) x (omega arith) (omega arith) (words-sized x g) same-bucket number (server-at s more (named s e))))
+
+  timeout-taken : (s i : ℕ) → noServer c s ≡ false → Taken n b k (work c (timeout s i))
+  unfolding work
+  timeout-taken s i e = byLine-taken s _ same-calls (cease-within n b (limitsAfter (k + 1) (c .calls)) (server-at s same-calls (named s e)))
+
+  stop-taken : (s : ℕ) → noServer c s ≡ false → Taken n b k (work c (stop s))
+  unfolding work
+  stop-taken s e =
+      let y = all-at s _ (server-there c s e) (kept-servers same-calls) in
+      byLine-taken s _ same-calls
+      (record { server = record { stored = y .stored; frame = y .frame; slots = y .slots }; sends = nil; answers = endings {out = []} (omega arith) nil })
+
+  work-taken : (l : Line) → All (λ x. x .applies ≡ false) (conditions c l) → Taken n b k (work c l)
+  unfolding conditions work
+  work-taken (cluster x y) (cons p nil) = let z : _≡_ {A = ℕ} 0 1 = cc in absurd (omega arith)
+  work-taken (elect s) (cons e (cons f (cons g (cons h nil)))) = elect-taken s e h
+  work-taken (call s x) (cons e (cons f (cons g (cons h (cons i (cons j nil)))))) =
+      let (y, z) = either-false _ _ e in
+      call-taken s x y z f i
+  work-taken (deliver i) (cons e (cons f nil)) = handing-taken _ _ 0 (all-at i _ (message-there c i f) (w .messages)) (dropped i)
+  work-taken (copy i) (cons e (cons f nil)) = handing-taken _ _ 1 (all-at i _ (message-there c i f) (w .messages)) (w .messages)
+  work-taken (lose i) (cons e (cons f nil)) = wasted-taken _ 0 (dropped i)
+  work-taken (timeout s i) (cons e (cons f (cons g (cons h nil)))) = timeout-taken s i (either-false _ _ e .0)
+  work-taken (stop s) (cons e (cons f (cons g nil))) = stop-taken s e
+
+not-spent : (c : Cluster) (l : Line) → All (λ x. x .applies ≡ false) (conditions c l) → c .accepted < maxAccepted
+unfolding conditions spent
+not-spent c (cluster x y) (cons p nil) = let z : _≡_ {A = ℕ} 0 1 = cc in absurd (omega arith)
+not-spent c (elect s) h = leb-false _ _ (all-head (all-tail h))
+not-spent c (call s x) h = leb-false _ _ (all-head (all-tail (all-tail h)))
+not-spent c (deliver i) h = leb-false _ _ (all-head h)
+not-spent c (copy i) h = leb-false _ _ (all-head h)
+not-spent c (lose i) h = leb-false _ _ (all-head h)
+not-spent c (timeout s i) h = leb-false _ _ (all-head (all-tail h))
+not-spent c (stop s) h = leb-false _ _ (all-head (all-tail h))
+
+-- a line is taken only where fewer than 1,000,000 were
+pub room-for-line : (c : Cluster) (l : Line) → firstOf (conditions c l) ≡ none → c .accepted < maxAccepted
+room-for-line c l e = not-spent c l (none-applies (conditions c l) e)
+
+-- ---- every list of lines
+
+-- a cluster that stands, and the tally of its messages
+pub record Stands (c : Cluster) (t : Tally) : Type 0 where
+  pub servers : ℕ
+  pub buckets : ℕ
+  pub someServers : 1 ≤ servers
+  pub fewServers : servers ≤ maxServers
+  pub someBuckets : 1 ≤ buckets
+  pub fewBuckets : buckets ≤ maxBuckets
+  pub within : ClusterWithin servers buckets (c .accepted) c
+  pub accepted : c .accepted ≤ maxAccepted
+  pub sent : t .sent ≤ maxMessages * c .accepted
+  pub copied : t .copied ≤ c .accepted
+  pub handed : t .delivered + t .lost ≤ c .accepted
+
+-- before there is a cluster nothing is counted
+abbrev pub Measured : Option Cluster → Tally → Type 0
+Measured none t = t ≡ nothing .tally
+Measured (some c) t = Stands c t
+
+in-range : (top x : ℕ) → inRange top x ≡ true → (1 ≤ x) × (x ≤ top)
+unfolding inRange
+in-range top x e = go (leb 1 x) refl
+  where
+    go : (t : Bool) → leb 1 x ≡ t → (1 ≤ x) × (x ≤ top)
+    go true p = (leb-true _ _ p, leb-true _ _ (rw (inRange, p) at e))
+    go false p = let z : _≡_ {A = ℕ} 0 1 = cc (rw (inRange, p) at e) in absurd (omega arith)
+
+fresh-server-within : (n b : ℕ) → 1 ≤ n → ServerWithin n b (limitsAfter 0 0) 0 (freshServer n b)
+unfolding freshServer
+fresh-server-within n b h =
+    record {
+      stored = record { number = omega arith; vote = omega arith; lines = omega arith; leader = omega arith; size = length-replicate b _; copies = all-replicate b freshCopy (fresh-copy-within _) };
+      frame = record { votes = length-replicate n _; rounds = length-replicate b _; calls = length-replicate b _; lastRound = omega arith; standing = tt };
+      slots = λ i d. rw (getD-replicate {A = Option Round} b i none none d, getD-replicate {A = Option Call} b i none none d) idle;
+    }
+
+fresh-cluster-within : (n b : ℕ) → 1 ≤ n → ClusterWithin n b 0 (freshCluster n b)
+unfolding freshCluster
+fresh-cluster-within n b h =
+    record { size = length-replicate n _; buckets = refl; accepted = refl; calls = omega arith; elected = omega arith; servers = all-replicate n _ (fresh-server-within n b h); messages = nil }
+
+pub line-taken : (c : Cluster) (t : Tally) (l : Line) → (h : Stands c t) → firstOf (conditions c l) ≡ none →
+    Taken (h .servers) (h .buckets) (c .accepted) (work c l)
+line-taken c t l h e = work-taken (h .servers) (h .buckets) (c .accepted) c (h .someBuckets) (h .within) l (none-applies (conditions c l) e)
+
+stands-on : (c : Cluster) (t : Tally) (l : Line) → Stands c t → firstOf (conditions c l) ≡ none →
+    length (work c l .cluster .messages) ≤ maxMessages → Stands (work c l .cluster) (tallied t (work c l))
+stands-on c t l h e room =
+    let w = line-taken c t l h e .cluster in
+    let more : work c l .cluster .accepted ≡ c .accepted + 1 = w .accepted in
+    let counts = work-counts c l in
+    let open-line = room-for-line c l e in
+    record {
+      servers = h .servers;
+      buckets = h .buckets;
+      someServers = h .someServers;
+      fewServers = h .fewServers;
+      someBuckets = h .someBuckets;
+      fewBuckets = h .fewBuckets;
+      within = rw more w;
+      accepted = omega arith;
+      sent = omega (arith, h .sent, counts .sent);
+      copied = omega (arith, h .copied, counts .copied);
+      handed = omega (arith, h .handed, counts .handed);
+    }
+
+founded-stands : (n b : ℕ) (t : Tally) → inRange maxServers n ≡ true → inRange maxBuckets b ≡ true → t ≡ nothing .tally →
+    Stands (freshCluster n b) t
+unfolding freshCluster
+founded-stands n b t p q z =
+    let (low, high) = in-range maxServers n p in
+    let (some-there, few) = in-range maxBuckets b q in
+    record {
+      servers = n;
+      buckets = b;
+      someServers = low;
+      fewServers = high;
+      someBuckets = some-there;
+      fewBuckets = few;
+      within = fresh-cluster-within n b low;
+      accepted = omega arith;
+      sent = omega (arith, ap (λ x. x .sent) z);
+      copied = omega (arith, ap (λ x. x .copied) z);
+      handed = omega (arith, ap (λ x. x .delivered) z, ap (λ x. x .lost) z);
+    }
+
+pub line-keeps-measures : (s : State) (o : Option Line) (x : Stepped) → ComesOut s o x → Measured (s .cluster) (s .tally) →
+    Measured (x .state .cluster) (x .state .tally)
+line-keeps-measures s o x (turned r low high) h = h
+line-keeps-measures s o x (founded n b i p q e) h = founded-stands n b (s .tally) p q (subst (λ o. Measured o (s .tally)) e h)
+line-keeps-measures s o x (took c l i e f room) h = stands-on c (s .tally) l (subst (λ o. Measured o (s .tally)) e h) f room
+
+pub measured-on : (s : State) (ls : List (List ℕ)) → Measured (s .cluster) (s .tally) →
+    Measured (stateAfter s ls .cluster) (stateAfter s ls .tally)
+unfolding stateAfter
+measured-on s [] h = h
+measured-on s (l ∷ ls) h = measured-on (step s l .state) ls (line-keeps-measures s (parse l) (step s l) (comes-out s l) h)
+
+pub within-always : (ls : List (List ℕ)) → Measured (stateAfter nothing ls .cluster) (stateAfter nothing ls .tally)
+within-always ls = measured-on nothing ls refl

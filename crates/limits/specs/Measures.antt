@@ -1,0 +1,290 @@
+-- The measures that every run keeps: one record for each kind of thing that a cluster holds. `n` is the number of
+-- servers, `b` the number of buckets; `Limits` holds what rises with the accepted lines.
+use mathlib.Core.Path.{_≡_}
+use mathlib.Core.List.{List, [], _∷_}
+use mathlib.Core.Bool.{true}
+use mathlib.Core.Option.{Option, none, some}
+use mathlib.Core.Logic.{_≢_}
+use Prim.Native.Nat.{ℕ, _+_, _*_, _≤_, _<_, min}
+use native.Mathlib.Omega.{arith}
+use lib.ListN.{length}
+use Rattle.entries.specs.Entries.{Entry}
+use Rattle.table.specs.Form.{fits}
+use Rattle.model.specs.Measures.{maxEntries, maxKeyBytes, maxValueBytes, maxElection}
+use Rattle.model.specs.Calls.{Words, get, set, setif, del, keys, bucketFor, Result, value, listed, done, mismatch, full, notdone, unknown, Answer}
+use Rattle.model.specs.Cluster.{Copy, Stored, Role, follower, candidate, leading, Purpose, recoveryRead, recoveryWrite, check, ownWrite, Round, Call, Volatile, Server, Body, pleaseVote, ackVote, nackVote, replicaWrite, ackWrite, nackWrite, replicaRead, ackRead, nackRead, Message, Cluster, roundAt, callAt}
+use Rattle.model.specs.Replica.{Request, reading, writing}
+use Rattle.model.specs.Leader.{Reaction}
+use Rattle.limits.specs.Lists.{All, all-imply}
+
+-- the accepted lines, the greatest election number, the greatest round number and counter, and the greatest number of
+-- a call
+pub record Limits : Type 0 where
+  pub lines : ℕ
+  pub elections : ℕ
+  pub rounds : ℕ
+  pub calls : ℕ
+
+-- after k accepted lines: a line raises a server's number by at most one, and makes at most four rounds
+abbrev pub limitsAfter : ℕ → ℕ → Limits
+limitsAfter k calls = record { lines = k; elections = min k maxElection; rounds = 4 * k; calls = calls }
+
+-- ---- copies. `q` is the number of rounds that may still be made in the same line: at rest it is 0
+
+-- a table with a bucket form: at most 4 rising keys of 1 to 8 bytes, with values of 1 to 16
+abbrev pub Fits : List Entry → Type 0
+Fits t = fits maxEntries maxValueBytes t ≡ true
+
+pub record CopyWithin (l : Limits) (q : ℕ) (c : Copy) : Type 0 where
+  pub election : c .version .election ≤ l .elections
+  pub counter : c .version .counter + q ≤ l .rounds
+  pub unwritten : c .version .election ≡ 0 → c .version .counter ≡ 0
+  pub written : c .version .counter ≡ 0 → c .version .election ≡ 0
+  pub empty : c .version .election ≡ 0 → c .table ≡ []
+  pub fitting : Fits (c .table)
+
+-- `lines`: a line that raises a server's number makes no call
+pub record StoredWithin (n b : ℕ) (l : Limits) (q : ℕ) (st : Stored) : Type 0 where
+  pub number : st .number ≤ l .elections
+  pub vote : st .vote ≤ l .elections
+  pub lines : st .number + l .calls ≤ l .lines
+  pub leader : st .leader < n
+  pub size : length (st .copies) ≡ b
+  pub copies : All (CopyWithin l q) (st .copies)
+
+-- ---- calls
+
+abbrev pub KeySized : List ℕ → Type 0
+KeySized k = (1 ≤ length k) × (length k ≤ maxKeyBytes)
+
+abbrev pub ValueSized : List ℕ → Type 0
+ValueSized v = length v ≤ maxValueBytes
+
+abbrev pub WordsSized : Words → Type 0
+WordsSized (get k) = KeySized k
+WordsSized (set k v) = KeySized k × ValueSized v
+WordsSized (setif k e v) = KeySized k × ValueSized e × ValueSized v
+WordsSized (del k) = KeySized k
+WordsSized (keys i) = Unit {0}
+
+-- a call on bucket i, for which q more rounds may be made
+pub record CallWithin (b : ℕ) (l : Limits) (i q : ℕ) (c : Call) : Type 0 where
+  pub first : 1 ≤ c .number
+  pub last : c .number ≤ l .calls
+  pub rounds : c .rounds + q ≤ 4
+  pub sizes : WordsSized (c .words)
+  pub bucket : bucketFor b (c .words) ≡ i
+
+-- ---- rounds
+
+-- the rounds that may follow one made for a purpose
+abbrev pub left : Purpose → ℕ
+left recoveryRead = 3
+left recoveryWrite = 2
+left check = 1
+left ownWrite = 0
+
+-- a round of a server with that number, whose last round is `last`
+pub record RoundWithin (n : ℕ) (l : Limits) (number last : ℕ) (r : Round) : Type 0 where
+  pub low : 1 ≤ r .number
+  pub high : r .number ≤ last
+  pub elected : 1 ≤ r .election
+  pub election : r .election ≤ l .elections
+  pub present : r .election ≡ number
+  pub marks : length (r .marks) ≡ n
+  pub best : CopyWithin l 0 (r .best)
+
+-- a bucket has a round open exactly where it has a call open
+pub data SlotWithin (n b : ℕ) (l : Limits) (number last i : ℕ) : Option Round → Option Call → Type 0 where
+  idle : SlotWithin n b l number last i none none
+  busy : {r : Round} {c : Call} → RoundWithin n l number last r → CallWithin b l i (left (r .purpose)) c →
+      SlotWithin n b l number last i (some r) (some c)
+
+-- ---- servers
+
+-- whoever stands or leads has raised its number
+abbrev pub RoleWithin : Role → ℕ → Type 0
+RoleWithin follower number = Unit {0}
+RoleWithin candidate number = 1 ≤ number
+RoleWithin leading number = 1 ≤ number
+
+-- what a server forgets when it stops, without its rounds and calls
+pub record FrameWithin (n b : ℕ) (l : Limits) (q number : ℕ) (w : Volatile) : Type 0 where
+  pub votes : length (w .votes) ≡ n
+  pub rounds : length (w .rounds) ≡ b
+  pub calls : length (w .calls) ≡ b
+  pub lastRound : w .lastRound + q ≤ l .rounds
+  pub standing : RoleWithin (w .role) number
+
+pub record ServerWithin (n b : ℕ) (l : Limits) (q : ℕ) (s : Server) : Type 0 where
+  pub stored : StoredWithin n b l q (s .stored)
+  pub frame : FrameWithin n b l q (s .stored .number) (s .volatile)
+  pub slots : (i : ℕ) → i < b →
+      SlotWithin n b l (s .stored .number) (s .volatile .lastRound) i (roundAt (s .volatile) i) (callAt (s .volatile) i)
+
+-- ---- messages
+
+-- what a round asks under number e
+abbrev pub RequestWithin : Limits → (q e : ℕ) → Request → Type 0
+RequestWithin l q e reading = Unit {0}
+RequestWithin l q e (writing v t) = (v .election ≡ e) × CopyWithin l q (record { version = v; table = t })
+
+abbrev pub OfVote : Message → Type 0
+OfVote m = (m .bucket ≡ 0) × (m .round ≡ 0)
+
+abbrev pub OfRound : Limits → Message → Type 0
+OfRound l m = (1 ≤ m .round) × (m .round ≤ l .rounds)
+
+abbrev pub BodyWithin : Limits → Message → Body → Type 0
+BodyWithin l m pleaseVote = OfVote m
+BodyWithin l m ackVote = OfVote m
+BodyWithin l m nackVote = OfVote m
+BodyWithin l m (replicaWrite v t) = OfRound l m × (v .election ≡ m .election) × CopyWithin l 0 (record { version = v; table = t })
+BodyWithin l m ackWrite = OfRound l m
+BodyWithin l m nackWrite = OfRound l m
+BodyWithin l m replicaRead = OfRound l m
+BodyWithin l m (ackRead v t) = OfRound l m × CopyWithin l 0 (record { version = v; table = t })
+BodyWithin l m nackRead = OfRound l m
+
+pub record MessageWithin (n b : ℕ) (l : Limits) (m : Message) : Type 0 where
+  pub sender : m .sender < n
+  pub receiver : m .receiver < n
+  pub apart : m .sender ≢ m .receiver
+  pub bucket : m .bucket < b
+  pub elected : 1 ≤ m .election
+  pub election : m .election ≤ l .elections
+  pub body : BodyWithin l m (m .body)
+
+-- ---- answers
+
+abbrev pub ResultWithin : Result → Type 0
+ResultWithin (value v) = ValueSized v
+ResultWithin (listed l) = (length l ≤ maxEntries) × All KeySized l
+ResultWithin done = Unit {0}
+ResultWithin mismatch = Unit {0}
+ResultWithin full = Unit {0}
+ResultWithin notdone = Unit {0}
+ResultWithin unknown = Unit {0}
+
+pub record AnswerWithin (l : Limits) (a : Answer) : Type 0 where
+  pub first : 1 ≤ a .call
+  pub last : a .call ≤ l .calls
+  pub rounds : a .rounds ≤ 4
+  pub result : ResultWithin (a .result)
+
+-- the results of calls that end with their server's leading
+abbrev pub Ending : Result → Type 0
+Ending (value v) = ⊥
+Ending (listed l) = ⊥
+Ending done = ⊥
+Ending mismatch = ⊥
+Ending full = ⊥
+Ending notdone = Unit {0}
+Ending unknown = Unit {0}
+
+-- a line answers one call, or ends at most one for each bucket
+pub data AnswersWithin (b : ℕ) (l : Limits) : List Answer → Type 0 where
+  single : {a : Answer} → AnswerWithin l a → AnswersWithin b l (a ∷ [])
+  endings : {out : List Answer} → length out ≤ b → All (λ a. AnswerWithin l a × Ending (a .result)) out → AnswersWithin b l out
+
+pub record ReactionWithin (n b : ℕ) (l : Limits) (r : Reaction) : Type 0 where
+  pub server : ServerWithin n b l 0 (r .server)
+  pub sends : All (MessageWithin n b l) (r .sends)
+  pub answers : AnswersWithin b l (r .answers)
+
+-- ---- the cluster after k accepted lines
+
+-- `elected`: the first line that is taken makes no call, since no server leads yet
+pub record ClusterWithin (n b k : ℕ) (c : Cluster) : Type 0 where
+  pub size : length (c .servers) ≡ n
+  pub buckets : c .buckets ≡ b
+  pub accepted : c .accepted ≡ k
+  pub calls : c .calls ≤ k
+  pub elected : 1 ≤ c .calls → c .calls < k
+  pub servers : All (ServerWithin n b (limitsAfter k (c .calls)) 0) (c .servers)
+  pub messages : All (MessageWithin n b (limitsAfter k (c .calls))) (c .messages)
+
+-- ---- everything survives greater limits
+
+-- m is no less than l, and leaves p rounds where l leaves q; it has one line more for each call more
+pub record Grows (l : Limits) (q : ℕ) (m : Limits) (p : ℕ) : Type 0 where
+  pub elections : l .elections ≤ m .elections
+  pub rounds : l .rounds ≤ m .rounds
+  pub slack : l .rounds + p ≤ m .rounds + q
+  pub calls : l .calls ≤ m .calls
+  pub lines : m .calls + l .lines ≤ m .lines + l .calls
+
+-- fewer rounds left under the same limits
+pub fewer : (l : Limits) (q p : ℕ) → p ≤ q → Grows l q l p
+fewer l q p h = omega arith
+
+-- another line, with at most four rounds
+pub next-line : (k calls more q : ℕ) → calls ≤ more → more ≤ calls + 1 → q ≤ 4 →
+    Grows (limitsAfter k calls) 0 (limitsAfter (k + 1) more) q
+next-line k calls more q h i j = omega arith
+
+module _ {l : Limits} {q : ℕ} {m : Limits} {p : ℕ} (g : Grows l q m p) where
+  pub copy-grows : (c : Copy) → CopyWithin l q c → CopyWithin m p c
+  copy-grows c w = record { election = omega arith; counter = omega arith; unwritten = w .unwritten; written = w .written; empty = w .empty; fitting = w .fitting }
+
+  pub stored-grows : {n b : ℕ} {st : Stored} → StoredWithin n b l q st → StoredWithin n b m p st
+  stored-grows w = record { number = omega arith; vote = omega arith; lines = omega arith; leader = w .leader; size = w .size; copies = all-imply copy-grows (w .copies) }
+
+  pub frame-grows : {n b number : ℕ} {v : Volatile} → FrameWithin n b l q number v → FrameWithin n b m p number v
+  frame-grows w = record { votes = w .votes; rounds = w .rounds; calls = w .calls; lastRound = omega arith; standing = w .standing }
+
+  same-slack : Grows l 0 m 0
+  same-slack = omega arith
+
+module _ {l : Limits} {m : Limits} (g : Grows l 0 m 0) where
+  pub call-grows : {b i q : ℕ} {c : Call} → CallWithin b l i q c → CallWithin b m i q c
+  call-grows w = record { first = w .first; last = omega arith; rounds = w .rounds; sizes = w .sizes; bucket = w .bucket }
+
+  pub round-grows : {n number last : ℕ} {r : Round} → RoundWithin n l number last r → RoundWithin n m number last r
+  round-grows w =
+      record {
+        low = w .low;
+        high = w .high;
+        elected = w .elected;
+        election = omega arith;
+        present = w .present;
+        marks = w .marks;
+        best = copy-grows g _ (w .best);
+      }
+
+  pub slot-grows : {n b number last i : ℕ} {r : Option Round} {c : Option Call} → SlotWithin n b l number last i r c →
+      SlotWithin n b m number last i r c
+  slot-grows idle = idle
+  slot-grows (busy r c) = busy (round-grows r) (call-grows c)
+
+  body-grows : (x : Message) (body : Body) → BodyWithin l x body → BodyWithin m x body
+  body-grows x pleaseVote w = w
+  body-grows x ackVote w = w
+  body-grows x nackVote w = w
+  body-grows x (replicaWrite v t) w = (omega arith, w .1, copy-grows g _ (w .2))
+  body-grows x ackWrite w = omega arith
+  body-grows x nackWrite w = omega arith
+  body-grows x replicaRead w = omega arith
+  body-grows x (ackRead v t) w = (omega arith, copy-grows g _ (w .1))
+  body-grows x nackRead w = omega arith
+
+  pub message-grows : {n b : ℕ} (x : Message) → MessageWithin n b l x → MessageWithin n b m x
+  message-grows x w =
+      record {
+        sender = w .sender;
+        receiver = w .receiver;
+        apart = w .apart;
+        bucket = w .bucket;
+        elected = w .elected;
+        election = omega arith;
+        body = body-grows x (x .body) (w .body);
+      }
+
+pub server-grows : {n b : ℕ} {l : Limits} {q : ℕ} {m : Limits} {p : ℕ} → Grows l q m p → (s : Server) → ServerWithin n b l q s →
+    ServerWithin n b m p s
+server-grows g s w =
+    record {
+      stored = stored-grows g (w .stored);
+      frame = frame-grows g (w .frame);
+      slots = λ i h. slot-grows (same-slack g) (w .slots i h);
+    }

@@ -1,0 +1,202 @@
+-- What a line prints is at most 136 bytes: eight calls that end together, each with a number of six digits. The tally
+-- line is at most 40 bytes. A whole run prints at most 136 for each line, and the tally line.
+use mathlib.Core.Path.{_≡_, refl, ap, subst}
+use mathlib.Core.List.{List, [], _∷_}
+use mathlib.Core.Bool.{Bool, true, false}
+use mathlib.Core.Option.{Option, none, some}
+use Prim.Native.Nat.{ℕ, zero, suc, _+_, _*_, _^_, _/_, _%_, _≤_, _<_}
+use native.Mathlib.Omega.{arith}
+use native.Mathlib.Decide.{decLt}
+use lib.Dec.{ltb}
+use lib.ListN.{length, take, length-append, length-take}
+use borrow.Author.Tests.{ltb-false}
+use Rattle.model.specs.Measures.{maxBuckets, maxKeyBytes, maxValueBytes, maxMessages, maxAccepted, maxLines}
+use Rattle.model.specs.Calls.{Result, value, listed, done, mismatch, full, notdone, unknown, Answer}
+use Rattle.model.specs.Cluster.{Cluster}
+use Rattle.model.specs.Lines.{Line, State, nothing, Tally, refusal, Stepped, work}
+use Rattle.model.specs.Text.{bytes}
+use Rattle.model.specs.Print.{decimalInto, decimal, hexPairs, hexadecimal, keyList, keysText, wordOf, dataOf, answerText, answerTexts, outcomeText, tallyText}
+use Rattle.model.specs.Parse.{parse}
+use Rattle.model.specs.Run.{step, stateAfter, linesFrom, linesOf, printedFrom, run}
+use Rattle.limits.specs.Lists.{All, nil, cons}
+use Rattle.limits.specs.Refusals.{ComesOut, turned, founded, took, comes-out}
+use Rattle.limits.specs.Tally.{Tallied, line-keeps-tally, tallied-always, tallied-nothing}
+use Rattle.limits.specs.Measures.{Limits, KeySized, ResultWithin, AnswerWithin, Ending, AnswersWithin, single, endings}
+use Rattle.limits.specs.Always.{Measured, room-for-line, line-taken, line-keeps-measures, within-always}
+
+-- eight answers of 17 bytes
+abbrev pub maxPrinted : ℕ
+maxPrinted = 136
+
+-- counts of 12 digits for sent and copied, 12 for delivered and lost, and 2 for in flight
+abbrev pub maxTallyBytes : ℕ
+maxTallyBytes = 40
+
+-- ---- numbers and byte strings
+
+digits-into : (d f n : ℕ) (rest : List ℕ) → n < 10 ^ suc d → length (decimalInto f n rest) ≤ suc d + length rest
+unfolding decimalInto
+digits-into d zero n rest h = omega arith
+digits-into zero (suc f) n rest h = go (ltb n 10) refl
+  where
+    go : (t : Bool) → ltb n 10 ≡ t → length (decimalInto (suc f) n rest) ≤ 1 + length rest
+    go true e = rw (decimalInto, e) (omega arith)
+    go false e = absurd (omega (arith, ltb-false n 10 e))
+digits-into (suc d) (suc f) n rest h = go (ltb n 10) refl (digits-into d f (n / 10) ((48 + n % 10) ∷ rest) (omega arith))
+  where
+    go : (t : Bool) → ltb n 10 ≡ t → length (decimalInto f (n / 10) ((48 + n % 10) ∷ rest)) ≤ suc d + suc (length rest) →
+        length (decimalInto (suc f) n rest) ≤ suc (suc d) + length rest
+    go true e ih = rw (decimalInto, e) (omega arith)
+    go false e ih = rw (decimalInto, e) (omega arith)
+
+-- a number below 10 ^ (d + 1) has at most d + 1 digits
+digits : (d n : ℕ) → n < 10 ^ suc d → length (decimal n) ≤ suc d
+unfolding decimal
+digits d n h = omega (arith, digits-into d (suc n) n [] h)
+
+hex-length : (l : List ℕ) → length (hexPairs l) ≡ 2 * length l
+unfolding hexPairs
+hex-length [] = omega arith
+hex-length (x ∷ l) = omega (arith, hex-length l)
+
+hexadecimal-length : (m : ℕ) (l : List ℕ) → length l ≤ m → 1 ≤ m → length (hexadecimal l) ≤ 2 * m
+unfolding hexadecimal bytes
+hexadecimal-length m [] h k = omega arith
+hexadecimal-length m (x ∷ l) h k = omega (arith, hex-length (x ∷ l))
+
+-- ---- answers
+
+keyList-length : (l : List (List ℕ)) → All KeySized l → length (keyList l) ≤ 17 * length l
+unfolding keyList bytes
+keyList-length [] nil = omega arith
+keyList-length (k ∷ l) (cons p h) =
+    simp length-append (omega (arith, hexadecimal-length maxKeyBytes k (p .1) (omega arith), keyList-length l h))
+
+-- the result's word and its data
+result-length : (r : Result) → ResultWithin r → length (wordOf r) + length (dataOf r) ≤ 72
+unfolding wordOf dataOf keysText bytes
+result-length (value v) h = simp length-append (omega (arith, hexadecimal-length maxValueBytes v h (omega arith)))
+result-length (listed []) h = omega arith
+result-length (listed (k ∷ l)) h = omega (arith, keyList-length (k ∷ l) (h .1), h .0)
+result-length done h = omega arith
+result-length mismatch h = omega arith
+result-length full h = omega arith
+result-length notdone h = omega arith
+result-length unknown h = omega arith
+
+ending-length : (r : Result) → Ending r → length (wordOf r) + length (dataOf r) ≤ 7
+unfolding wordOf dataOf bytes
+ending-length (value v) h = absurd h
+ending-length (listed l) h = absurd h
+ending-length done h = absurd h
+ending-length mismatch h = absurd h
+ending-length full h = absurd h
+ending-length notdone h = omega arith
+ending-length unknown h = omega arith
+
+-- the number of a call is below 1,000,000, since the first line that is taken is no call
+answer-length : (l : Limits) (a : Answer) → l .calls < maxAccepted → AnswerWithin l a →
+    length (answerText a) ≤ 10 + (length (wordOf (a .result)) + length (dataOf (a .result)))
+unfolding answerText bytes
+answer-length l a h w =
+    let call = digits 5 (a .call) (omega (arith, w .last)) in
+    let rounds = digits 0 (a .rounds) (omega (arith, w .rounds)) in
+    simp length-append (omega arith)
+
+endings-length : (l : Limits) (out : List Answer) → l .calls < maxAccepted → All (λ a. AnswerWithin l a × Ending (a .result)) out →
+    length (answerTexts out) ≤ 17 * length out
+unfolding answerTexts
+endings-length l [] h nil = omega arith
+endings-length l (a ∷ out) h (cons w k) =
+    simp length-append (omega (arith, answer-length l a h (w .0), ending-length (a .result) (w .1), endings-length l out h k))
+
+answers-length : {b : ℕ} {l : Limits} (out : List Answer) → b ≤ maxBuckets → l .calls < maxAccepted → AnswersWithin b l out →
+    length (answerTexts out) ≤ maxPrinted
+unfolding answerTexts
+answers-length {b} {l} out h k (single {a = a} w) =
+    simp length-append (omega (arith, answer-length l a k w, result-length (a .result) (w .result)))
+answers-length {b} {l} out h k (endings few w) = omega (arith, endings-length l out k w)
+
+-- ---- lines
+
+refusal-length : (number r : ℕ) → number ≤ maxLines → r ≤ 12 → length (outcomeText number (refusal r)) ≤ maxPrinted
+unfolding outcomeText bytes
+refusal-length number r h k =
+    let line = digits 9 number (omega arith) in
+    let code = digits 1 r (omega arith) in
+    simp length-append (omega arith)
+
+few-calls : (calls k : ℕ) → k < maxAccepted → (1 ≤ calls → calls < k + 1) → calls < maxAccepted
+few-calls zero k h f = omega arith
+few-calls (suc calls) k h f = omega (arith, f (omega arith))
+
+line-length : (number : ℕ) (s : State) (o : Option Line) (x : Stepped) → number ≤ maxLines → Measured (s .cluster) (s .tally) → ComesOut s o x →
+    length (outcomeText number (x .outcome)) ≤ maxPrinted
+unfolding outcomeText answerTexts
+line-length number s o x h m (turned r low high) = refusal-length number r h high
+line-length number s o x h m (founded n b i p q e) = omega arith
+line-length number s o x h m (took c l i e f room) =
+    let k = subst (λ o. Measured o (s .tally)) e m in
+    let w = line-taken c (s .tally) l k f in
+    answers-length (work c l .answers) (k .fewBuckets) (few-calls _ (c .accepted) (room-for-line c l f) (w .cluster .elected)) (w .answers)
+
+pub printed-at-most : (ls : List (List ℕ)) (l : List ℕ) (number : ℕ) → number ≤ maxLines →
+    length (outcomeText number (step (stateAfter nothing ls) l .outcome)) ≤ maxPrinted
+printed-at-most ls l number h = line-length number (stateAfter nothing ls) _ _ h (within-always ls) (comes-out (stateAfter nothing ls) l)
+
+-- ---- the tally line
+
+-- two counts that together come to at most 1,000,064: not both have seven digits, and one with seven leaves two
+pair-length : (x y : ℕ) → x + y ≤ maxAccepted + maxMessages → length (decimal x) + length (decimal y) ≤ 12
+pair-length x y h = go (decLt x 1000000) (decLt y 1000000)
+  where
+    go : Dec (x < 1000000) → Dec (y < 1000000) → length (decimal x) + length (decimal y) ≤ 12
+    go (yes p) (yes q) = omega (arith, digits 5 x p, digits 5 y q)
+    go (yes p) (no q) = omega (arith, digits 1 x (omega arith), digits 6 y (omega arith))
+    go (no p) d = omega (arith, digits 6 x (omega arith), digits 1 y (omega arith))
+
+tally-length : (t : Tally) → t .sent + t .copied ≤ maxAccepted + maxMessages → t .delivered + t .lost ≤ maxAccepted →
+    t .inFlight ≤ maxMessages →
+    length (tallyText t) ≤ maxTallyBytes
+unfolding tallyText bytes
+tally-length t made gone flight =
+    let a = pair-length (t .sent) (t .copied) made in
+    let b = pair-length (t .delivered) (t .lost) (omega arith) in
+    let c = digits 1 (t .inFlight) (omega arith) in
+    simp length-append (omega arith)
+
+measured-tally : (o : Option Cluster) (t : Tally) → Measured o t → t .sent + t .copied ≡ t .delivered + t .lost + t .inFlight →
+    t .inFlight ≤ maxMessages → length (tallyText t) ≤ maxTallyBytes
+measured-tally none t h e f =
+    let none-gone : t .delivered + t .lost ≤ 0 = omega (arith, ap (λ x. x .delivered) h, ap (λ x. x .lost) h) in
+    tally-length t (omega arith) (omega arith) f
+measured-tally (some c) t h e f = tally-length t (omega arith) (omega arith) f
+
+state-tally : (s : State) → Measured (s .cluster) (s .tally) → Tallied s → length (tallyText (s .tally)) ≤ maxTallyBytes
+state-tally s h t = measured-tally (s .cluster) (s .tally) h (t .balance) (omega (arith, t .flight, t .room))
+
+pub tally-at-most : (ls : List (List ℕ)) → length (tallyText (stateAfter nothing ls .tally)) ≤ maxTallyBytes
+tally-at-most ls = state-tally (stateAfter nothing ls) (within-always ls) (tallied-always nothing ls tallied-nothing)
+
+-- ---- a whole run
+
+take-at-most : {A : Type 0} (n : ℕ) (l : List A) → length (take n l) ≤ n
+take-at-most n l = rw length-take (omega arith)
+
+few-lines : (input : List ℕ) → length (linesOf input) ≤ maxLines
+unfolding linesOf
+few-lines input = take-at-most maxLines (linesFrom [] input)
+
+printedFrom-length : (number : ℕ) (s : State) (ls : List (List ℕ)) → number + length ls ≤ maxLines + 1 →
+    Measured (s .cluster) (s .tally) → Tallied s → length (printedFrom number s ls) ≤ maxPrinted * length ls + maxTallyBytes
+unfolding printedFrom
+printedFrom-length number s [] h m t = omega (arith, state-tally s m t)
+printedFrom-length number s (l ∷ ls) h m t =
+    let x = comes-out s l in
+    let line = line-length number s (parse l) (step s l) (omega arith) m x in
+    let rest = printedFrom-length (number + 1) (step s l .state) ls (omega arith) (line-keeps-measures s (parse l) (step s l) x m) (line-keeps-tally s (parse l) (step s l) x t) in
+    simp length-append (omega arith)
+
+pub run-at-most : (input : List ℕ) → length (run input) ≤ maxPrinted * length (linesOf input) + maxTallyBytes
+unfolding run
+run-at-most input = printedFrom-length 1 nothing (linesOf input) (omega (arith, few-lines input)) refl tallied-nothing

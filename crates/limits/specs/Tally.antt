@@ -1,0 +1,136 @@
+-- The message tally: sent and copied together equal delivered, lost and in flight; in flight is the length of the message
+-- list, which never exceeds 64.
+use mathlib.Core.Path.{_≡_, refl, _∙_}
+use mathlib.Core.List.{List, [], _∷_, _++_}
+use mathlib.Core.Bool.{Bool, true, false}
+use mathlib.Core.Option.{Option, none, some}
+use Prim.Native.Nat.{ℕ, _+_, _≤_, _<_}
+use native.Mathlib.Omega.{arith}
+use lib.ListN.{length, length-append, length-take, length-drop}
+use borrow.Author.Tests.{leb-false}
+use Rattle.model.specs.Measures.{maxMessages}
+use Rattle.model.specs.Cluster.{Cluster, Message, freshCluster}
+use Rattle.model.specs.Leader.{Reaction}
+use Rattle.model.specs.Lines.{Line, cluster, elect, call, deliver, copy, lose, timeout, stop, State, nothing, Condition, when, firstOf, conditions, noMessage, spent, dropAt, stoppedAt, Work, byLine, handing, work, Stepped}
+use Rattle.model.specs.Parse.{parse}
+use Rattle.model.specs.Run.{step, stateAfter}
+use Rattle.limits.specs.Lists.{All, nil, cons, all-head, all-tail}
+use Rattle.limits.specs.Refusals.{ComesOut, turned, founded, took, comes-out}
+
+-- ---- one line taken
+
+-- what is added to one side of the tally is added to the other
+abbrev Balances : Cluster → Work → Type 0
+Balances c w = length (c .messages) + w .sent + w .copied ≡ w .delivered + w .lost + length (w .cluster .messages)
+
+-- a line that is taken: no condition that bears on it applies
+pub none-applies : (l : List Condition) → firstOf l ≡ none → All (λ x. x .applies ≡ false) l
+unfolding firstOf
+none-applies [] e = nil
+none-applies (x ∷ l) e = go (x .applies) refl (none-applies l)
+  where
+    go : (b : Bool) → x .applies ≡ b → (firstOf l ≡ none → All (λ x. x .applies ≡ false) l) → All (λ x. x .applies ≡ false) (x ∷ l)
+    go false p ih = cons {x = x} p (ih (rw (firstOf, p) at e))
+    go true p ih = let z : _≡_ {A = ℕ} 0 1 = cc (rw (firstOf, p) at e) in absurd (omega arith)
+
+pub length-dropAt : {A : Type 0} (i : ℕ) (l : List A) → i < length l → length (dropAt i l) + 1 ≡ length l
+length-dropAt i l h = simp (length-append, length-take, length-drop) (omega arith)
+
+-- a message at its place
+pub message-there : (c : Cluster) (i : ℕ) → noMessage c i ≡ false → i < length (c .messages)
+unfolding noMessage
+message-there c i e = leb-false _ _ e
+
+place-taken : (c : Cluster) (i : ℕ) → firstOf (when 5 (spent c) ∷ when 7 (noMessage c i) ∷ []) ≡ none → i < length (c .messages)
+place-taken c i e = message-there c i (all-head (all-tail (none-applies _ e)))
+
+handing-balances : (c : Cluster) (m : Message) (kept : List Message) (copied : ℕ) →
+    length kept + 1 ≡ length (c .messages) + copied → Balances c (handing c m kept copied)
+unfolding handing
+handing-balances c m kept copied h = go (stoppedAt c (m .receiver)) refl
+  where
+    go : (b : Bool) → stoppedAt c (m .receiver) ≡ b → Balances c (handing c m kept copied)
+    go true p = rw (handing, p) (omega arith)
+    go false p = rw (handing, p) (simp length-append (omega arith))
+
+work-balances : (c : Cluster) (l : Line) → firstOf (conditions c l) ≡ none → Balances c (work c l)
+unfolding work conditions
+work-balances c (cluster n b) e = simp length-append (omega arith)
+work-balances c (elect s) e = simp length-append (omega arith)
+work-balances c (call s w) e = simp length-append (omega arith)
+work-balances c (deliver i) e = handing-balances c _ _ 0 (omega (arith, length-dropAt i (c .messages) (place-taken c i e)))
+work-balances c (copy i) e = handing-balances c _ _ 1 (omega arith)
+work-balances c (lose i) e = omega (arith, length-dropAt i (c .messages) (place-taken c i e))
+work-balances c (timeout s b) e = simp length-append (omega arith)
+work-balances c (stop s) e = simp length-append (omega arith)
+
+-- what one line adds to the tally: what it sends stands in the list, and it copies, hands over or loses at most one
+pub record Counts (w : Work) : Type 0 where
+  pub sent : w .sent ≤ length (w .cluster .messages)
+  pub copied : w .copied ≤ 1
+  pub handed : w .delivered + w .lost ≤ 1
+
+added-count : (kept sends : List Message) → length sends ≤ length (kept ++ sends)
+added-count kept sends = simp length-append (omega arith)
+
+handing-counts : (c : Cluster) (m : Message) (kept : List Message) (copied : ℕ) → copied ≤ 1 → Counts (handing c m kept copied)
+unfolding handing
+handing-counts c m kept copied h = go (stoppedAt c (m .receiver)) refl
+  where
+    go : (b : Bool) → stoppedAt c (m .receiver) ≡ b → Counts (handing c m kept copied)
+    go true p = rw (handing, p) (omega arith)
+    go false p = rw (handing, p) (record { sent = added-count kept _; copied = h; handed = omega arith })
+
+byLine-counts : (c : Cluster) (s calls : ℕ) (r : Reaction) → Counts (byLine c s calls r)
+byLine-counts c s calls r = record { sent = added-count (c .messages) (r .sends); copied = omega arith; handed = omega arith }
+
+pub work-counts : (c : Cluster) (l : Line) → Counts (work c l)
+unfolding work
+work-counts c (cluster n b) = byLine-counts c 0 (c .calls) _
+work-counts c (elect s) = byLine-counts c s (c .calls) _
+work-counts c (call s w) = byLine-counts c s (c .calls + 1) _
+work-counts c (deliver i) = handing-counts c _ _ 0 (omega arith)
+work-counts c (copy i) = handing-counts c _ _ 1 (omega arith)
+work-counts c (lose i) = omega arith
+work-counts c (timeout s b) = byLine-counts c s (c .calls) _
+work-counts c (stop s) = byLine-counts c s (c .calls) _
+
+-- ---- every list of lines
+
+-- the messages in flight; none before there is a cluster
+abbrev pub messagesOf : Option Cluster → List Message
+messagesOf none = []
+messagesOf (some c) = c .messages
+
+pub record Tallied (s : State) : Type 0 where
+  pub balance : s .tally .sent + s .tally .copied ≡ s .tally .delivered + s .tally .lost + s .tally .inFlight
+  pub flight : s .tally .inFlight ≡ length (messagesOf (s .cluster))
+  pub room : length (messagesOf (s .cluster)) ≤ maxMessages
+
+pub line-keeps-tally : (s : State) (o : Option Line) (x : Stepped) → ComesOut s o x → Tallied s → Tallied (x .state)
+unfolding freshCluster
+line-keeps-tally s o x (turned r low high) t = t
+line-keeps-tally s o x (founded n b i p q e) t =
+    let empty : length (messagesOf (s .cluster)) ≡ 0 = rw e in
+    record { balance = t .balance; flight = t .flight ∙ empty; room = omega arith }
+line-keeps-tally s o x (took c l i e f room) t =
+    let before : length (messagesOf (s .cluster)) ≡ length (c .messages) = rw e in
+    record { balance = omega (arith, t .balance, t .flight, work-balances c l f); flight = refl; room = room }
+
+pub tallied-always : (s : State) (ls : List (List ℕ)) → Tallied s → Tallied (stateAfter s ls)
+unfolding stateAfter
+tallied-always s [] t = t
+tallied-always s (l ∷ ls) t = tallied-always (step s l .state) ls (line-keeps-tally s (parse l) (step s l) (comes-out s l) t)
+
+pub tallied-nothing : Tallied nothing
+tallied-nothing = record { balance = omega arith; flight = refl; room = omega arith }
+
+pub balanced : (ls : List (List ℕ)) →
+    let t = stateAfter nothing ls .tally in t .sent + t .copied ≡ t .delivered + t .lost + t .inFlight
+balanced ls = tallied-always nothing ls tallied-nothing .balance
+
+pub in-flight : (ls : List (List ℕ)) → stateAfter nothing ls .tally .inFlight ≡ length (messagesOf (stateAfter nothing ls .cluster))
+in-flight ls = tallied-always nothing ls tallied-nothing .flight
+
+pub at-most-64 : (ls : List (List ℕ)) → length (messagesOf (stateAfter nothing ls .cluster)) ≤ maxMessages
+at-most-64 ls = tallied-always nothing ls tallied-nothing .room

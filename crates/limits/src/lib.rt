@@ -1,0 +1,1 @@
+// What every script keeps within bounds. Definitions and proofs in specs/; there is no code here.

@@ -1,0 +1,13 @@
+pub mod Measures
+pub mod Calls
+pub mod Cluster
+pub mod Replica
+pub mod Leader
+pub mod Lines
+pub mod Text
+pub mod Parse
+pub mod Print
+pub mod Run
+pub mod Compute
+pub mod Rows
+pub mod Example

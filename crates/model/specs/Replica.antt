@@ -1,0 +1,66 @@
+-- What a server does as a voter and as a replica: Algorithms 1, 2 and 3 of the paper, on what it stores.
+use mathlib.Core.List.{List, [], _∷_}
+use mathlib.Core.Bool.{Bool, true, false}
+use mathlib.Core.Option.{Option, none, some}
+use Prim.Native.Nat.{ℕ}
+use lib.Dec.{ltb, eqb}
+use lib.ListN.{set}
+use Rattle.entries.specs.Entries.{Entry}
+use Rattle.model.specs.Cluster.{Version, above, Copy, Stored, copyAt, Body, replicaWrite, replicaRead, ackWrite, nackWrite, ackRead, nackRead}
+
+-- the vote and its leader (Algorithm 1, lines 8 and 9; Algorithms 2 and 3, lines 14 and 15)
+abbrev pub voting : ℕ → ℕ → Stored → Stored
+voting e p st = record { number = st .number; vote = e; leader = p; copies = st .copies }
+
+-- Algorithm 1, PLEASEVOTE of p under e: whether it is acknowledged, and what is stored then
+unfoldable pub grants : ℕ → ℕ → Stored → Bool
+grants e p st =
+    elim (ltb (st .vote) e) [
+      | true ↦ true
+      | false ↦
+          elim (eqb e (st .vote)) [ true ↦ eqb p (st .leader) | false ↦ false ]
+    ]
+
+unfoldable pub afterVote : ℕ → ℕ → Stored → Stored
+afterVote e p st = elim (ltb (st .vote) e) [ true ↦ voting e p st | false ↦ st ]
+
+-- what a round asks of a replica: its copy of the bucket, or to store a version
+pub data Request : Type 0 where
+  reading : Request
+  writing : Version → List Entry → Request
+
+unfoldable pub requestBody : Request → Body
+requestBody reading = replicaRead
+requestBody (writing v t) = replicaWrite v t
+
+-- Algorithms 2 and 3: a request under a number below the vote is refused
+unfoldable pub heeds : ℕ → Stored → Bool
+heeds e st = elim (ltb e (st .vote)) [ true ↦ false | false ↦ true ]
+
+-- document 01's addition: an accepted write is stored only if its version is above the stored one
+unfoldable pub storing : ℕ → Version → List Entry → Stored → Stored
+storing b v t st =
+    elim (above v (copyAt st b .version)) [
+      | false ↦ st
+      | true ↦
+          record {
+            number = st .number;
+            vote = st .vote;
+            leader = st .leader;
+            copies = set (st .copies) b (record { version = v; table = t });
+          }
+    ]
+
+-- an accepted request of p under e on bucket b: the vote is updated, and a write is stored
+unfoldable pub accepting : ℕ → ℕ → ℕ → Request → Stored → Stored
+accepting b e p reading st = voting e p st
+accepting b e p (writing v t) st = storing b v t (voting e p st)
+
+-- the replies to a request, made from what the replica stores afterwards
+unfoldable pub acknowledging : ℕ → Request → Stored → Body
+acknowledging b reading st = ackRead (copyAt st b .version) (copyAt st b .table)
+acknowledging b (writing v t) st = ackWrite
+
+unfoldable pub refusing : Request → Body
+refusing reading = nackRead
+refusing (writing v t) = nackWrite

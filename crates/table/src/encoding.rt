@@ -1,0 +1,121 @@
+// From a decoded table to bucket bytes.
+use entries::keys::key_length;
+use entries::keys::value_length;
+use entries::slots::count_of;
+use entries::Decoded;
+use entries::Key;
+use entries::Value;
+ghost use mathlib.Core.Path.{_≡_};
+ghost use mathlib.Core.List.{_∷_, [], _++_};
+ghost use Prim.Native.Nat.{_≤_, _+_, _-_, _*_};
+ghost use lib.ListN.{length, take, drop, replicate};
+ghost use lib.Seq.{sets};
+ghost use Rattle.entries.specs.Decoded.{keyBytes, valueBytes, tableIn};
+ghost use Rattle.table.specs.Form.{header, body, bucketBytes};
+ghost use Rattle.table.specs.Steps.{Bodied};
+
+fn put_four(out: &mut [u8], at: usize, a: u8, b: u8, c: u8, d: u8)
+    requires { ⌜ at + 4 ≤ length (now out) ⌝ }
+    ensures { λ _. ⌜ now (out .exit) ≡ sets (now (out .entry)) at (a ∷ (b ∷ (c ∷ (d ∷ [])))) ⌝ }
+{
+    out[at] = a;
+    out[at + 1] = b;
+    out[at + 2] = c;
+    out[at + 3] = d;
+}
+
+fn put_key(out: &mut [u8], at: usize, k: Key)
+    requires { ⌜ at + length (keyBytes k) ≤ length (now out) ⌝ }
+    ensures { λ _. ⌜ now (out .exit) ≡ sets (now (out .entry)) at (keyBytes k) ⌝ }
+{
+    let n = key_length(k);
+    let b = k.bytes;
+    let mut i = 0;
+    while i < n {
+        out[at + i] = b[i];
+        i += 1;
+    }
+}
+
+fn put_value(out: &mut [u8], at: usize, v: Value)
+    requires { ⌜ at + length (valueBytes v) ≤ length (now out) ⌝ }
+    ensures { λ _. ⌜ now (out .exit) ≡ sets (now (out .entry)) at (valueBytes v) ⌝ }
+{
+    let n = value_length(v);
+    let b = v.bytes;
+    let mut i = 0;
+    while i < n {
+        out[at + i] = b[i];
+        i += 1;
+    }
+}
+
+// Zeros from `from` up to `to`.
+fn put_zeros(out: &mut [u8], from: usize, to: usize)
+    requires { ⌜ (from ≤ to) × (to ≤ length (now out)) ⌝ }
+    ensures { λ _. ⌜ now (out .exit) ≡ sets (now (out .entry)) from (replicate (to - from) 0) ⌝ }
+{
+    let n = to - from;
+    let mut i = 0;
+    while i < n {
+        out[from + i] = 0;
+        i += 1;
+    }
+}
+
+// The offsets and lengths, from byte 1 on.
+fn put_header(out: &mut [u8], t: Decoded)
+    requires { ⌜ 17 ≤ length (now out) ⌝ }
+    ensures { λ _. ⌜ now (out .exit) ≡ sets (now (out .entry)) 1 (header (1 + 4 * length (tableIn t)) (tableIn t)) ⌝ }
+{
+    let n = count_of(t);
+    let slots = t.slots;
+    let mut at = 1 + 4 * n;
+    let mut i = 0;
+    while i < n {
+        let s = slots[i];
+        let key = s.key;
+        let value = s.value;
+        let k = key_length(key);
+        let v = value_length(value);
+        let mid = at + k;
+        put_four(out, 1 + 4 * i, at as u8, k as u8, mid as u8, v as u8);
+        at = mid + v;
+        i += 1;
+    }
+}
+
+// The keys and values, after the offsets and lengths. The answer is where they end.
+fn put_body(out: &mut [u8], t: Decoded) -> usize
+    requires { ⌜ 113 ≤ length (now out) ⌝ }
+    ensures { λ r. ⌜ Bodied (tableIn t) (now (out .entry)) (now (out .exit)) r ⌝ }
+{
+    let n = count_of(t);
+    let slots = t.slots;
+    let mut at = 1 + 4 * n;
+    let mut i = 0;
+    while i < n {
+        let s = slots[i];
+        let key = s.key;
+        let value = s.value;
+        let k = key_length(key);
+        let v = value_length(value);
+        put_key(out, at, key);
+        put_value(out, at + k, value);
+        at = at + k + v;
+        i += 1;
+    }
+    at
+}
+
+// The bucket form of a table, written over the first 113 bytes.
+pub fn encode(t: Decoded, out: &mut [u8])
+    requires { ⌜ 113 ≤ length (now out) ⌝ }
+    ensures { λ _. ⌜ now (out .exit) ≡ bucketBytes 4 16 (tableIn t) ++ drop 113 (now (out .entry)) ⌝ }
+{
+    let n = count_of(t);
+    out[0] = n as u8;
+    put_header(out, t);
+    let end = put_body(out, t);
+    put_zeros(out, end, 113);
+}

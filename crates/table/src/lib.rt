@@ -1,0 +1,3 @@
+// The bucket form of document 01: tables of up to four keys as 113 bytes, read, written, searched and changed.
+pub mod decoding;
+pub mod encoding;
