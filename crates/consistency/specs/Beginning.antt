@@ -101,11 +101,11 @@ module _ (n buckets now taken p b : ℕ) (half : n < 2 * majority n) {log : Log}
         call = record { line = now; begun = first-in; unended = fresh-unended }
       }
 
-  pub begin-kept : Kept n buckets now (suc taken) p takenLog (beginCall n p b i words s)
+  pub begin-kept : Kept n buckets now i p takenLog (beginCall n p b i words s)
   unfolding beginCall
   begin-kept =
       let w = s .volatile in
-      read-kept n buckets now (suc taken) p b half (begun-added ok taking next refl) taken-ready
+      read-kept n buckets now i p b half (subst (λ k. LogOk n now k takenLog) (sym next) (begun-added ok taking next refl)) taken-ready
       (λ e. chosen-grows (adds-begun log p taking .grows)
       (rest-of n log p (s .stored .number) b (copyAt (s .stored) b) (roundAt w b) (callAt w b) free (leader-of agrees leads .1 b) e))
       refl fresh-unwritten

@@ -28,7 +28,11 @@ pub mod Chain
 pub mod Replies
 pub mod Beginning
 pub mod Handling
+pub mod Good
+pub mod Steps
+pub mod Runs
 pub mod OneBucket
 pub mod BucketMembers
 pub mod BucketFacts
 pub mod BucketOrder
+pub mod Theorem

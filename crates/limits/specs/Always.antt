@@ -26,7 +26,7 @@ use Rattle.limits.specs.Rules.{cease-within, elect-within, beginCall-wit
 
 -- ---- what the tests of a line tell
 
-either-false : (x y : Bool) → either x y ≡ false → (x ≡ false) × (y ≡ false)
+pub either-false : (x y : Bool) → either x y ≡ false → (x ≡ false) × (y ≡ false)
 unfolding either
 either-false false y e = (refl, e)
 either-false true y e = let z : _≡_ {A = ℕ} 0 1 = cc in absurd (omega arith)
@@ -55,7 +55,7 @@ unfolding bucketOf
 bucketOf-less zero k h = absurd (omega arith)
 bucketOf-less (suc b) k h = mod-lt _ (omega arith)
 
-bucket-less : (c : Cluster) (w : Words) → 1 ≤ c .buckets → noBucketFor c w ≡ false → bucketFor (c .buckets) w < c .buckets
+pub bucket-less : (c : Cluster) (w : Words) → 1 ≤ c .buckets → noBucketFor c w ≡ false → bucketFor (c .buckets) w < c .buckets
 unfolding noBucketFor noBucket bucketFor
 bucket-less c (get k) h e = bucketOf-less (c .buckets) k h
 bucket-less c (set k v) h e = bucketOf-less (c .buckets) k h
@@ -63,7 +63,7 @@ bucket-less c (setif k x v) h e = bucketOf-less (c .buckets) k h
 bucket-less c (del k) h e = bucketOf-less (c .buckets) k h
 bucket-less c (keys i) h e = leb-false _ _ e
 
-server-there : (c : Cluster) (s : ℕ) → noServer c s ≡ false → s < length (c .servers)
+pub server-there : (c : Cluster) (s : ℕ) → noServer c s ≡ false → s < length (c .servers)
 unfolding noServer
 server-there c s e = leb-false _ _ e
 

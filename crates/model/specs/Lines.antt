@@ -197,21 +197,24 @@ wasted c kept copied =
       answers = [];
     }
 
+-- the step of the server that a message was handed to
+abbrev pub handed : Cluster → Message → List Message → ℕ → Reaction → Work
+handed c m kept copied r =
+    record {
+      cluster = stepped c (m .receiver) kept (c .calls) r;
+      sent = length (r .sends);
+      copied = copied;
+      delivered = 1;
+      lost = 0;
+      answers = r .answers;
+    }
+
 -- a message handed to its server, where one to a stopped server counts as lost; `kept` are the messages that stay
 unfoldable pub handing : Cluster → Message → List Message → ℕ → Work
 handing c m kept copied =
     elim (stoppedAt c (m .receiver)) [
       | true ↦ wasted c kept copied
-      | false ↦
-          let r = handle (length (c .servers)) (m .receiver) m (serverAt c (m .receiver)) in
-          record {
-            cluster = stepped c (m .receiver) kept (c .calls) r;
-            sent = length (r .sends);
-            copied = copied;
-            delivered = 1;
-            lost = 0;
-            answers = r .answers;
-          }
+      | false ↦ handed c m kept copied (handle (length (c .servers)) (m .receiver) m (serverAt c (m .receiver)))
     ]
 
 abbrev pub halted : Server → Server

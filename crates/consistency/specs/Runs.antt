@@ -1,0 +1,285 @@
+-- Every list of lines leaves a log whose calls and answers are those that are read off the script.
+use mathlib.Core.Path.{_≡_, refl, sym, _∙_, ap, subst}
+use mathlib.Core.Logic.{_⊎_, inl, inr}
+use mathlib.Core.List.{List, [], _∷_, _++_, map, List·Memᴰ·head, List·Memᴰ·tail, Memᴰ·append-left, Memᴰ·append-right, List·Memᴰ·append-cases, Memᴰ·map, Memᴰ·of-map}
+use mathlib.Core.Bool.{Bool, true, false}
+use mathlib.Core.Option.{Option, none, some}
+use Prim.Native.Nat.{ℕ, zero, suc, _+_, _≤_, _*_, _<_}
+use native.Mathlib.Omega.{arith}
+use native.Mathlib.Numerals.{add-one}
+use lib.ListN.{length, getD, replicate, length-replicate}
+use Rattle.model.specs.Measures.{majority}
+use Rattle.model.specs.Calls.{Words, bucketFor, Answer}
+use Rattle.model.specs.Cluster.{Copy, freshCopy, freshServer, freshCluster, Cluster, Round, Call, Message}
+use Rattle.model.specs.Lines.{Line, cluster, elect, call, deliver, copy, lose, timeout, stop, State, Tally, nothing, Outcome, refusal, printed, Stepped, Work, serverAt, messageAt, dropAt, stoppedAt, wasted, handed, handing, work, firstOf, conditions}
+use Rattle.model.specs.Leader.{handle}
+use Rattle.model.specs.Parse.{parse}
+use Rattle.model.specs.Run.{step, outcomes}
+use Rattle.history.specs.Members.{_∈_, none-in, each-append}
+use Rattle.limits.specs.Tally.{none-applies}
+use Rattle.limits.specs.Refusals.{ComesOut, turned, founded, took, comes-out}
+use Rattle.limits.specs.Always.{Measured, Stands, line-keeps-measures}
+use Rattle.consistency.specs.Statement.{Begin, End, Meaning, buckets, calling, other, meaning, beginsFrom, endsFrom}
+use Rattle.consistency.specs.Log.{Begun, Ended, Log, emptyLog, _⊆_}
+use Rattle.consistency.specs.Claims.{Holds}
+use Rattle.consistency.specs.Claims
+use Rattle.consistency.specs.Invariant.{LogOk, ServerOk}
+use Rattle.consistency.specs.Acts.{endsOf}
+use Rattle.consistency.specs.Extend.{later-line}
+use Rattle.consistency.specs.Good.{Good}
+use Rattle.consistency.specs.Steps.{begunBy, LineGood, majority-half, line-good}
+
+-- ---- the fresh cluster
+
+empty-log-ok : (n now : ℕ) → LogOk n now 0 emptyLog
+empty-log-ok n now =
+    record {
+      votes = record { one-vote = λ x y m. none-in m; quorate = λ x m. none-in m; voted = λ x m. none-in m };
+      writes =
+        record {
+          unique = λ w x m. none-in m; positive = λ w m. none-in m; origin = λ w m. none-in m; succeeds = λ w m. none-in m;
+          won = λ w m. none-in m; once = λ w x m. none-in m
+        };
+      rounds =
+        record {
+          won = λ o m. none-in m; unique = λ o p m. none-in m; reported = λ r m. none-in m; bounded = λ r m. none-in m;
+          accepted = λ a m. none-in m; promised = λ a r m. none-in m; newest = λ o m. none-in m; written = λ o m. none-in m;
+          looks-at = λ o m. none-in m; under = λ o m. none-in m; unseated = λ r o x m. none-in m
+        };
+      calls =
+        record {
+          begun-once = λ x y m. none-in m; in-turn = λ x y m. none-in m; ended-once = λ x y m. none-in m; ended-begun = λ x m. none-in m;
+          written-before = λ x m. none-in m; justified = λ x m. none-in m; confirmed = λ c m. none-in m
+        };
+      time =
+        record {
+          wins = λ x m. none-in m; writes = λ x m. none-in m; rounds = λ x m. none-in m; begins = λ x m. none-in m;
+          ends = λ x m. none-in m; numbers = λ x m. none-in m
+        }
+    }
+
+all-alike : {A : Type 0} (a : A) (n k : ℕ) → getD (replicate n a) k a ≡ a
+all-alike a zero k = refl
+all-alike a (suc n) zero = refl
+all-alike a (suc n) (suc k) = all-alike a n k
+
+fresh-server-ok : (n b p : ℕ) → ServerOk n b emptyLog p (freshServer n b)
+unfolding freshServer
+fresh-server-ok n b p =
+    record {
+      shape = record { copies = length-replicate b _; votes = length-replicate n _; rounds = length-replicate b _; calls = length-replicate b _ };
+      stored =
+        record {
+          number = omega arith;
+          votes = λ x m. none-in m;
+          voted = λ l. absurd (omega arith);
+          wins = λ x m. none-in m;
+          copies = λ k. rw (all-alike freshCopy b k) (Claims.Holds.first refl refl, omega arith);
+          accepts = λ x m. none-in m;
+          reports = λ x m. none-in m
+        };
+      numbered = λ o m. none-in m;
+      role = λ k. (all-alike {A = Option Round} none b k, all-alike {A = Option Call} none b k)
+    }
+
+at-replicate : {A : Type 0} (P : A → Type 0) (a d : A) (n k : ℕ) → k < n → P a → P (getD (replicate n a) k d)
+at-replicate P a d zero k h x = absurd (omega arith)
+at-replicate P a d (suc n) zero h x = x
+at-replicate P a d (suc n) (suc k) h x = at-replicate P a d n k (omega arith) x
+
+fresh-good : (n b now : ℕ) → Good now (freshCluster n b) emptyLog
+unfolding freshCluster
+fresh-good n b now =
+    record {
+      facts = empty-log-ok _ now;
+      servers = rw (length-replicate n (freshServer n b)) (λ p h. at-replicate (ServerOk n b emptyLog p) (freshServer n b) _ n p h (fresh-server-ok n b p));
+      messages = λ m i. none-in i
+    }
+
+-- ---- what is read off the script is what the log has
+
+abbrev pub beginOf : Begun → Begin
+beginOf y = record { number = y .number; words = y .words; bucket = y .bucket; line = y .line }
+
+abbrev pub endOf : Ended → End
+endOf y = record { number = y .number; result = y .result; line = y .line }
+
+pub record Match (bs : List Begin) (es : List End) (log : Log) : Type 0 where
+  pub begun : bs ⊆ map beginOf (log .begins)
+  pub begins : map beginOf (log .begins) ⊆ bs
+  pub ended : es ⊆ map endOf (log .ends)
+  pub ends : map endOf (log .ends) ⊆ es
+
+regroup-to : {A : Type 0} (a r x : List A) → ((a ++ r) ++ x) ⊆ (r ++ (a ++ x))
+regroup-to a r x =
+    each-append (a ++ r)
+    (each-append a (λ y m. Memᴰ·append-right r (Memᴰ·append-left x m)) (λ y m. Memᴰ·append-left (a ++ x) m))
+    (λ y m. Memᴰ·append-right r (Memᴰ·append-right a m))
+
+regroup-from : {A : Type 0} (a r x : List A) → (r ++ (a ++ x)) ⊆ ((a ++ r) ++ x)
+regroup-from a r x =
+    each-append r (λ y m. Memᴰ·append-left x (Memᴰ·append-right a m))
+    (each-append a (λ y m. Memᴰ·append-left x (Memᴰ·append-left r m)) (λ y m. Memᴰ·append-right (a ++ r) m))
+
+match-regroup : (a r x : List Begin) (d s y : List End) {log : Log} → Match (r ++ (a ++ x)) (s ++ (d ++ y)) log → Match ((a ++ r) ++ x) ((d ++ s) ++ y) log
+match-regroup a r x d s y h =
+    record {
+      begun = λ z m. h .begun z (regroup-to a r x z m);
+      begins = λ z m. regroup-from a r x z (h .begins z m);
+      ended = λ z m. h .ended z (regroup-to d s y z m);
+      ends = λ z m. regroup-from d s y z (h .ends z m)
+    }
+
+-- ---- one line
+
+map-append : {A B : Type 0} (f : A → B) (k l : List A) → map f (k ++ l) ≡ map f k ++ map f l
+map-append f [] l = refl
+map-append f (a ∷ k) l = ap (λ r. f a ∷ r) (map-append f k l)
+
+abbrev endIn : ℕ → Answer → End
+endIn now a = record { number = a .call; result = a .result; line = now }
+
+ends-read : (now : ℕ) (out : List Answer) → map endOf (endsOf now out) ≡ map (endIn now) out
+ends-read now [] = refl
+ends-read now (a ∷ out) = ap (λ r. endIn now a ∷ r) (ends-read now out)
+
+append-mono : {A : Type 0} (k : List A) {l m : List A} → l ⊆ m → (k ++ l) ⊆ (k ++ m)
+append-mono k f = each-append k (λ x i. Memᴰ·append-left _ i) (λ x i. Memᴰ·append-right k (f x i))
+
+mapped : {A B : Type 0} (f : A → B) (k l : List A) → k ⊆ l → map f k ⊆ map f l
+mapped f k l h x m = let (a, i, e) = Memᴰ·of-map f k m in subst (λ y. y ∈ map f l) e (Memᴰ·map f (h a i))
+
+-- what a line began and printed is read off it
+line-matches : {now : ℕ} {c : Cluster} {log : Log} {l : Line} (g : LineGood now c log l) {bs : List Begin} {es : List End} → Match bs es log
+    → Match (map beginOf (begunBy now c l) ++ bs) (map (endIn now) (work c l .answers) ++ es) (g .next)
+line-matches {now} {c} {log} {l} g h =
+    let out = work c l .answers in
+    let e : map beginOf (g .next .begins) ≡ map beginOf (begunBy now c l) ++ map beginOf (log .begins) = ap (map beginOf) (g .begins) ∙ map-append beginOf (begunBy now c l) (log .begins) in
+    let f : map endOf (endsOf now out ++ log .ends) ≡ map (endIn now) out ++ map endOf (log .ends) =
+          map-append endOf (endsOf now out) (log .ends) ∙ ap (λ r. r ++ map endOf (log .ends)) (ends-read now out) in
+    record {
+      begun = rw e (append-mono (map beginOf (begunBy now c l)) (h .begun));
+      begins = rw e (append-mono (map beginOf (begunBy now c l)) (h .begins));
+      ended = λ x m. mapped endOf (endsOf now out ++ log .ends) (g .next .ends) (λ y i. g .ends y .1 i) x (rw f (append-mono (map (endIn now) out) (h .ended) x m));
+      ends = λ x m. append-mono (map (endIn now) out) (h .ends) x (rw f at (mapped endOf (g .next .ends) (endsOf now out ++ log .ends) (λ y i. g .ends y .0 i) x m))
+    }
+
+-- how many calls there are after a line, and of how many buckets
+handing-keeps : (c : Cluster) (m : Message) (kept : List Message) (copied : ℕ)
+    → (handing c m kept copied .cluster .calls ≡ c .calls) × (handing c m kept copied .cluster .buckets ≡ c .buckets)
+unfolding handing
+handing-keeps c m kept copied =
+    elim (stoppedAt c (m .receiver)) as
+    (λ t.
+      let w = elim t as (λ _. Work) [ true ↦ wasted c kept copied | false ↦ handed c m kept copied (handle (length (c .servers)) (m .receiver) m (serverAt c (m .receiver))) ] in
+      (w .cluster .calls ≡ c .calls) × (w .cluster .buckets ≡ c .buckets))
+    [ true ↦ (refl, refl) | false ↦ (refl, refl) ]
+
+-- an accepted line of a cluster that stands is read as what it began
+line-read : (now : ℕ) (c : Cluster) (l : List ℕ) (x : Line) (ls : List (List ℕ)) (out : List Answer) (os : List Outcome)
+    → parse l ≡ some x → firstOf (conditions c x) ≡ none
+    → beginsFrom now (c .calls) (c .buckets) (l ∷ ls) (printed out ∷ os)
+      ≡ map beginOf (begunBy now c x) ++ beginsFrom (now + 1) (work c x .cluster .calls) (work c x .cluster .buckets) ls os
+unfolding beginsFrom begunBy work meaning conditions firstOf
+line-read now c l (cluster n b) ls out os e f = let z : _≡_ {A = ℕ} 0 1 = cc in absurd (omega arith)
+line-read now c l (elect s) ls out os e f = rw (beginsFrom, e)
+line-read now c l (call s w) ls out os e f = rw (beginsFrom, e)
+line-read now c l (deliver i) ls out os e f =
+    let k = handing-keeps c (messageAt c i) (dropAt i (c .messages)) 0 in rw (beginsFrom, e, k .0, k .1)
+line-read now c l (copy i) ls out os e f = let k = handing-keeps c (messageAt c i) (c .messages) 1 in rw (beginsFrom, e, k .0, k .1)
+line-read now c l (lose i) ls out os e f = rw (beginsFrom, e)
+line-read now c l (timeout s b) ls out os e f = rw (beginsFrom, e)
+line-read now c l (stop s) ls out os e f = rw (beginsFrom, e)
+
+-- ---- every list of lines
+
+-- before the cluster line nothing is logged; after it the cluster agrees with the log
+abbrev RunOk : ℕ → Option Cluster → ℕ → ℕ → Log → Type 0
+RunOk now none count b log = (log ≡ emptyLog) × (count ≡ 0)
+RunOk now (some c) count b log = Good now c log × (count ≡ c .calls) × (b ≡ c .buckets)
+
+-- a log whose facts hold and which has what was read off
+pub record Ran (bs : List Begin) (es : List End) : Type 0 where
+  pub log : Log
+  pub servers : ℕ
+  pub now : ℕ
+  pub taken : ℕ
+  pub half : servers < 2 * majority servers
+  pub facts : LogOk servers now taken log
+  pub same : Match bs es log
+
+-- what is shown of the lines that are left, whatever came before
+abbrev Goes : List (List ℕ) → Type 0
+Goes ls =
+    (now count b : ℕ) (s : State) (log : Log) (bs : List Begin) (es : List End)
+    → Measured (s .cluster) (s .tally) → RunOk now (s .cluster) count b log → Match bs es log
+    → Ran (beginsFrom (now + 1) count b ls (outcomes s ls) ++ bs) (endsFrom (now + 1) (outcomes s ls) ++ es)
+
+ran-none : (now count b : ℕ) (o : Option Cluster) (t : Tally) (log : Log) (bs : List Begin) (es : List End) → Measured o t → RunOk now o count b log → Match bs es log → Ran bs es
+ran-none now count b none t log bs es m (e, f) same =
+    record { log = log; servers = 1; now = 0; taken = 0; half = majority-half 1 (omega arith) (omega arith); facts = rw e (empty-log-ok 1 0); same = same }
+ran-none now count b (some c) t log bs es m g same =
+    record {
+      log = log;
+      servers = length (c .servers);
+      now = now;
+      taken = c .calls;
+      half = majority-half _ (omega (arith, m .within .size, m .someServers)) (omega (arith, m .within .size, m .fewServers));
+      facts = g .0 .facts;
+      same = same
+    }
+
+-- a line later nothing has changed
+later-good : {now : ℕ} {c : Cluster} {log : Log} → Good now c log → Good (now + 1) c log
+later-good {now} {c} {log} g = record { facts = rw add-one (later-line (g .facts)); servers = g .servers; messages = g .messages }
+
+later-run : (now count b : ℕ) (o : Option Cluster) (log : Log) → RunOk now o count b log → RunOk (now + 1) o count b log
+later-run now count b none log h = h
+later-run now count b (some c) log g = (later-good (g .0), g .1, g .2)
+
+ran-regroup : (a r x : List Begin) (d q y : List End) → Ran (r ++ (a ++ x)) (q ++ (d ++ y)) → Ran ((a ++ r) ++ x) ((d ++ q) ++ y)
+ran-regroup a r x d q y h =
+    record { log = h .log; servers = h .servers; now = h .now; taken = h .taken; half = h .half; facts = h .facts; same = match-regroup a r x d q y (h .same) }
+
+module _ (ls : List (List ℕ)) (goes : Goes ls) (l : List ℕ) (now count b : ℕ) (s : State) (log : Log) (bs : List Begin) (es : List End)
+    (m : Measured (s .cluster) (s .tally)) (h : RunOk now (s .cluster) count b log) (same : Match bs es log) where
+  -- what is to be shown, for how the line comes out
+  abbrev After : Stepped → Type 0
+  After x =
+      Ran (beginsFrom (now + 1) count b (l ∷ ls) (x .outcome ∷ outcomes (x .state) ls) ++ bs)
+      (endsFrom (now + 1) (x .outcome ∷ outcomes (x .state) ls) ++ es)
+
+  took-goes : (c : Cluster) (x : Line) → parse l ≡ some x → s .cluster ≡ some c → firstOf (conditions c x) ≡ none → (t : State) → t .cluster ≡ some (work c x .cluster)
+      → Measured (t .cluster) (t .tally) → After (record { state = t; outcome = printed (work c x .answers) })
+  unfolding endsFrom
+  took-goes c x p e f t i n =
+      let k = subst (λ o. RunOk now o count b log) e h in
+      let w = subst (λ o. Measured o (s .tally)) e m in
+      let g = line-good w (later-good (k .0)) x (none-applies (conditions c x) f) in
+      let out = work c x .answers in
+      let a = map beginOf (begunBy (now + 1) c x) in
+      let d = map (endIn (now + 1)) out in
+      let r = goes (now + 1) (work c x .cluster .calls) (work c x .cluster .buckets) t (g .next) (a ++ bs) (d ++ es) n
+            (subst (λ o. RunOk (now + 1) o (work c x .cluster .calls) (work c x .cluster .buckets) (g .next)) (sym i) (g .good, refl, refl)) (line-matches g same) in
+      let read = line-read (now + 1) c l x ls out (outcomes t ls) p f in
+      rw (k .1, k .2, read) (ran-regroup a _ bs d _ es r)
+
+  founded-goes : (n k : ℕ) → parse l ≡ some (cluster n k) → s .cluster ≡ none → (t : State) → t .cluster ≡ some (freshCluster n k)
+      → Measured (t .cluster) (t .tally) → After (record { state = t; outcome = printed [] })
+  unfolding beginsFrom endsFrom meaning freshCluster
+  founded-goes n k p e t i w =
+      let f = subst (λ o. RunOk now o count b log) e h in
+      rw (beginsFrom, p)
+      (goes (now + 1) count k t log bs es w (subst (λ o. RunOk (now + 1) o count k log) (sym i) (rw (f .0) (fresh-good n k (now + 1)), f .1, refl)) same)
+
+  line-goes : (x : Stepped) → ComesOut s (parse l) x → Measured (x .state .cluster) (x .state .tally) → After x
+  unfolding beginsFrom endsFrom
+  line-goes x (turned r low high) w = goes (now + 1) count b s log bs es m (later-run now count b (s .cluster) log h) same
+  line-goes x (founded n k p u v e) w = founded-goes n k p e _ refl w
+  line-goes x (took c y p e f room) w = took-goes c y p e f _ refl w
+
+pub run-goes : (ls : List (List ℕ)) → Goes ls
+unfolding beginsFrom endsFrom outcomes
+run-goes [] now count b s log bs es m h same = ran-none now count b (s .cluster) (s .tally) log bs es m h same
+run-goes (l ∷ ls) now count b s log bs es m h same =
+    line-goes ls (run-goes ls) l now count b s log bs es m h same (step s l) (comes-out s l) (line-keeps-measures s (parse l) (step s l) (comes-out s l) m)

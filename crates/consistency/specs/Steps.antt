@@ -1,0 +1,203 @@
+-- Every accepted line keeps the cluster in agreement with a log that grows by what the line began and printed.
+use mathlib.Core.Path.{_≡_, refl, sym, _∙_, ap, subst}
+use mathlib.Core.Logic.{_⊎_, inl, inr, _≢_}
+use mathlib.Core.List.{List, [], _∷_, _++_, List·Memᴰ·head, List·Memᴰ·tail, Memᴰ·append-left, Memᴰ·append-right, List·Memᴰ·append-cases}
+use mathlib.Core.Bool.{Bool, true, false, not}
+use mathlib.Core.Option.{Option, none, some}
+use Prim.Native.Nat.{ℕ, zero, suc, _+_, _≤_, _*_, _<_}
+use native.Mathlib.Omega.{arith}
+use native.Mathlib.Numerals.{add-one}
+use lib.ListN.{length, getD, set, take, drop, take-append-drop}
+use Rattle.model.specs.Measures.{majority, maxServers}
+use Rattle.model.specs.Calls.{Words, bucketFor}
+use Rattle.model.specs.Cluster.{Role, follower, candidate, leading, Server, Message, Cluster, Call, callAt, nackVote, freshServer}
+use Rattle.model.specs.Leader.{Reaction, cease, handle}
+use Rattle.model.specs.Leader
+use Rattle.model.specs.Lines.{Line, cluster, elect, call, deliver, copy, lose, timeout, stop, Tally, Condition, firstOf, conditions, serverAt, messageAt, dropAt, stoppedAt, isLeading, present, byLine, wasted, handed, handing, halted, Work, work}
+use Rattle.history.specs.Members.{_∈_, none-in, each-append}
+use Rattle.limits.specs.Lists.{All, nil, cons, all-at}
+use Rattle.limits.specs.Tally.{none-applies, message-there}
+use Rattle.limits.specs.Always.{Stands, either-false, server-there, bucket-less}
+use Rattle.consistency.specs.Log.{Begun, Ended, Log, _⊆_}
+use Rattle.consistency.specs.Claims.{MessageOk}
+use Rattle.consistency.specs.Invariant.{LogOk, ServerOk}
+use Rattle.consistency.specs.Growth.{adds-refl}
+use Rattle.consistency.specs.Acts.{endsOf, Kept}
+use Rattle.consistency.specs.Added.{adds-begun}
+use Rattle.consistency.specs.Chaining.{unmoved}
+use Rattle.consistency.specs.Ceasing.{cease-kept, as-unsettled}
+use Rattle.consistency.specs.Electing.{elect-kept}
+use Rattle.consistency.specs.Beginning.{taking, begin-kept}
+use Rattle.consistency.specs.Handling.{handle-kept}
+use Rattle.consistency.specs.Good.{Good, stepped-good}
+
+-- the call that a line begins
+unfoldable pub begunBy : ℕ → Cluster → Line → List Begun
+begunBy now c (cluster n b) = []
+begunBy now c (elect s) = []
+begunBy now c (call s w) = record { number = c .calls + 1; server = s; bucket = bucketFor (c .buckets) w; words = w; line = now } ∷ []
+begunBy now c (deliver i) = []
+begunBy now c (copy i) = []
+begunBy now c (lose i) = []
+begunBy now c (timeout s b) = []
+begunBy now c (stop s) = []
+
+pub record LineGood (now : ℕ) (c : Cluster) (log : Log) (l : Line) : Type 0 where
+  pub next : Log
+  pub good : Good now (work c l .cluster) next
+  pub begins : next .begins ≡ begunBy now c l ++ log .begins
+  pub ends : (x : Ended) → (x ∈ next .ends → x ∈ (endsOf now (work c l .answers) ++ log .ends)) × (x ∈ (endsOf now (work c l .answers) ++ log .ends) → x ∈ next .ends)
+
+-- any two majorities of 1 to 7 servers share one
+pub majority-half : (n : ℕ) → 1 ≤ n → n ≤ maxServers → n < 2 * majority n
+unfolding majority
+majority-half zero l h = absurd (omega arith)
+majority-half (suc zero) l h = omega arith
+majority-half (suc (suc zero)) l h = omega arith
+majority-half (suc (suc (suc zero))) l h = omega arith
+majority-half (suc (suc (suc (suc zero)))) l h = omega arith
+majority-half (suc (suc (suc (suc (suc zero))))) l h = omega arith
+majority-half (suc (suc (suc (suc (suc (suc zero)))))) l h = omega arith
+majority-half (suc (suc (suc (suc (suc (suc (suc zero))))))) l h = omega arith
+majority-half (suc (suc (suc (suc (suc (suc (suc (suc n)))))))) l h = absurd (omega arith)
+
+-- ---- what the tests of a line tell
+
+pub leads-if : (r : Role) → not (isLeading r) ≡ false → r ≡ leading
+unfolding isLeading
+leads-if follower e = cc
+leads-if candidate e = cc
+leads-if leading e = refl
+
+free-if : (o : Option Call) → present o ≡ false → o ≡ none
+unfolding present
+free-if none e = refl
+free-if (some c) e = cc
+
+message-in : (l : List Message) (i : ℕ) (d : Message) → i < length l → getD l i d ∈ l
+message-in [] i d h = absurd (omega arith)
+message-in (m ∷ l) zero d h = List·Memᴰ·head refl
+message-in (m ∷ l) (suc i) d h = List·Memᴰ·tail (message-in l i d (omega arith))
+
+take-sub : (n : ℕ) (l : List Message) → take n l ⊆ l
+take-sub zero l m i = none-in i
+take-sub (suc n) [] m i = none-in i
+take-sub (suc n) (x ∷ l) m (List·Memᴰ·head e) = List·Memᴰ·head e
+take-sub (suc n) (x ∷ l) m (List·Memᴰ·tail k) = List·Memᴰ·tail (take-sub n l m k)
+
+drop-sub : (n : ℕ) (l : List Message) → drop n l ⊆ l
+drop-sub zero l m i = i
+drop-sub (suc n) [] m i = i
+drop-sub (suc n) (x ∷ l) m i = List·Memᴰ·tail (drop-sub n l m i)
+
+dropped-sub : (i : ℕ) (l : List Message) → dropAt i l ⊆ l
+dropped-sub i l = each-append (take i l) (take-sub i l) (drop-sub (i + 1) l)
+
+handing-live : (c : Cluster) (m : Message) (still : List Message) (copied : ℕ) → stoppedAt c (m .receiver) ≡ false
+    → handing c m still copied ≡ handed c m still copied (handle (length (c .servers)) (m .receiver) m (serverAt c (m .receiver)))
+unfolding handing
+handing-live c m still copied e = rw (handing, e)
+
+handing-stopped : (c : Cluster) (m : Message) (still : List Message) (copied : ℕ) → stoppedAt c (m .receiver) ≡ true → handing c m still copied ≡ wasted c still copied
+unfolding handing
+handing-stopped c m still copied e = rw (handing, e)
+
+-- ---- the lines
+
+module _ {now : ℕ} {c : Cluster} {log : Log} {t : Tally} (stands : Stands c t) (good : Good now c log) where
+  half : length (c .servers) < 2 * majority (length (c .servers))
+  half = majority-half (length (c .servers)) (omega (arith, stands .within .size, stands .someServers)) (omega (arith, stands .within .size, stands .fewServers))
+
+  -- a step of server s that the line brings about
+  by-line : (s : ℕ) → s < length (c .servers) → {r : Reaction} (kept : Kept (length (c .servers)) (c .buckets) now (c .calls) s log r)
+      → Good now (byLine c s (c .calls) r .cluster) (kept .next)
+  by-line s h kept = stepped-good half good s h (adds-refl s log) kept (c .messages) (λ m i. i)
+
+  elect-good : (s : ℕ) → s < length (c .servers) → LineGood now c log (elect s)
+  unfolding work begunBy
+  elect-good s h =
+      let k = elect-kept (length (c .servers)) (c .buckets) now (c .calls) half s log (good .facts) (serverAt c s) (good .servers s h) in
+      record { next = k .next; good = by-line s h k; begins = k .begins; ends = k .ends }
+
+  timeout-good : (s b : ℕ) → s < length (c .servers) → LineGood now c log (timeout s b)
+  unfolding work begunBy
+  timeout-good s b h =
+      let k = cease-kept (length (c .servers)) (c .buckets) now (c .calls) s log (good .facts) (serverAt c s) (as-unsettled (good .servers s h)) in
+      record { next = k .next; good = by-line s h k; begins = k .begins; ends = k .ends }
+
+  stop-good : (s : ℕ) → s < length (c .servers) → LineGood now c log (stop s)
+  unfolding work begunBy
+  stop-good s h =
+      let old = good .servers s h in
+      let same : ServerOk (length (c .servers)) (c .buckets) log s (halted (serverAt c s)) =
+            record {
+              shape = record { copies = old .shape .copies; votes = old .shape .votes; rounds = old .shape .rounds; calls = old .shape .calls };
+              stored = old .stored; numbered = old .numbered; role = old .role
+            } in
+      let k : Kept (length (c .servers)) (c .buckets) now (c .calls) s log _ = unmoved (good .facts) same [] (λ x i. none-in i) in
+      record { next = k .next; good = by-line s h k; begins = k .begins; ends = k .ends }
+
+  call-good : (s : ℕ) (w : Words) → s < length (c .servers) → bucketFor (c .buckets) w < c .buckets
+      → serverAt c s .volatile .role ≡ leading → callAt (serverAt c s .volatile) (bucketFor (c .buckets) w) ≡ none → LineGood now c log (call s w)
+  unfolding work begunBy
+  call-good s w h inside leads free =
+      let b = bucketFor (c .buckets) w in
+      let k = begin-kept (length (c .servers)) (c .buckets) now (c .calls) s b half (good .facts) (good .servers s h) leads inside free (c .calls + 1) (add-one (c .calls)) w in
+      record {
+        next = k .next;
+        good = stepped-good half good s h (adds-begun log s _) k (c .messages) (λ m i. i);
+        begins = k .begins;
+        ends = k .ends
+      }
+
+  -- a message that goes nowhere
+  wasted-good : (l : Line) (still : List Message) (copied : ℕ) → still ⊆ c .messages → work c l ≡ wasted c still copied → begunBy now c l ≡ [] → LineGood now c log l
+  wasted-good l still copied sub e f =
+      record {
+        next = log;
+        good =
+          rw e
+          (record { facts = good .facts; servers = good .servers; messages = λ m i. good .messages m (sub m i) });
+        begins = rw f;
+        ends = λ x. rw e (λ m. m, λ m. m)
+      }
+
+  -- a message that is handed to its server
+  handed-good : (l : Line) (m : Message) (still : List Message) (copied : ℕ) → m ∈ c .messages → m .receiver < length (c .servers) → still ⊆ c .messages
+      → work c l ≡ handing c m still copied → begunBy now c l ≡ [] → LineGood now c log l
+  handed-good l m still copied there h sub e f = go (stoppedAt c (m .receiver)) refl
+    where
+      go : (t : Bool) → stoppedAt c (m .receiver) ≡ t → LineGood now c log l
+      go true i = wasted-good l still copied sub (e ∙ handing-stopped c m still copied i) f
+      go false i =
+          let k = handle-kept (length (c .servers)) (c .buckets) now (c .calls) half (good .facts) m (good .servers (m .receiver) h) (good .messages m there) in
+          let g : work c l ≡ handed c m still copied _ = e ∙ handing-live c m still copied i in
+          record {
+            next = k .next;
+            good = rw g (stepped-good half good (m .receiver) h (adds-refl (m .receiver) log) k still sub);
+            begins = rw f (k .begins);
+            ends = rw g (k .ends)
+          }
+
+  at-place : (i : ℕ) → i < length (c .messages) → (messageAt c i ∈ c .messages) × (messageAt c i .receiver < length (c .servers))
+  at-place i h =
+      let w = stands .within in
+      let r : messageAt c i .receiver < stands .servers = all-at i _ h (w .messages) .receiver in
+      (message-in (c .messages) i _ h, omega (arith, w .size))
+
+  pub line-good : (l : Line) → All (λ x. x .applies ≡ false) (conditions c l) → LineGood now c log l
+  unfolding conditions work begunBy
+  line-good (cluster x y) (cons p nil) = let z : _≡_ {A = ℕ} 0 1 = cc in absurd (omega arith)
+  line-good (elect s) (cons e h) = elect-good s (server-there c s e)
+  line-good (call s w) (cons e (cons f (cons g (cons h (cons i (cons j nil)))))) =
+      let (x, y) = either-false _ _ e in
+      call-good s w (server-there c s x) (bucket-less c w (omega (arith, stands .within .buckets, stands .someBuckets)) y) (leads-if _ i) (free-if _ j)
+  line-good (deliver i) (cons e (cons f nil)) =
+      let (there, h) = at-place i (message-there c i f) in
+      handed-good (deliver i) (messageAt c i) (dropAt i (c .messages)) 0 there h (dropped-sub i (c .messages)) refl refl
+  line-good (copy i) (cons e (cons f nil)) =
+      let (there, h) = at-place i (message-there c i f) in
+      handed-good (copy i) (messageAt c i) (c .messages) 1 there h (λ m k. k) refl refl
+  line-good (lose i) h = wasted-good (lose i) (dropAt i (c .messages)) 0 (dropped-sub i (c .messages)) refl refl
+  line-good (timeout s b) (cons e h) = timeout-good s b (server-there c s (either-false _ _ e .0))
+  line-good (stop s) (cons e h) = stop-good s (server-there c s e)
