@@ -1,0 +1,12 @@
+//! The Bizur cluster bench of document 01 in plain Rust: an independent
+//! program to compare another one with, byte for byte and in speed.
+
+#![forbid(unsafe_code)]
+
+pub mod bucket;
+pub mod cluster;
+pub mod datagram;
+pub mod hash;
+pub mod refusal;
+pub mod script;
+pub mod scripts;

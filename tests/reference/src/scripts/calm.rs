@@ -1,0 +1,163 @@
+//! Scripts in which most calls complete: long ones, one for measuring speed,
+//! and the two that reach a limit.
+
+use super::maker::Maker;
+use crate::script::MOST_ACCEPTED;
+
+/// Shares out of 100,000 lines; what is left over are calls and deliveries.
+struct Calm {
+    copies: usize,
+    losses: usize,
+    elections: usize,
+    timeouts: usize,
+    stops: usize,
+    /// Messages under way at which no further call is made.
+    fill: usize,
+}
+
+impl Maker {
+    pub fn long(&mut self, lines: usize) {
+        let size = self.random.within(1, 7);
+        let buckets = self.random.within(1, 8);
+        self.form(size, buckets);
+        let calm = Calm {
+            copies: self.random.within(0, 3000),
+            losses: self.random.within(0, 1000),
+            elections: self.random.within(0, 200),
+            timeouts: self.random.within(0, 100),
+            stops: 2,
+            fill: self.random.within(6, 40),
+        };
+        for _ in 0..lines {
+            let line = self.calm_line(&calm);
+            self.add(line);
+        }
+    }
+
+    /// Two of the five servers stop on the way; a majority always runs.
+    pub fn speed(&mut self, lines: usize) {
+        self.form(5, 8);
+        let mut calm = Calm {
+            copies: 1000,
+            losses: 300,
+            elections: 50,
+            timeouts: 20,
+            stops: 0,
+            fill: 15,
+        };
+        let mut stops = [lines * 7 / 10, lines * 9 / 10].into_iter().peekable();
+        let mut accepted = 0;
+        while accepted < lines {
+            let line = if stops.next_if(|&at| at <= accepted).is_some() {
+                calm.losses /= 4;
+                self.stop_follower()
+            } else {
+                self.calm_line(&calm)
+            };
+            accepted += usize::from(self.add_accepted(line));
+        }
+    }
+
+    fn stop_follower(&mut self) -> String {
+        let leaders = self.leaders();
+        let running = self.servers(|_| true);
+        let follower = running.iter().find(|server| !leaders.contains(server));
+        format!("stop {}", follower.unwrap_or(&running[0]))
+    }
+
+    fn calm_line(&mut self, calm: &Calm) -> String {
+        let count = self.under_way();
+        let place = match self.random.chance(800) {
+            true => 0,
+            false => self.random.below(count.max(1)),
+        };
+        let mut draw = self.random.below(100_000);
+        let shares = [
+            calm.copies,
+            calm.losses,
+            calm.elections,
+            calm.timeouts,
+            calm.stops,
+        ];
+        for (choice, share) in shares.into_iter().enumerate() {
+            if draw < share {
+                return self.calm_choice(choice, place);
+            }
+            draw -= share;
+        }
+        self.calm_work(calm.fill, place)
+    }
+
+    fn calm_choice(&mut self, choice: usize, place: usize) -> String {
+        match choice {
+            0 => format!("copy {place}"),
+            1 => format!("lose {place}"),
+            2 => format!("elect {}", self.heard_server()),
+            3 => self.timeout(),
+            _ => format!("stop {}", self.random.below(self.cluster().size())),
+        }
+    }
+
+    /// A call where one is free, otherwise a delivery.
+    fn calm_work(&mut self, fill: usize, place: usize) -> String {
+        let leader = self.leaders().last().copied();
+        let count = self.under_way();
+        let threshold = self.random.below(fill);
+        if count <= threshold {
+            if let Some(line) = leader.and_then(|leader| self.free_call(leader)) {
+                return line;
+            }
+        }
+        if count > 0 {
+            return format!("deliver {place}");
+        }
+        match leader {
+            Some(_) => self.timeout(),
+            None => self.towards_leader(),
+        }
+    }
+
+    /// A running server whose next number is not below its vote.
+    fn heard_server(&mut self) -> usize {
+        let heard = self.servers(|server| server.number.saturating_add(1) >= server.vote);
+        match heard.is_empty() {
+            true => self.likely_winner().unwrap_or(0),
+            false => *self.random.pick(&heard),
+        }
+    }
+
+    pub fn elections(&mut self, lines: usize) {
+        let size = self.random.within(1, 3);
+        self.form(size, 2);
+        for _ in 0..lines {
+            let count = self.under_way();
+            let line = match self.random.below(100) {
+                0..=1 => self.timeout(),
+                2..=4 => self.any_call(0),
+                5..=20 if count > 0 => format!("deliver {}", self.random.below(count)),
+                _ if count > 50 || (count > 4 && self.random.chance(450)) => "lose 0".to_string(),
+                _ if self.random.chance(900) => "elect 0".to_string(),
+                _ => format!("elect {}", self.random.below(size)),
+            };
+            self.add(line);
+        }
+    }
+
+    /// One server completes every call in its line, so 1,000,000 accepted
+    /// lines are reached quickly.
+    pub fn limit(&mut self, lines: usize) {
+        let buckets = self.random.within(1, 8);
+        self.form(1, buckets);
+        self.add("elect 0");
+        while self.script.accepted() < MOST_ACCEPTED {
+            match self.random.chance(10) {
+                true => self.add("elect 0"),
+                false => match self.free_call(0) {
+                    Some(line) => self.add(line),
+                    None => self.add("get 0 61"),
+                },
+            };
+        }
+        self.hostile_lines(lines);
+    }
+}

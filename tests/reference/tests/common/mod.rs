@@ -1,0 +1,111 @@
+//! What the tests share: running scripts whole or line by line.
+
+#![allow(dead_code)]
+
+use reference::cluster::Cluster;
+use reference::script::Script;
+
+/// What a whole script prints.
+pub fn run(text: &[u8]) -> Vec<u8> {
+    run_in_chunks(text, text.len().max(1))
+}
+
+pub fn run_in_chunks(text: &[u8], size: usize) -> Vec<u8> {
+    let mut script = Script::new();
+    let mut out = Vec::new();
+    for chunk in text.chunks(size) {
+        script.feed(chunk, &mut out);
+    }
+    script.finish(&mut out);
+    out
+}
+
+/// What a whole script prints, as text without the last line feed.
+pub fn print(text: &str) -> String {
+    let out = String::from_utf8(run(text.as_bytes())).unwrap();
+    out.strip_suffix('\n').unwrap().to_string()
+}
+
+/// A script run line by line.
+pub struct Bench {
+    script: Script,
+}
+
+impl Bench {
+    pub fn new(cluster: &str) -> Self {
+        let mut bench = Bench {
+            script: Script::new(),
+        };
+        assert_eq!(bench.line(cluster), "");
+        bench
+    }
+
+    /// Runs a line and gives what it prints, without the last line feed.
+    pub fn line(&mut self, line: &str) -> String {
+        let mut out = Vec::new();
+        self.script.line(line.as_bytes(), &mut out);
+        String::from_utf8(out).unwrap().trim_end().to_string()
+    }
+
+    /// The number that the line is refused with, 0 if it is accepted.
+    pub fn refusal(&mut self, line: &str) -> u8 {
+        let out = self.line(line);
+        match out.rsplit_once(" refused ") {
+            Some((_, number)) => number.parse().unwrap(),
+            None => 0,
+        }
+    }
+
+    /// Runs lines that print nothing.
+    pub fn quiet(&mut self, lines: &[&str]) {
+        for line in lines {
+            assert_eq!(self.line(line), "", "{line}");
+        }
+    }
+
+    pub fn cluster(&self) -> &Cluster {
+        self.script.cluster().unwrap()
+    }
+
+    pub fn under_way(&self) -> usize {
+        self.cluster().messages().len()
+    }
+
+    /// The last place with a message of this kind between these servers.
+    pub fn place(&self, kind: u8, from: u8, to: u8) -> usize {
+        let messages = self.cluster().messages();
+        let found = (0..messages.len()).rev().find(|&place| {
+            let header = messages.header(messages.slot(place).unwrap());
+            (header.kind, header.from, header.to) == (kind, from, to)
+        });
+        found.expect("such a message is under way")
+    }
+
+    /// Delivers that message and gives what is printed.
+    pub fn deliver(&mut self, kind: u8, from: u8, to: u8) -> String {
+        let place = self.place(kind, from, to);
+        self.line(&format!("deliver {place}"))
+    }
+
+    /// Delivers a request to `peer` and its acknowledgement, whose kind is one
+    /// above; gives what that prints.
+    pub fn exchange(&mut self, request: u8, leader: u8, peer: u8) -> String {
+        assert_eq!(self.deliver(request, leader, peer), "");
+        self.deliver(request + 1, peer, leader)
+    }
+
+    /// Makes `server` leader with the votes of the servers given.
+    pub fn elect(&mut self, server: u8, voters: &[u8]) {
+        assert_eq!(self.line(&format!("elect {server}")), "");
+        for &voter in voters {
+            assert_eq!(self.exchange(1, server, voter), "");
+        }
+    }
+
+    /// Loses all that is under way.
+    pub fn lose_all(&mut self) {
+        while self.under_way() > 0 {
+            self.quiet(&["lose 0"]);
+        }
+    }
+}

@@ -1,0 +1,159 @@
+//! Random scripts: the tally, chunks of any size, and how much of them runs.
+
+mod common;
+
+use common::{run, run_in_chunks};
+use reference::script::Script;
+use reference::scripts::{generate, Kind};
+
+const SHORT: [Kind; 5] = [
+    Kind::Ordinary,
+    Kind::Rivals,
+    Kind::Crowded,
+    Kind::Hostile,
+    Kind::Long,
+];
+
+#[test]
+fn the_same_seed_gives_the_same_script() {
+    for kind in SHORT {
+        assert_eq!(generate(kind, 5, 200), generate(kind, 5, 200));
+        assert_ne!(generate(kind, 5, 200), generate(kind, 6, 200));
+    }
+}
+
+#[test]
+fn chunks_do_not_matter() {
+    for kind in SHORT {
+        for seed in 0..50 {
+            let text = generate(kind, seed, 300);
+            let out = run(&text);
+            for size in [1, 2, 3, 7, 61, 120, 121, 122, 1000] {
+                assert_eq!(run_in_chunks(&text, size), out, "{kind:?} {seed} {size}");
+            }
+        }
+    }
+}
+
+#[test]
+fn the_tally_agrees_with_itself_after_every_line() {
+    for kind in SHORT {
+        for seed in 100..200 {
+            let mut script = Script::new();
+            for line in generate(kind, seed, 300).split(|&byte| byte == b'\n') {
+                let before = script.tally();
+                let accepted = script.line(line, &mut Vec::new());
+                let tally = script.tally();
+                assert_eq!(
+                    tally.sent + tally.copied,
+                    tally.delivered + tally.lost + tally.under_way
+                );
+                assert!(tally.under_way <= 64);
+                assert!(accepted || tally == before);
+            }
+        }
+    }
+}
+
+#[test]
+fn a_voter_never_stands_or_leads_under_a_lower_number() {
+    use reference::cluster::server::Role;
+    for kind in SHORT {
+        for seed in 200..300 {
+            let mut script = Script::new();
+            for line in generate(kind, seed, 300).split(|&byte| byte == b'\n') {
+                script.line(line, &mut Vec::new());
+                let Some(cluster) = script.cluster() else {
+                    continue;
+                };
+                for server in (0..cluster.size()).map(|s| cluster.server(s)) {
+                    assert!(server.number <= server.vote);
+                    assert!(server.role == Role::Idle || server.vote == server.number);
+                    assert!(server
+                        .replicas
+                        .iter()
+                        .all(|replica| replica.version.number <= server.vote));
+                    let open = server.calls.iter().any(|call| call.is_open());
+                    assert!(!open || server.role == Role::Leader);
+                }
+            }
+        }
+    }
+}
+
+/// Counts of the words that answers and refusals print.
+fn count(outputs: &[Vec<u8>], word: &str) -> usize {
+    outputs
+        .iter()
+        .flat_map(|out| out.split(|&byte| byte == b'\n'))
+        .filter(|line| String::from_utf8_lossy(line).contains(word))
+        .count()
+}
+
+#[test]
+fn most_lines_are_accepted_and_calls_complete() {
+    for kind in [Kind::Ordinary, Kind::Long] {
+        let outputs: Vec<Vec<u8>> = (0..100)
+            .map(|seed| run(&generate(kind, seed, 400)))
+            .collect();
+        assert!(count(&outputs, "refused") < 100 * 400 / 10);
+        for word in [
+            " value ",
+            " keys ",
+            " done ",
+            " mismatch ",
+            " full ",
+            " notdone ",
+            " unknown ",
+        ] {
+            assert!(count(&outputs, word) > 20, "{kind:?} {word}");
+        }
+        let completing = outputs
+            .iter()
+            .filter(|out| count(&[out.to_vec()], " done ") > 0);
+        assert!(completing.count() > 80);
+    }
+}
+
+#[test]
+fn every_refusal_of_a_line_occurs() {
+    let texts = [Kind::Hostile, Kind::Crowded]
+        .into_iter()
+        .flat_map(|kind| (0..100).map(move |seed| generate(kind, seed, 400)));
+    let outputs: Vec<Vec<u8>> = texts.map(|text| run(&text)).collect();
+    for refusal in [1, 2, 3, 4, 6, 7, 8, 9, 10, 12] {
+        let word = format!(" refused {refusal}");
+        let exact = outputs
+            .iter()
+            .flat_map(|out| out.split(|&byte| byte == b'\n'))
+            .filter(|line| line.ends_with(word.as_bytes()));
+        assert!(exact.count() > 0, "{refusal}");
+    }
+    let elections = run(&generate(Kind::Elections, 1, 300_000));
+    assert!(count(&[elections], " refused 11") > 0);
+    let limit = run(&generate(Kind::Limit, 1, 1000));
+    assert!(count(&[limit], " refused 5") > 100);
+}
+
+#[test]
+fn the_speed_script_is_accepted_line_by_line() {
+    let text = generate(Kind::Speed, 1, 1_000_000);
+    let mut script = Script::new();
+    let mut out = Vec::new();
+    script.feed(&text, &mut out);
+    assert_eq!(script.accepted(), 1_000_000);
+    assert_eq!(
+        text.iter().filter(|&&byte| byte == b'\n').count(),
+        1_000_001
+    );
+    assert!(text.starts_with(b"cluster 5 "));
+    for word in [
+        "elect", "get", "set", "setif", "del", "keys", "deliver", "copy", "lose", "timeout", "stop",
+    ] {
+        let word = format!("\n{word} ");
+        assert!(
+            text.windows(word.len()).any(|part| part == word.as_bytes()),
+            "{word:?}"
+        );
+    }
+}
