@@ -21,63 +21,115 @@ module _ (log : Log) where
   adds-vote x =
       record {
         grows = record { votes = tail; wins = same; writes = same; accepts = same; reports = same; rounds = same; checks = same; begins = same; ends = same };
-        votes = each-cons (inr refl) (λ x m. inl m); wins = λ x m. inl m; writes = λ x m. inl m; accepts = λ x m. inl m; reports = λ x m. inl m; rounds = λ x m. inl m; ends = λ x m. inl m
+        votes = each-cons (inr refl) (λ x m. inl m);
+        wins = λ x m. inl m;
+        writes = λ x m. inl m;
+        accepts = λ x m. inl m;
+        reports = λ x m. inl m;
+        rounds = λ x m. inl m;
+        ends = λ x m. inl m;
       }
 
   pub adds-win : (x : Win) → Adds (x .leader) log (addWin x log)
   adds-win x =
       record {
         grows = record { votes = same; wins = tail; writes = same; accepts = same; reports = same; rounds = same; checks = same; begins = same; ends = same };
-        votes = λ x m. inl m; wins = each-cons (inr refl) (λ x m. inl m); writes = λ x m. inl m; accepts = λ x m. inl m; reports = λ x m. inl m; rounds = λ x m. inl m; ends = λ x m. inl m
+        votes = λ x m. inl m;
+        wins = each-cons (inr refl) (λ x m. inl m);
+        writes = λ x m. inl m;
+        accepts = λ x m. inl m;
+        reports = λ x m. inl m;
+        rounds = λ x m. inl m;
+        ends = λ x m. inl m;
       }
 
   pub adds-write : (p : ℕ) (x : Write) → Won log (x .at .election) p → ((i : ℕ) → x .call ≡ some i → TakenAt log p i) → Adds p log (addWrite x log)
   adds-write p x won taken =
       record {
         grows = record { votes = same; wins = same; writes = tail; accepts = same; reports = same; rounds = same; checks = same; begins = same; ends = same };
-        votes = λ x m. inl m; wins = λ x m. inl m;
+        votes = λ x m. inl m;
+        wins = λ x m. inl m;
         writes = each-cons (inr (record { win = won .win; had = won .had; election = won .election; leader = won .leader }, taken)) (λ x m. inl m);
-        accepts = λ x m. inl m; reports = λ x m. inl m; rounds = λ x m. inl m; ends = λ x m. inl m
+        accepts = λ x m. inl m;
+        reports = λ x m. inl m;
+        rounds = λ x m. inl m;
+        ends = λ x m. inl m;
       }
 
   pub adds-accept : (x : Accept) → Adds (x .server) log (addAccept x log)
   adds-accept x =
       record {
         grows = record { votes = same; wins = same; writes = same; accepts = tail; reports = same; rounds = same; checks = same; begins = same; ends = same };
-        votes = λ x m. inl m; wins = λ x m. inl m; writes = λ x m. inl m; accepts = each-cons (inr refl) (λ x m. inl m); reports = λ x m. inl m; rounds = λ x m. inl m; ends = λ x m. inl m
+        votes = λ x m. inl m;
+        wins = λ x m. inl m;
+        writes = λ x m. inl m;
+        accepts = each-cons (inr refl) (λ x m. inl m);
+        reports = λ x m. inl m;
+        rounds = λ x m. inl m;
+        ends = λ x m. inl m;
       }
 
   pub adds-report : (x : Report) → Adds (x .server) log (addReport x log)
   adds-report x =
       record {
         grows = record { votes = same; wins = same; writes = same; accepts = same; reports = tail; rounds = same; checks = same; begins = same; ends = same };
-        votes = λ x m. inl m; wins = λ x m. inl m; writes = λ x m. inl m; accepts = λ x m. inl m; reports = each-cons (inr refl) (λ x m. inl m); rounds = λ x m. inl m; ends = λ x m. inl m
+        votes = λ x m. inl m;
+        wins = λ x m. inl m;
+        writes = λ x m. inl m;
+        accepts = λ x m. inl m;
+        reports = each-cons (inr refl) (λ x m. inl m);
+        rounds = λ x m. inl m;
+        ends = λ x m. inl m;
       }
 
   pub adds-round : (x : Opened) → Adds (x .leader) log (addRound x log)
   adds-round x =
       record {
         grows = record { votes = same; wins = same; writes = same; accepts = same; reports = same; rounds = tail; checks = same; begins = same; ends = same };
-        votes = λ x m. inl m; wins = λ x m. inl m; writes = λ x m. inl m; accepts = λ x m. inl m; reports = λ x m. inl m; rounds = each-cons (inr refl) (λ x m. inl m); ends = λ x m. inl m
+        votes = λ x m. inl m;
+        wins = λ x m. inl m;
+        writes = λ x m. inl m;
+        accepts = λ x m. inl m;
+        reports = λ x m. inl m;
+        rounds = each-cons (inr refl) (λ x m. inl m);
+        ends = λ x m. inl m;
       }
 
   pub adds-check : (p : ℕ) (x : Check) → Adds p log (addCheck x log)
   adds-check p x =
       record {
         grows = record { votes = same; wins = same; writes = same; accepts = same; reports = same; rounds = same; checks = tail; begins = same; ends = same };
-        votes = λ x m. inl m; wins = λ x m. inl m; writes = λ x m. inl m; accepts = λ x m. inl m; reports = λ x m. inl m; rounds = λ x m. inl m; ends = λ x m. inl m
+        votes = λ x m. inl m;
+        wins = λ x m. inl m;
+        writes = λ x m. inl m;
+        accepts = λ x m. inl m;
+        reports = λ x m. inl m;
+        rounds = λ x m. inl m;
+        ends = λ x m. inl m;
       }
 
   pub adds-begun : (p : ℕ) (x : Begun) → Adds p log (addBegun x log)
   adds-begun p x =
       record {
         grows = record { votes = same; wins = same; writes = same; accepts = same; reports = same; rounds = same; checks = same; begins = tail; ends = same };
-        votes = λ x m. inl m; wins = λ x m. inl m; writes = λ x m. inl m; accepts = λ x m. inl m; reports = λ x m. inl m; rounds = λ x m. inl m; ends = λ x m. inl m
+        votes = λ x m. inl m;
+        wins = λ x m. inl m;
+        writes = λ x m. inl m;
+        accepts = λ x m. inl m;
+        reports = λ x m. inl m;
+        rounds = λ x m. inl m;
+        ends = λ x m. inl m;
       }
 
   pub adds-ended : (p : ℕ) (x : Ended) → TakenAt log p (x .number) → Adds p log (addEnded x log)
   adds-ended p x taken =
       record {
         grows = record { votes = same; wins = same; writes = same; accepts = same; reports = same; rounds = same; checks = same; begins = same; ends = tail };
-        votes = λ x m. inl m; wins = λ x m. inl m; writes = λ x m. inl m; accepts = λ x m. inl m; reports = λ x m. inl m; rounds = λ x m. inl m; ends = each-cons (inr taken) (λ x m. inl m)
+        votes = λ x m. inl m;
+        wins = λ x m. inl m;
+        writes = λ x m. inl m;
+        accepts = λ x m. inl m;
+        reports = λ x m. inl m;
+        rounds = λ x m. inl m;
+        ends = each-cons (inr taken) (λ x m. inl m);
       }

@@ -62,14 +62,14 @@ module _ (n buckets now taken p b : ℕ) (half : n < 2 * majority n) {log : Log}
       record {
         stored = s .stored;
         volatile =
-          record {
-            role = s .volatile .role;
-            votes = s .volatile .votes;
-            lastRound = s .volatile .lastRound;
-            rounds = s .volatile .rounds;
-            calls = set (s .volatile .calls) b (some fresh)
-          };
-        stopped = s .stopped
+            record {
+              role = s .volatile .role;
+              votes = s .volatile .votes;
+              lastRound = s .volatile .lastRound;
+              rounds = s .volatile .rounds;
+              calls = set (s .volatile .calls) b (some fresh);
+            };
+        stopped = s .stopped;
       }
 
   taken-leads : Leads n buckets takenLog p server
@@ -83,7 +83,7 @@ module _ (n buckets now taken p b : ℕ) (half : n < 2 * majority n) {log : Log}
         won = l .won;
         vote = l .vote;
         positive = l .positive;
-        newest = l .newest
+        newest = l .newest;
       }
 
   taken-ready : Ready n buckets takenLog p b fresh server
@@ -93,12 +93,12 @@ module _ (n buckets now taken p b : ℕ) (half : n < 2 * majority n) {log : Log}
       record {
         leads = taken-leads;
         elsewhere = λ j d.
-          rw (getD-set-other (w .calls) b j (some fresh) none d)
-          (bucket-grows g n p (s .stored .number) j (copyAt (s .stored) j) (roundAt w j) (callAt w j)
-          (λ y e c. record { unwritten = λ f. f; unended = λ f. f }) (leader-of agrees leads .1 j));
+            rw (getD-set-other (w .calls) b j (some fresh) none d)
+            (bucket-grows g n p (s .stored .number) j (copyAt (s .stored) j) (roundAt w j) (callAt w j)
+            (λ y e c. record { unwritten = λ f. f; unended = λ f. f }) (leader-of agrees leads .1 j));
         inside = inside;
         here = getD-set-same (w .calls) b (some fresh) none (rw (agrees .shape .calls) inside);
-        call = record { line = now; begun = first-in; unended = fresh-unended }
+        call = record { line = now; begun = first-in; unended = fresh-unended };
       }
 
   pub begin-kept : Kept n buckets now i p takenLog (beginCall n p b i words s)

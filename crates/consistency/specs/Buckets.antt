@@ -34,7 +34,7 @@ module _ {a b : Log} (g : Grows a b) where
         line = h .line;
         opened = g .rounds _ (h .opened);
         after = h .after;
-        phase = phase-grows n e k (h .at) copy r c t (r .purpose) (h .phase)
+        phase = phase-grows n e k (h .at) copy r c t (r .purpose) (h .phase);
       }
 
   pub bucket-grows : (n p e k : ℕ) (copy : Copy) (r : Option Round) (c : Option Call)

@@ -58,21 +58,23 @@ module _ (n buckets now taken p b : ℕ) (half : n < 2 * majority n) where
         begins = refl;
         ends = refl;
         sends =
-          each-of-broadcast (MessageOk buckets (readLog n buckets now taken p b half ok h u x)) n p b (s .stored .number) (s .volatile .lastRound + 1) _ (λ q d.
-          record {
-            apart = λ i. d (sym i);
-            positive = h .leads .positive;
-            claim =
-              (won-grows (a .grows) (h .leads .won), x,
-              record { opened = _; had = first-in; leader = refl; election = refl; number = refl; bucket = refl; kind = kind; at = refl })
-          })
+            each-of-broadcast (MessageOk buckets (readLog n buckets now taken p b half ok h u x)) n p b (s .stored .number) (s .volatile .lastRound + 1) _ (λ q d.
+            record {
+              apart = λ i. d (sym i);
+              positive = h .leads .positive;
+              claim = (
+                won-grows (a .grows) (h .leads .won),
+                x,
+                record { opened = _; had = first-in; leader = refl; election = refl; number = refl; bucket = refl; kind = kind; at = refl },
+              );
+            });
       }
 
   write-sent : {log : Log} (ok : LogOk n now taken log) {c : Call} {s : Server} (h : Ready n buckets log p b c s)
       (v u : Version) (t : List Entry) (owner : Option ℕ) (new : NewWrite n now log b c s v u t owner) (why : Purpose) (other : why ≡ check → ⊥)
       → Claims.writing why ≡ true
       → Sent n buckets now taken p log (writeLog n buckets now taken p b half ok h v u t owner new why other)
-        (broadcast n p b (s .stored .number) (s .volatile .lastRound + 1) (requestBody (writing v t)))
+      (broadcast n p b (s .stored .number) (s .volatile .lastRound + 1) (requestBody (writing v t)))
   unfolding requestBody
   write-sent ok {c} {s} h v u t owner new why other kind =
       let a = write-adds n buckets now taken p b half ok h v u t owner new why other in
@@ -82,14 +84,22 @@ module _ (n buckets now taken p b : ℕ) (half : n < 2 * majority n) where
         begins = refl;
         ends = refl;
         sends =
-          each-of-broadcast (MessageOk buckets (writeLog n buckets now taken p b half ok h v u t owner new why other)) n p b (s .stored .number) (s .volatile .lastRound + 1) _ (λ q d.
-          record {
-            apart = λ i. d (sym i);
-            positive = h .leads .positive;
-            claim =
-              (won-grows (a .grows) (h .leads .won), new .election, wrote n buckets now taken p b half ok h v u t owner new why other, first-in, refl, refl, refl,
-              record { opened = _; had = first-in; leader = refl; election = refl; number = refl; bucket = refl; kind = kind; at = refl }, h .inside)
-          })
+            each-of-broadcast (MessageOk buckets (writeLog n buckets now taken p b half ok h v u t owner new why other)) n p b (s .stored .number) (s .volatile .lastRound + 1) _ (λ q d.
+            record {
+              apart = λ i. d (sym i);
+              positive = h .leads .positive;
+              claim = (
+                won-grows (a .grows) (h .leads .won),
+                new .election,
+                wrote n buckets now taken p b half ok h v u t owner new why other,
+                first-in,
+                refl,
+                refl,
+                refl,
+                record { opened = _; had = first-in; leader = refl; election = refl; number = refl; bucket = refl; kind = kind; at = refl },
+                h .inside,
+              );
+            });
       }
 
   -- ---- the call's own write
@@ -121,15 +131,15 @@ module _ (n buckets now taken p b : ℕ) (half : n < 2 * majority n) where
         above = lt-above _ _ up;
         newest = λ w m i j. lt-of-le-lt (l .newest b .recovered (h .recovered) w m i j) up;
         origin =
-          record {
-            table = copyAt (s .stored) b .table;
-            holds = l .stored .copies b .0;
-            makes = changed _ (h .ready .call .begun) refl (ok .time .begins _ (h .ready .call .begun)) made;
-            older = λ w m i j. ok .time .writes w m
-          };
+            record {
+              table = copyAt (s .stored) b .table;
+              holds = l .stored .copies b .0;
+              makes = changed _ (h .ready .call .begun) refl (ok .time .begins _ (h .ready .call .begun)) made;
+              older = λ w m i j. ok .time .writes w m;
+            };
         succeeds = follows (h .recovered) (add-one _) (counted ok (l .stored .copies b .0) (rw (h .recovered) (l .positive)));
         mine = λ i e. cc;
-        unwritten = h .unwritten
+        unwritten = h .unwritten;
       }
 
   own-not-check : ownWrite ≡ check → ⊥
@@ -202,11 +212,11 @@ module _ (n buckets now taken p b : ℕ) (half : n < 2 * majority n) where
         record {
           leads = leads-carried g (λ x m. m) (λ x m. m) (λ x m. m) (λ x m. m) (λ x m. m) (λ x m. m) (r .leads);
           elsewhere = λ j d.
-            bucket-grows g n p (s .stored .number) j (copyAt (s .stored) j) (roundAt w j) (callAt w j)
-            (λ y i o. record { unwritten = λ f. f; unended = λ f. f }) (r .elsewhere j d);
+              bucket-grows g n p (s .stored .number) j (copyAt (s .stored) j) (roundAt w j) (callAt w j)
+              (λ y i o. record { unwritten = λ f. f; unended = λ f. f }) (r .elsewhere j d);
           inside = r .inside;
           here = r .here;
-          call = record { line = r .call .line; begun = r .call .begun; unended = r .call .unended }
+          call = record { line = r .call .line; begun = r .call .begun; unended = r .call .unended };
         }
 
     checked-facts : LogOk n now taken checkLog
@@ -255,7 +265,7 @@ module _ (n buckets now taken p b : ℕ) (half : n < 2 * majority n) where
         after = ro .after;
         members = acknowledgers r;
         most = closed-majority n r (ro .marks) shut;
-        confirmed = λ q m. let y = phase .5 q (closed-marked n r (ro .marks) shut q m) in (y .0, y .1)
+        confirmed = λ q m. let y = phase .5 q (closed-marked n r (ro .marks) shut q m) in (y .0, y .1);
       }
 
   module _ {log : Log} (ok : LogOk n now taken log) {c : Call} {s : Server} (h : Settled log c s) where
@@ -282,7 +292,7 @@ module _ (n buckets now taken p b : ℕ) (half : n < 2 * majority n) where
           recovered = h .recovered;
           chosen = chosen-grows (read-adds n buckets now taken p b half ok (h .ready) check seen .grows) (h .chosen);
           unsent = h .unsent;
-          unwritten = h .unwritten
+          unwritten = h .unwritten;
         }
 
     check-answers : closes n (newRound n p b check s) ≡ true → Kept n buckets now taken p seenLog (afterRead n p b (opening n p b check reading s))
@@ -344,7 +354,7 @@ module _ (n buckets now taken p b : ℕ) (half : n < 2 * majority n) where
           origin = record { table = t; holds = x .holds; makes = kept refl; older = λ w m i j. ok .time .writes w m };
           succeeds = recovers refl older (x .members) (x .most) (x .round) (x .reported);
           mine = λ i e. cc;
-          unwritten = h .unwritten
+          unwritten = h .unwritten;
         }
 
     abbrev recoveryLog : Log
@@ -367,7 +377,7 @@ module _ (n buckets now taken p b : ℕ) (half : n < 2 * majority n) where
           recovered = rw (copy, number);
           chosen = rw copy (closed-chosen n (newRound n p b recoveryWrite s) (new-marks n p b recoveryWrite s) shut b _ recovery-marks);
           unsent = h .unsent;
-          unwritten = recovery-unwritten
+          unwritten = recovery-unwritten;
         })
 
     pub recovering-kept : Kept n buckets now taken p log (recovering n p b t s)
@@ -390,7 +400,7 @@ module _ (n buckets now taken p b : ℕ) (half : n < 2 * majority n) where
         round = r .number;
         members = acknowledgers r;
         most = closed-majority n r (ro .marks) shut;
-        reported = λ q m. phase .5 q (closed-marked n r (ro .marks) shut q m)
+        reported = λ q m. phase .5 q (closed-marked n r (ro .marks) shut q m);
       }
 
   -- ---- READ
@@ -414,7 +424,7 @@ module _ (n buckets now taken p b : ℕ) (half : n < 2 * majority n) where
           ready = read-ready n buckets now taken p b half ok (h .ready) recoveryRead (version 0 0) refl;
           old = h .old;
           unsent = h .unsent;
-          unwritten = h .unwritten
+          unwritten = h .unwritten;
         })
         _ _ (gathered-by recovery-read-rests refl shut)
 
@@ -436,10 +446,10 @@ module _ (n buckets now taken p b : ℕ) (half : n < 2 * majority n) where
     where
       go : (t : Bool) → eqb (copyAt (s .stored) b .version .election) (s .stored .number) ≡ t
           → Kept n buckets now taken p log
-            (elim t as (λ _. Reaction) [
-              true ↦ checking n p b s
+          (elim t as (λ _. Reaction) [
+            | true ↦ checking n p b s
             | false ↦ openRound n p b recoveryRead reading (recovering n p b (copyAt (s .stored) b .table)) s
-            ])
+          ])
       go true e =
           let i = eqb-true _ _ e in
           checking-kept ok (record { ready = h; recovered = i; chosen = rest i; unsent = unsent; unwritten = unwritten })
@@ -467,7 +477,7 @@ module _ (n buckets now taken p b : ℕ) (half : n < 2 * majority n) where
           recovered = ap (λ v. v .election) (f .0 ∙ f .1);
           chosen = rw (f .0) (closed-chosen n r (ro .marks) shut b (ro .at) (f .4));
           unsent = f .2;
-          unwritten = f .3
+          unwritten = f .3;
         })
 
     check-closed : r .purpose ≡ check → Kept n buckets now taken p log (afterRead n p b s)
@@ -489,12 +499,12 @@ module _ (n buckets now taken p b : ℕ) (half : n < 2 * majority n) where
       where
         go : (u : Purpose) → r .purpose ≡ u
             → Kept n buckets now taken p log
-              (elim u as (λ _. Reaction) [
-                recoveryRead ↦ recovering n p b (r .best .table) s
+            (elim u as (λ _. Reaction) [
+              | recoveryRead ↦ recovering n p b (r .best .table) s
               | recoveryWrite ↦ checking n p b s
               | check ↦ afterRead n p b s
               | ownWrite ↦ finish b done s
-              ])
+            ])
         go recoveryRead i = recovery-read-closed i
         go recoveryWrite i = recovery-write-closed i
         go check i = check-closed i

@@ -39,8 +39,8 @@ module _ {n buckets now taken p b : ℕ} {log : Log} (ok : LogOk n now taken log
       record {
         unwritten = λ f. f;
         unended = λ f.
-          each-cons {P = λ x. x .number ≡ y .number → ⊥}
-          (λ i. d (ap (λ z. z .bucket) (ok .calls .begun-once _ _ (k .begun) (h .call .begun) (sym i)))) f
+            each-cons {P = λ x. x .number ≡ y .number → ⊥}
+            (λ i. d (ap (λ z. z .bucket) (ok .calls .begun-once _ _ (k .begun) (h .call .begun) (sym i)))) f;
       }
 
   abbrev rested : Server
@@ -52,19 +52,19 @@ module _ {n buckets now taken p b : ℕ} {log : Log} (ok : LogOk n now taken log
       let l = leads-carried (adds .grows) (λ x m. m) (λ x m. m) (λ x m. m) (λ x m. m) (λ x m. m) (λ x m. m) (h .leads) in
       record {
         shape =
-          record {
-            copies = l .shape .copies;
-            votes = l .shape .votes;
-            rounds = simp length-set (l .shape .rounds);
-            calls = simp length-set (l .shape .calls)
-          };
+            record {
+              copies = l .shape .copies;
+              votes = l .shape .votes;
+              rounds = simp length-set (l .shape .rounds);
+              calls = simp length-set (l .shape .calls);
+            };
         stored = l .stored;
         numbered = l .numbered;
         role = l .role;
         won = l .won;
         vote = l .vote;
         positive = l .positive;
-        newest = l .newest
+        newest = l .newest;
       }
 
   finished-buckets : (j : ℕ) → Bucket n endLog p rested j
@@ -89,5 +89,5 @@ module _ {n buckets now taken p b : ℕ} {log : Log} (ok : LogOk n now taken log
         server = leader-agrees finished-leads finished-buckets;
         sends = λ m i. none-in i;
         begins = refl;
-        ends = λ x. rw (h .here) (λ m. m, λ m. m)
+        ends = λ x. rw (h .here) (λ m. m, λ m. m);
       }

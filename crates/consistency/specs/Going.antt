@@ -35,7 +35,7 @@ module _ {n buckets now taken p : ℕ} {log next : Log} {ms : List Message} (x :
         server = k .server;
         sends = each-append ms (λ m i. message-grows (k .adds .grows) (x .sends m i)) (k .sends);
         begins = k .begins ∙ x .begins;
-        ends = λ y. rw (x .ends) at (k .ends y)
+        ends = λ y. rw (x .ends) at (k .ends y);
       }
 
   -- or by none
@@ -48,7 +48,7 @@ module _ {n buckets now taken p : ℕ} {log next : Log} {ms : List Message} (x :
         server = h;
         sends = x .sends;
         begins = x .begins;
-        ends = λ y. rw (x .ends) (λ m. m, λ m. m)
+        ends = λ y. rw (x .ends) (λ m. m, λ m. m);
       }
 
 pub open-kept : {n buckets now taken p : ℕ} (b : ℕ) {log next : Log} (s : Server) (u : Purpose) (q : Request) (onward : Server → Reaction)
@@ -61,9 +61,9 @@ open-kept {n} {buckets} {now} {taken} {p} b {log} {next} s u q onward x rests go
   where
     go : (t : Bool) → closes n (newRound n p b u s) ≡ t
         → Kept n buckets now taken p log
-          (elim t as (λ _. Reaction) [
-            true ↦ after (broadcast n p b (s .stored .number) (s .volatile .lastRound + 1) (requestBody q)) (onward (opening n p b u q s))
+        (elim t as (λ _. Reaction) [
+          | true ↦ after (broadcast n p b (s .stored .number) (s .volatile .lastRound + 1) (requestBody q)) (onward (opening n p b u q s))
           | false ↦ reaction (opening n p b u q s) (broadcast n p b (s .stored .number) (s .volatile .lastRound + 1) (requestBody q)) []
-          ])
+        ])
     go true e = kept-after x (goes e)
     go false e = kept-here x rests

@@ -48,5 +48,5 @@ module _ {now taken : ℕ} {c : Cluster} {log base : Log} (half : length (c .ser
       record {
         facts = rw length-set (kept .facts);
         servers = rw length-set stepped-server;
-        messages = each-append still (λ m i. message-grows (adds .grows) (good .messages m (sub m i))) (kept .sends)
+        messages = each-append still (λ m i. message-grows (adds .grows) (good .messages m (sub m i))) (kept .sends);
       }

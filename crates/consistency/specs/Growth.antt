@@ -31,8 +31,14 @@ module _ {a b : Log} (g : Grows a b) where
   pub round-grows : {p e k c : ℕ} {w : _} {x : Version} → RoundOf a p e k c w x → RoundOf b p e k c w x
   round-grows r =
       record {
-        opened = r .opened; had = g .rounds _ (r .had); leader = r .leader; election = r .election;
-        number = r .number; bucket = r .bucket; kind = r .kind; at = r .at
+        opened = r .opened;
+        had = g .rounds _ (r .had);
+        leader = r .leader;
+        election = r .election;
+        number = r .number;
+        bucket = r .bucket;
+        kind = r .kind;
+        at = r .at;
       }
 
   body-grows : (buckets : ℕ) (m : Message) (body : Body) → BodyOk buckets a m body → BodyOk buckets b m body
@@ -54,18 +60,29 @@ module _ {a b : Log} (g : Grows a b) where
 pub grows-refl : (a : Log) → Grows a a
 grows-refl a =
     record {
-      votes = λ x m. m; wins = λ x m. m; writes = λ x m. m; accepts = λ x m. m; reports = λ x m. m;
-      rounds = λ x m. m; checks = λ x m. m; begins = λ x m. m; ends = λ x m. m
+      votes = λ x m. m;
+      wins = λ x m. m;
+      writes = λ x m. m;
+      accepts = λ x m. m;
+      reports = λ x m. m;
+      rounds = λ x m. m;
+      checks = λ x m. m;
+      begins = λ x m. m;
+      ends = λ x m. m;
     }
 
 pub grows-trans : {a b c : Log} → Grows a b → Grows b c → Grows a c
 grows-trans f g =
     record {
-      votes = λ x m. g .votes x (f .votes x m); wins = λ x m. g .wins x (f .wins x m);
-      writes = λ x m. g .writes x (f .writes x m); accepts = λ x m. g .accepts x (f .accepts x m);
-      reports = λ x m. g .reports x (f .reports x m); rounds = λ x m. g .rounds x (f .rounds x m);
-      checks = λ x m. g .checks x (f .checks x m); begins = λ x m. g .begins x (f .begins x m);
-      ends = λ x m. g .ends x (f .ends x m)
+      votes = λ x m. g .votes x (f .votes x m);
+      wins = λ x m. g .wins x (f .wins x m);
+      writes = λ x m. g .writes x (f .writes x m);
+      accepts = λ x m. g .accepts x (f .accepts x m);
+      reports = λ x m. g .reports x (f .reports x m);
+      rounds = λ x m. g .rounds x (f .rounds x m);
+      checks = λ x m. g .checks x (f .checks x m);
+      begins = λ x m. g .begins x (f .begins x m);
+      ends = λ x m. g .ends x (f .ends x m);
     }
 
 -- ---- what server p may add
@@ -87,8 +104,14 @@ pub record Adds (p : ℕ) (a b : Log) : Type 0 where
 pub adds-refl : (p : ℕ) (a : Log) → Adds p a a
 adds-refl p a =
     record {
-      grows = grows-refl a; votes = λ x m. inl m; wins = λ x m. inl m; writes = λ x m. inl m; accepts = λ x m. inl m;
-      reports = λ x m. inl m; rounds = λ x m. inl m; ends = λ x m. inl m
+      grows = grows-refl a;
+      votes = λ x m. inl m;
+      wins = λ x m. inl m;
+      writes = λ x m. inl m;
+      accepts = λ x m. inl m;
+      reports = λ x m. inl m;
+      rounds = λ x m. inl m;
+      ends = λ x m. inl m;
     }
 
 taken-grows : {a b : Log} {p i : ℕ} → Grows a b → TakenAt a p i → TakenAt b p i
@@ -108,7 +131,7 @@ adds-trans {p} {a} {b} {c} f g =
         | inl k ↦ elim (f .writes x k) [
           | inl j ↦ inl j
           | inr e ↦ inr (won-grows (g .grows) (e .0), λ i h. taken-grows (g .grows) (e .1 i h))
-          ]
+        ]
         | inr e ↦ inr e
       ];
       accepts = λ x m. elim (g .accepts x m) [ inl k ↦ f .accepts x k | inr e ↦ inr e ];
@@ -117,7 +140,7 @@ adds-trans {p} {a} {b} {c} f g =
       ends = λ x m. elim (g .ends x m) [
         | inl k ↦ elim (f .ends x k) [ inl j ↦ inl j | inr e ↦ inr (taken-grows (g .grows) e) ]
         | inr e ↦ inr e
-      ]
+      ];
     }
 
 -- ---- one leader under a number

@@ -21,8 +21,8 @@ module _ (n buckets now taken : ℕ) (half : n < 2 * majority n) {log : Log} (ok
     (agrees : ServerOk n buckets log (m .receiver) s) (good : MessageOk buckets log m) where
   by-body : (body : Body) → m .body ≡ body
       → Kept n buckets now taken (m .receiver) log
-        (elim body as (λ _. Reaction) [
-          pleaseVote ↦ onPleaseVote (m .receiver) m s
+      (elim body as (λ _. Reaction) [
+        | pleaseVote ↦ onPleaseVote (m .receiver) m s
         | ackVote ↦ onAckVote n (m .sender) (m .election) s
         | nackVote ↦ quiet s
         | replicaWrite v t ↦ onRequest (m .receiver) m (writing v t) s
@@ -31,7 +31,7 @@ module _ (n buckets now taken : ℕ) (half : n < 2 * majority n) {log : Log} (ok
         | replicaRead ↦ onRequest (m .receiver) m reading s
         | ackRead v t ↦ onReply n (m .receiver) m acknowledged (record { version = v; table = t }) s
         | nackRead ↦ onReply n (m .receiver) m refused freshCopy s
-        ])
+      ])
   by-body pleaseVote e = vote-kept n buckets now taken (m .receiver) log ok s agrees m refl good
   by-body ackVote e = ackvote-kept n buckets now taken half (m .receiver) log ok s agrees m refl good e
   by-body nackVote e = unmoved ok agrees [] (λ x i. none-in i)

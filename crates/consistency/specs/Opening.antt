@@ -109,7 +109,7 @@ module _ (n buckets now taken p b : ℕ) (half : n < 2 * majority n) {log : Log}
         wins = st .wins;
         copies = λ j. (holds-grows g (st .copies j .0), rw (h .leads .vote) at (st .copies j .1));
         accepts = λ y m i. (st .accepts y m i .0, rw (h .leads .vote) at (st .accepts y m i .1));
-        reports = each-cons {P = λ y. y .server ≡ p → y .election ≤ e} (λ i. omega arith) (λ y m i. rw (h .leads .vote) at (st .reports y m i))
+        reports = each-cons {P = λ y. y .server ≡ p → y .election ≤ e} (λ i. omega arith) (λ y m i. rw (h .leads .vote) at (st .reports y m i));
       }
 
   module _ (u : Purpose) (x : Version) where
@@ -133,7 +133,7 @@ module _ (n buckets now taken p b : ℕ) (half : n < 2 * majority n) {log : Log}
           won = won-grows (read-adds u x .grows) (h .leads .won);
           vote = refl;
           positive = h .leads .positive;
-          newest = λ j. record { recovered = h .leads .newest j .recovered; unrecovered = h .leads .newest j .unrecovered }
+          newest = λ j. record { recovered = h .leads .newest j .recovered; unrecovered = h .leads .newest j .unrecovered };
         }
 
     read-elsewhere : (j : ℕ) → j ≢ b → Bucket n (readLog u x) p after j
@@ -151,9 +151,9 @@ module _ (n buckets now taken p b : ℕ) (half : n < 2 * majority n) {log : Log}
           elsewhere = read-elsewhere;
           inside = h .inside;
           here =
-            getD-set-same (s .volatile .calls) b (oneMore (isOwn u) (callAt (s .volatile) b)) none (rw (h .leads .shape .calls) (h .inside))
-            ∙ rw (mine, h .here);
-          call = call-more false (call-grows (read-adds u x .grows) (untouched u x (c .number)) (h .call))
+              getD-set-same (s .volatile .calls) b (oneMore (isOwn u) (callAt (s .volatile) b)) none (rw (h .leads .shape .calls) (h .inside))
+              ∙ rw (mine, h .here);
+          call = call-more false (call-grows (read-adds u x .grows) (untouched u x (c .number)) (h .call));
         }
 
     pub read-round : roundAt (after .volatile) b ≡ some (newRound n p b u s)
@@ -174,9 +174,14 @@ module _ (n buckets now taken p b : ℕ) (half : n < 2 * majority n) {log : Log}
         line = now;
         opened = first-in;
         after = ok .time .begins _ (h .call .begun);
-        phase =
-          (old, sent, unwritten, holds-grows g (h .leads .stored .copies b .0), rw (h .leads .vote) at (h .leads .stored .copies b .1),
-          λ q m. let i = only-own n p q m in rw i (copyAt (s .stored) b .version, first-in, le-refl _))
+        phase = (
+          old,
+          sent,
+          unwritten,
+          holds-grows g (h .leads .stored .copies b .0),
+          rw (h .leads .vote) at (h .leads .stored .copies b .1),
+          λ q m. let i = only-own n p q m in rw i (copyAt (s .stored) b .version, first-in, le-refl _),
+        );
       }
 
   -- a checking round
@@ -194,5 +199,5 @@ module _ (n buckets now taken p b : ℕ) (half : n < 2 * majority n) {log : Log}
         line = now;
         opened = first-in;
         after = ok .time .begins _ (h .call .begun);
-        phase = (refl, same, sent, unwritten, chosen-grows g chosen, λ q m. let i = only-own n p q m in rw i (x, first-in, tt))
+        phase = (refl, same, sent, unwritten, chosen-grows g chosen, λ q m. let i = only-own n p q m in rw i (x, first-in, tt));
       }

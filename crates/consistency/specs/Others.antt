@@ -23,7 +23,7 @@ module _ (n : ℕ) (half : n < 2 * majority n) {p q : ℕ} (apart : q ≢ p) {no
   untouched c =
       record {
         unwritten = λ u w m e. elim (add .writes w m) [ inl k ↦ u w k e | inr f ↦ elsewhere c (f .1 _ e) ];
-        unended = λ u x m e. elim (add .ends x m) [ inl k ↦ u x k e | inr t ↦ elsewhere c (rw e at t) ]
+        unended = λ u x m e. elim (add .ends x m) [ inl k ↦ u x k e | inr t ↦ elsewhere c (rw e at t) ];
       }
 
   -- nobody else writes under a number that q won
@@ -34,7 +34,7 @@ module _ (n : ℕ) (half : n < 2 * majority n) {p q : ℕ} (apart : q ≢ p) {no
   newest-stays won h =
       record {
         recovered = λ i w m j l. elim (add .writes w m) [ inl o ↦ h .recovered i w o j l | inr f ↦ absurd (not-under won l (f .0)) ];
-        unrecovered = λ i w m j l. elim (add .writes w m) [ inl o ↦ h .unrecovered i w o j l | inr f ↦ not-under won l (f .0) ]
+        unrecovered = λ i w m j l. elim (add .writes w m) [ inl o ↦ h .unrecovered i w o j l | inr f ↦ not-under won l (f .0) ];
       }
 
   stored-stays : {st : Stored} → StoredOk a q st → StoredOk b q st
@@ -46,15 +46,18 @@ module _ (n : ℕ) (half : n < 2 * majority n) {p q : ℕ} (apart : q ≢ p) {no
         wins = λ x m e. elim (add .wins x m) [ inl o ↦ h .wins x o e | inr f ↦ absurd (apart (sym e ∙ f)) ];
         copies = λ k. (holds-grows (add .grows) (h .copies k .0), h .copies k .1);
         accepts = λ x m e. elim (add .accepts x m) [ inl o ↦ h .accepts x o e | inr f ↦ absurd (apart (sym e ∙ f)) ];
-        reports = λ x m e. elim (add .reports x m) [ inl o ↦ h .reports x o e | inr f ↦ absurd (apart (sym e ∙ f)) ]
+        reports = λ x m e. elim (add .reports x m) [ inl o ↦ h .reports x o e | inr f ↦ absurd (apart (sym e ∙ f)) ];
       }
 
   role-stays : (st : Stored) (w : Volatile) (r : Role) → RoleOk n a q st w r → RoleOk n b q st w r
   role-stays st w follower h = h
-  role-stays st w candidate h =
-      (h .0, h .1, h .2,
-      λ x m e f. elim (add .wins x m) [ inl o ↦ h .3 x o e f | inr g ↦ apart (sym f ∙ g) ],
-      λ i m. add .grows .votes _ (h .4 i m))
+  role-stays st w candidate h = (
+    h .0,
+    h .1,
+    h .2,
+    λ x m e f. elim (add .wins x m) [ inl o ↦ h .3 x o e f | inr g ↦ apart (sym f ∙ g) ],
+    λ i m. add .grows .votes _ (h .4 i m),
+  )
   role-stays st w leading h =
       (won-grows (add .grows) (h .0), h .1, h .2, λ k. newest-stays (h .0) (h .3 k), λ k. bucket-grows (add .grows) n q (st .number) k (copyAt st k) (roundAt w k) (callAt w k) (λ x i c. untouched c) (h .4 k))
 
@@ -64,5 +67,5 @@ module _ (n : ℕ) (half : n < 2 * majority n) {p q : ℕ} (apart : q ≢ p) {no
         shape = h .shape;
         stored = stored-stays (h .stored);
         numbered = λ o m e f. elim (add .rounds o m) [ inl k ↦ h .numbered o k e f | inr g ↦ absurd (apart (sym e ∙ g)) ];
-        role = role-stays (s .stored) (s .volatile) (s .volatile .role) (h .role)
+        role = role-stays (s .stored) (s .volatile) (s .volatile .role) (h .role);
       }

@@ -41,25 +41,25 @@ leads-carried g votes wins writes accepts reports rounds h =
     record {
       shape = h .shape;
       stored =
-        record {
-          number = h .stored .number;
-          votes = λ x m. h .stored .votes x (votes x m);
-          voted = λ i. elim (h .stored .voted i) [ inl v ↦ inl (g .votes _ v) | inr w ↦ inr (won-grows g w) ];
-          wins = λ x m. h .stored .wins x (wins x m);
-          copies = λ j. (holds-grows g (h .stored .copies j .0), h .stored .copies j .1);
-          accepts = λ x m. h .stored .accepts x (accepts x m);
-          reports = λ x m. h .stored .reports x (reports x m)
-        };
+          record {
+            number = h .stored .number;
+            votes = λ x m. h .stored .votes x (votes x m);
+            voted = λ i. elim (h .stored .voted i) [ inl v ↦ inl (g .votes _ v) | inr w ↦ inr (won-grows g w) ];
+            wins = λ x m. h .stored .wins x (wins x m);
+            copies = λ j. (holds-grows g (h .stored .copies j .0), h .stored .copies j .1);
+            accepts = λ x m. h .stored .accepts x (accepts x m);
+            reports = λ x m. h .stored .reports x (reports x m);
+          };
       numbered = λ o m. h .numbered o (rounds o m);
       role = h .role;
       won = won-grows g (h .won);
       vote = h .vote;
       positive = h .positive;
       newest = λ j.
-        record {
-          recovered = λ i w m. h .newest j .recovered i w (writes w m);
-          unrecovered = λ i w m. h .newest j .unrecovered i w (writes w m)
-        }
+          record {
+            recovered = λ i w m. h .newest j .recovered i w (writes w m);
+            unrecovered = λ i w m. h .newest j .unrecovered i w (writes w m);
+          };
     }
 
 -- with every bucket in agreement, the server is
@@ -69,7 +69,7 @@ leader-agrees {n} {buckets} {log} {p} {s} h all =
       shape = h .shape;
       stored = h .stored;
       numbered = h .numbered;
-      role = rw (h .role) (h .won, h .vote, h .positive, h .newest, all)
+      role = rw (h .role) (h .won, h .vote, h .positive, h .newest, all);
     }
 
 -- what holds of b and of every other number holds of all

@@ -121,6 +121,7 @@ module _ {n : ℕ} {log : Log} {p e b : ℕ} {copy : Copy} {r : Round} {c : Call
     where
       same : reportTo (r .purpose) report ≡ report
       same = ap (λ u. reportTo u report) i
+
       go : (t : Mark) → getD (r .marks) q refused ≡ t
           → BestOk (elim t as (λ _. Copy) [ silent ↦ better (r .best) (reportTo (r .purpose) report) | acknowledged ↦ r .best | refused ↦ r .best ])
       go silent j =
@@ -130,7 +131,7 @@ module _ {n : ℕ} {log : Log} {p e b : ℕ} {copy : Copy} {r : Round} {c : Call
             holds = better-is (r .best) report (λ x. Holds log b (x .version) (x .table)) h (reply .holds);
             below = better-is (r .best) report (λ x. x .version .election ≤ e) l (reply .below);
             above = both .0;
-            new = λ k. both .1
+            new = λ k. both .1;
           })
       go acknowledged j = record { holds = h; below = l; above = le-refl _; new = λ k. let z : _≡_ {A = ℕ} 0 1 = cc in absurd (omega arith) }
       go refused j = record { holds = h; below = l; above = le-refl _; new = λ k. let z : _≡_ {A = ℕ} 0 1 = cc in absurd (omega arith) }
@@ -155,7 +156,7 @@ module _ {n : ℕ} {log : Log} {p e b : ℕ} {copy : Copy} {r : Round} {c : Call
         line = ro .line;
         opened = ro .opened;
         after = ro .after;
-        phase = phase-after (r .purpose) refl (ro .phase)
+        phase = phase-after (r .purpose) refl (ro .phase);
       }
 
 -- ---- a round that is open
@@ -188,6 +189,7 @@ module _ {n buckets : ℕ} {log : Log} {p : ℕ} {s : Server} (agrees : ServerOk
     where
       not-idle : roundAt (s .volatile) b ≡ none → ⊥
       not-idle e = let z : _≡_ {A = ℕ} 0 1 = cc in omega arith
+
       go : (t : Role) → s .volatile .role ≡ t → RoleOk n log p (s .stored) (s .volatile) t → s .volatile .role ≡ leading
       go follower e h = absurd (not-idle (h b .0))
       go candidate e h = absurd (not-idle (h .0 b .0))
@@ -203,7 +205,7 @@ module _ {n buckets : ℕ} {log : Log} {p : ℕ} {s : Server} (agrees : ServerOk
         inside = rw (agrees .shape .rounds) at (round-inside (s .volatile .rounds) b r has);
         call = k .0;
         here = k .1;
-        round = k .2
+        round = k .2;
       }
 
 -- the server with the round as the reply left it
@@ -213,14 +215,20 @@ module _ {n buckets : ℕ} {log : Log} {p : ℕ} {s : Server} {b : ℕ} {r : Rou
       let l = h .leads in
       record {
         leads =
-          record {
-            shape = record { copies = l .shape .copies; votes = l .shape .votes; rounds = simp length-set (l .shape .rounds); calls = l .shape .calls };
-            stored = l .stored; numbered = l .numbered; role = l .role; won = l .won; vote = l .vote; positive = l .positive; newest = l .newest
-          };
+            record {
+              shape = record { copies = l .shape .copies; votes = l .shape .votes; rounds = simp length-set (l .shape .rounds); calls = l .shape .calls };
+              stored = l .stored;
+              numbered = l .numbered;
+              role = l .role;
+              won = l .won;
+              vote = l .vote;
+              positive = l .positive;
+              newest = l .newest;
+            };
         elsewhere = λ j d. rw (getD-set-other (s .volatile .rounds) b j (some x) none d) (h .all j);
         inside = h .inside;
         here = h .here;
-        call = h .round .call
+        call = h .round .call;
       }
 
   with-round-at : roundAt (withRound s b x .volatile) b ≡ some x
@@ -237,12 +245,13 @@ module _ (n buckets now taken p : ℕ) (half : n < 2 * majority n) {log : Log} (
       failing : (t : Bool) → Kept n buckets now taken p log (elim t as (λ _. Reaction) [ true ↦ cease s | false ↦ quiet (withRound s b x) ])
       failing true = cease-kept n buckets now taken p log ok s (as-unsettled agrees)
       failing false = unmoved ok (round-agrees (with-round-ready h x) x (with-round-at h x) ro) [] (λ m i. none-in i)
+
       go : (t : Bool) → closes n x ≡ t
           → Kept n buckets now taken p log
-            (elim t as (λ _. Reaction) [
-              true ↦ closed n p b x (withRound s b x)
+          (elim t as (λ _. Reaction) [
+            | true ↦ closed n p b x (withRound s b x)
             | false ↦ elim (fails n x) as (λ _. Reaction) [ true ↦ cease s | false ↦ quiet (withRound s b x) ]
-            ])
+          ])
       go true shut = closed-kept n buckets now taken p b half ok (with-round-ready h x) x ro shut
       go false e = failing (fails n x)
 
@@ -266,23 +275,25 @@ module _ (n buckets now taken p : ℕ) (half : n < 2 * majority n) {log : Log} (
             → Kept n buckets now taken p log (elim t as (λ _. Reaction) [ false ↦ quiet s | true ↦ counting n p (m .bucket) (counted (m .sender) mark report r) s ])
         round r has i true e = matched r has i (eqb-true _ _ e)
         round r has i false e = still
+
         election : (r : Round) → roundAt (s .volatile) (m .bucket) ≡ some r → (t : Bool) → eqb (m .election) (r .election) ≡ t
             → Kept n buckets now taken p log
-              (elim t as (λ _. Reaction) [
-                false ↦ quiet s
+            (elim t as (λ _. Reaction) [
+              | false ↦ quiet s
               | true ↦ elim (eqb (m .round) (r .number)) as (λ _. Reaction) [ false ↦ quiet s | true ↦ counting n p (m .bucket) (counted (m .sender) mark report r) s ]
-              ])
+            ])
         election r has true e = round r has (eqb-true _ _ e) (eqb (m .round) (r .number)) refl
         election r has false e = still
+
         go : (o : Option Round) → roundAt (s .volatile) (m .bucket) ≡ o
             → Kept n buckets now taken p log
-              (elim o as (λ _. Reaction) [
-                none ↦ quiet s
+            (elim o as (λ _. Reaction) [
+              | none ↦ quiet s
               | some r ↦ elim (eqb (m .election) (r .election)) as (λ _. Reaction) [
-                  false ↦ quiet s
+                | false ↦ quiet s
                 | true ↦ elim (eqb (m .round) (r .number)) as (λ _. Reaction) [ false ↦ quiet s | true ↦ counting n p (m .bucket) (counted (m .sender) mark report r) s ]
-                ]
-              ])
+              ]
+            ])
         go none e = still
         go (some r) e = election r e (eqb (m .election) (r .election)) refl
 
@@ -302,7 +313,7 @@ module _ {n now taken buckets : ℕ} {log : Log} (ok : LogOk n now taken log) (m
         accepted = λ i. let z : _≡_ {A = ℕ} 0 1 = cc in absurd (omega arith);
         reported = λ i. let z : _≡_ {A = ℕ} 0 1 = cc in absurd (omega arith);
         holds = Claims.Holds.first refl refl;
-        below = omega arith
+        below = omega arith;
       }
 
   pub write-reply : m .body ≡ ackWrite → ReplyOk log (m .receiver) (m .sender) (m .bucket) (m .election) (m .round) acknowledged freshCopy
@@ -313,7 +324,7 @@ module _ {n now taken buckets : ℕ} {log : Log} (ok : LogOk n now taken log) (m
         accepted = λ i o j e k w. rw (ap (λ z. z .at) (named y o j e k) ∙ y .at) (claim .2);
         reported = λ i o j e k w. absurd (true-not-false (sym (y .kind) ∙ ap (λ z. Claims.writing (z .purpose)) (sym (named y o j e k)) ∙ w));
         holds = Claims.Holds.first refl refl;
-        below = omega arith
+        below = omega arith;
       }
 
   pub read-reply : (v : Version) (t : List Entry) → m .body ≡ ackRead v t → ReplyOk log (m .receiver) (m .sender) (m .bucket) (m .election) (m .round) acknowledged (record { version = v; table = t })
@@ -324,5 +335,5 @@ module _ {n now taken buckets : ℕ} {log : Log} (ok : LogOk n now taken log) (m
         accepted = λ i o j e k w. absurd (true-not-false (sym w ∙ ap (λ z. Claims.writing (z .purpose)) (named y o j e k) ∙ y .kind));
         reported = λ i o j e k w. claim .2;
         holds = claim .3;
-        below = ok .rounds .bounded _ (claim .2)
+        below = ok .rounds .bounded _ (claim .2);
       }

@@ -36,26 +36,47 @@ empty-log-ok n now =
     record {
       votes = record { one-vote = λ x y m. none-in m; quorate = λ x m. none-in m; voted = λ x m. none-in m };
       writes =
-        record {
-          unique = λ w x m. none-in m; positive = λ w m. none-in m; origin = λ w m. none-in m; succeeds = λ w m. none-in m;
-          won = λ w m. none-in m; once = λ w x m. none-in m
-        };
+          record {
+            unique = λ w x m. none-in m;
+            positive = λ w m. none-in m;
+            origin = λ w m. none-in m;
+            succeeds = λ w m. none-in m;
+            won = λ w m. none-in m;
+            once = λ w x m. none-in m;
+          };
       rounds =
-        record {
-          won = λ o m. none-in m; unique = λ o p m. none-in m; reported = λ r m. none-in m; bounded = λ r m. none-in m;
-          accepted = λ a m. none-in m; promised = λ a r m. none-in m; newest = λ o m. none-in m; written = λ o m. none-in m;
-          looks-at = λ o m. none-in m; under = λ o m. none-in m; unseated = λ r o x m. none-in m
-        };
+          record {
+            won = λ o m. none-in m;
+            unique = λ o p m. none-in m;
+            reported = λ r m. none-in m;
+            bounded = λ r m. none-in m;
+            accepted = λ a m. none-in m;
+            promised = λ a r m. none-in m;
+            newest = λ o m. none-in m;
+            written = λ o m. none-in m;
+            looks-at = λ o m. none-in m;
+            under = λ o m. none-in m;
+            unseated = λ r o x m. none-in m;
+          };
       calls =
-        record {
-          begun-once = λ x y m. none-in m; in-turn = λ x y m. none-in m; ended-once = λ x y m. none-in m; ended-begun = λ x m. none-in m;
-          written-before = λ x m. none-in m; justified = λ x m. none-in m; confirmed = λ c m. none-in m
-        };
+          record {
+            begun-once = λ x y m. none-in m;
+            in-turn = λ x y m. none-in m;
+            ended-once = λ x y m. none-in m;
+            ended-begun = λ x m. none-in m;
+            written-before = λ x m. none-in m;
+            justified = λ x m. none-in m;
+            confirmed = λ c m. none-in m;
+          };
       time =
-        record {
-          wins = λ x m. none-in m; writes = λ x m. none-in m; rounds = λ x m. none-in m; begins = λ x m. none-in m;
-          ends = λ x m. none-in m; numbers = λ x m. none-in m
-        }
+          record {
+            wins = λ x m. none-in m;
+            writes = λ x m. none-in m;
+            rounds = λ x m. none-in m;
+            begins = λ x m. none-in m;
+            ends = λ x m. none-in m;
+            numbers = λ x m. none-in m;
+          };
     }
 
 all-alike : {A : Type 0} (a : A) (n k : ℕ) → getD (replicate n a) k a ≡ a
@@ -69,17 +90,17 @@ fresh-server-ok n b p =
     record {
       shape = record { copies = length-replicate b _; votes = length-replicate n _; rounds = length-replicate b _; calls = length-replicate b _ };
       stored =
-        record {
-          number = omega arith;
-          votes = λ x m. none-in m;
-          voted = λ l. absurd (omega arith);
-          wins = λ x m. none-in m;
-          copies = λ k. rw (all-alike freshCopy b k) (Claims.Holds.first refl refl, omega arith);
-          accepts = λ x m. none-in m;
-          reports = λ x m. none-in m
-        };
+          record {
+            number = omega arith;
+            votes = λ x m. none-in m;
+            voted = λ l. absurd (omega arith);
+            wins = λ x m. none-in m;
+            copies = λ k. rw (all-alike freshCopy b k) (Claims.Holds.first refl refl, omega arith);
+            accepts = λ x m. none-in m;
+            reports = λ x m. none-in m;
+          };
       numbered = λ o m. none-in m;
-      role = λ k. (all-alike {A = Option Round} none b k, all-alike {A = Option Call} none b k)
+      role = λ k. (all-alike {A = Option Round} none b k, all-alike {A = Option Call} none b k);
     }
 
 at-replicate : {A : Type 0} (P : A → Type 0) (a d : A) (n k : ℕ) → k < n → P a → P (getD (replicate n a) k d)
@@ -93,7 +114,7 @@ fresh-good n b now =
     record {
       facts = empty-log-ok _ now;
       servers = rw (length-replicate n (freshServer n b)) (λ p h. at-replicate (ServerOk n b emptyLog p) (freshServer n b) _ n p h (fresh-server-ok n b p));
-      messages = λ m i. none-in i
+      messages = λ m i. none-in i;
     }
 
 -- ---- what is read off the script is what the log has
@@ -127,7 +148,7 @@ match-regroup a r x d s y h =
       begun = λ z m. h .begun z (regroup-to a r x z m);
       begins = λ z m. regroup-from a r x z (h .begins z m);
       ended = λ z m. h .ended z (regroup-to d s y z m);
-      ends = λ z m. regroup-from d s y z (h .ends z m)
+      ends = λ z m. regroup-from d s y z (h .ends z m);
     }
 
 -- ---- one line
@@ -156,12 +177,12 @@ line-matches {now} {c} {log} {l} g h =
     let out = work c l .answers in
     let e : map beginOf (g .next .begins) ≡ map beginOf (begunBy now c l) ++ map beginOf (log .begins) = ap (map beginOf) (g .begins) ∙ map-append beginOf (begunBy now c l) (log .begins) in
     let f : map endOf (endsOf now out ++ log .ends) ≡ map (endIn now) out ++ map endOf (log .ends) =
-          map-append endOf (endsOf now out) (log .ends) ∙ ap (λ r. r ++ map endOf (log .ends)) (ends-read now out) in
+    map-append endOf (endsOf now out) (log .ends) ∙ ap (λ r. r ++ map endOf (log .ends)) (ends-read now out) in
     record {
       begun = rw e (append-mono (map beginOf (begunBy now c l)) (h .begun));
       begins = rw e (append-mono (map beginOf (begunBy now c l)) (h .begins));
       ended = λ x m. mapped endOf (endsOf now out ++ log .ends) (g .next .ends) (λ y i. g .ends y .1 i) x (rw f (append-mono (map (endIn now) out) (h .ended) x m));
-      ends = λ x m. append-mono (map (endIn now) out) (h .ends) x (rw f at (mapped endOf (g .next .ends) (endsOf now out ++ log .ends) (λ y i. g .ends y .0 i) x m))
+      ends = λ x m. append-mono (map (endIn now) out) (h .ends) x (rw f at (mapped endOf (g .next .ends) (endsOf now out ++ log .ends) (λ y i. g .ends y .0 i) x m));
     }
 
 -- how many calls there are after a line, and of how many buckets
@@ -171,15 +192,15 @@ unfolding handing
 handing-keeps c m kept copied =
     elim (stoppedAt c (m .receiver)) as
     (λ t.
-      let w = elim t as (λ _. Work) [ true ↦ wasted c kept copied | false ↦ handed c m kept copied (handle (length (c .servers)) (m .receiver) m (serverAt c (m .receiver))) ] in
-      (w .cluster .calls ≡ c .calls) × (w .cluster .buckets ≡ c .buckets))
+    let w = elim t as (λ _. Work) [ true ↦ wasted c kept copied | false ↦ handed c m kept copied (handle (length (c .servers)) (m .receiver) m (serverAt c (m .receiver))) ] in
+    (w .cluster .calls ≡ c .calls) × (w .cluster .buckets ≡ c .buckets))
     [ true ↦ (refl, refl) | false ↦ (refl, refl) ]
 
 -- an accepted line of a cluster that stands is read as what it began
 line-read : (now : ℕ) (c : Cluster) (l : List ℕ) (x : Line) (ls : List (List ℕ)) (out : List Answer) (os : List Outcome)
     → parse l ≡ some x → firstOf (conditions c x) ≡ none
     → beginsFrom now (c .calls) (c .buckets) (l ∷ ls) (printed out ∷ os)
-      ≡ map beginOf (begunBy now c x) ++ beginsFrom (now + 1) (work c x .cluster .calls) (work c x .cluster .buckets) ls os
+    ≡ map beginOf (begunBy now c x) ++ beginsFrom (now + 1) (work c x .cluster .calls) (work c x .cluster .buckets) ls os
 unfolding beginsFrom begunBy work meaning conditions firstOf
 line-read now c l (cluster n b) ls out os e f = let z : _≡_ {A = ℕ} 0 1 = cc in absurd (omega arith)
 line-read now c l (elect s) ls out os e f = rw (beginsFrom, e)
@@ -226,7 +247,7 @@ ran-none now count b (some c) t log bs es m g same =
       taken = c .calls;
       half = majority-half _ (omega (arith, m .within .size, m .someServers)) (omega (arith, m .within .size, m .fewServers));
       facts = g .0 .facts;
-      same = same
+      same = same;
     }
 
 -- a line later nothing has changed
@@ -260,7 +281,7 @@ module _ (ls : List (List ℕ)) (goes : Goes ls) (l : List ℕ) (now count b : �
       let a = map beginOf (begunBy (now + 1) c x) in
       let d = map (endIn (now + 1)) out in
       let r = goes (now + 1) (work c x .cluster .calls) (work c x .cluster .buckets) t (g .next) (a ++ bs) (d ++ es) n
-            (subst (λ o. RunOk (now + 1) o (work c x .cluster .calls) (work c x .cluster .buckets) (g .next)) (sym i) (g .good, refl, refl)) (line-matches g same) in
+      (subst (λ o. RunOk (now + 1) o (work c x .cluster .calls) (work c x .cluster .buckets) (g .next)) (sym i) (g .good, refl, refl)) (line-matches g same) in
       let read = line-read (now + 1) c l x ls out (outcomes t ls) p f in
       rw (k .1, k .2, read) (ran-regroup a _ bs d _ es r)
 

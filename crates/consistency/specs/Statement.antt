@@ -34,8 +34,11 @@ reply t r = record { table = t; result = r }
 unfoldable pub plainSet : List ℕ → List ℕ → List Entry → Reply
 plainSet k [] t = reply (remove k t) done
 plainSet k (b ∷ v) t =
-    elim (holds k t) [ true ↦ reply (put k (b ∷ v) t) done | false ↦
-    elim (ltb (length t) 4) [ true ↦ reply (put k (b ∷ v) t) done | false ↦ reply t full ] ]
+    elim (holds k t) [
+      | true ↦ reply (put k (b ∷ v) t) done
+      | false ↦
+          elim (ltb (length t) 4) [ true ↦ reply (put k (b ∷ v) t) done | false ↦ reply t full ]
+    ]
 
 unfoldable pub plain : Words → List Entry → Reply
 plain (get k) t = reply t (value (valueOf k t))
@@ -133,11 +136,11 @@ pub record OneOrder (bs : List Begin) (es : List End) (b : ℕ) : Type 0 where
   pub none-undone : (i : ℕ) → i ∈ order → (y : End) → y ∈ es → y .number ≡ i → y .result ≡ notdone → ⊥
   -- every call of that bucket that ended with another result than `unknown` and `notdone` stands in it
   pub complete :
-    (x : Begin) → x ∈ bs → x .bucket ≡ b → (y : End) → y ∈ es → y .number ≡ x .number →
-    (y .result ≡ unknown → ⊥) → (y .result ≡ notdone → ⊥) → x .number ∈ order
+      (x : Begin) → x ∈ bs → x .bucket ≡ b → (y : End) → y ∈ es → y .number ≡ x .number →
+      (y .result ≡ unknown → ⊥) → (y .result ≡ notdone → ⊥) → x .number ∈ order
   -- a call that ended in a line before the one in which another began stands before it
   pub in-real-time :
-    (i j : ℕ) → i ∈ order → j ∈ order → (y : End) → y ∈ es → y .number ≡ i → (x : Begin) → x ∈ bs → x .number ≡ j →
-    y .line < x .line → Before i j order
+      (i j : ℕ) → i ∈ order → j ∈ order → (y : End) → y ∈ es → y .number ≡ i → (x : Begin) → x ∈ bs → x .number ≡ j →
+      y .line < x .line → Before i j order
   -- the plain table, empty at first, gives exactly what was printed
   pub answered : Fed bs es [] order

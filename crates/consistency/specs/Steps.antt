@@ -130,10 +130,12 @@ module _ {now : ℕ} {c : Cluster} {log : Log} {t : Tally} (stands : Stands c t)
   stop-good s h =
       let old = good .servers s h in
       let same : ServerOk (length (c .servers)) (c .buckets) log s (halted (serverAt c s)) =
-            record {
-              shape = record { copies = old .shape .copies; votes = old .shape .votes; rounds = old .shape .rounds; calls = old .shape .calls };
-              stored = old .stored; numbered = old .numbered; role = old .role
-            } in
+      record {
+        shape = record { copies = old .shape .copies; votes = old .shape .votes; rounds = old .shape .rounds; calls = old .shape .calls };
+        stored = old .stored;
+        numbered = old .numbered;
+        role = old .role;
+      } in
       let k : Kept (length (c .servers)) (c .buckets) now (c .calls) s log _ = unmoved (good .facts) same [] (λ x i. none-in i) in
       record { next = k .next; good = by-line s h k; begins = k .begins; ends = k .ends }
 
@@ -147,7 +149,7 @@ module _ {now : ℕ} {c : Cluster} {log : Log} {t : Tally} (stands : Stands c t)
         next = k .next;
         good = stepped-good half good s h (adds-begun log s _) k (c .messages) (λ m i. i);
         begins = k .begins;
-        ends = k .ends
+        ends = k .ends;
       }
 
   -- a message that goes nowhere
@@ -156,10 +158,10 @@ module _ {now : ℕ} {c : Cluster} {log : Log} {t : Tally} (stands : Stands c t)
       record {
         next = log;
         good =
-          rw e
-          (record { facts = good .facts; servers = good .servers; messages = λ m i. good .messages m (sub m i) });
+            rw e
+            (record { facts = good .facts; servers = good .servers; messages = λ m i. good .messages m (sub m i) });
         begins = rw f;
-        ends = λ x. rw e (λ m. m, λ m. m)
+        ends = λ x. rw e (λ m. m, λ m. m);
       }
 
   -- a message that is handed to its server
@@ -176,7 +178,7 @@ module _ {now : ℕ} {c : Cluster} {log : Log} {t : Tally} (stands : Stands c t)
             next = k .next;
             good = rw g (stepped-good half good (m .receiver) h (adds-refl (m .receiver) log) k still sub);
             begins = rw f (k .begins);
-            ends = rw g (k .ends)
+            ends = rw g (k .ends);
           }
 
   at-place : (i : ℕ) → i < length (c .messages) → (messageAt c i ∈ c .messages) × (messageAt c i .receiver < length (c .servers))

@@ -153,13 +153,16 @@ module _ {bs : List Begin} {es : List End} (ran : Ran bs es) (b : ℕ) where
   fed-too t (i ∷ l) sub h =
       let c = h .0 in
       let (x, m, e, f, g) = begin-of c (h .1) in
-      let next : Fed bs es (plain (c .words) t .table) l = rw (after-agrees (c .words) t) at (fed-too _ l (λ j k. sub j (List·Memᴰ·tail k)) (h .4)) in
-      (x, m, e ∙ h .2,
-      λ y k n u.
-        let j : y .number ≡ c .number = n ∙ sym (h .2) in
-        let d = not-undone c (h .1) (rw (h .2) (sub i (List·Memᴰ·head refl))) y k j in
-        rw g (sym (answer-agrees (c .words) t) ∙ h .3 (y .line) (y .result) (call-end c (h .1) y k j ∙ answered-by (y .line) (y .result) u d)),
-      rw g next)
+      let next : Fed bs es (plain (c .words) t .table) l = rw (after-agrees (c .words) t) at (fed-too _ l (λ j k. sub j (List·Memᴰ·tail k)) (h .4)) in (
+        x,
+        m,
+        e ∙ h .2,
+        λ y k n u.
+            let j : y .number ≡ c .number = n ∙ sym (h .2) in
+            let d = not-undone c (h .1) (rw (h .2) (sub i (List·Memᴰ·head refl))) y k j in
+            rw g (sym (answer-agrees (c .words) t) ∙ h .3 (y .line) (y .result) (call-end c (h .1) y k j ∙ answered-by (y .line) (y .result) u d)),
+        rw g next,
+      )
 
   pub one-order-of : OneOrder bs es b
   one-order-of =
@@ -167,23 +170,23 @@ module _ {bs : List Begin} {es : List End} (ran : Ran bs es) (b : ℕ) where
         order = order .order;
         once = distinct-too (order .order) (order .distinct);
         calls = λ i m.
-          let (c, k, e) = in-order i m in
-          let (x, n, f, g, w) = begin-of c k in
-          (x, n, f ∙ e, g);
+            let (c, k, e) = in-order i m in
+            let (x, n, f, g, w) = begin-of c k in
+            (x, n, f ∙ e, g);
         none-undone = λ i m y k n r.
-          let (c, j, e) = in-order i m in
-          not-undone c j (rw e m) y k (n ∙ sym e) r;
+            let (c, j, e) = in-order i m in
+            not-undone c j (rw e m) y k (n ∙ sym e) r;
         complete = λ x m e y k n u d.
-          let (c, j, f, g) = call-of x m e in
-          rw (← f) (order .complete c j (y .line) (y .result) (call-end c j y k (n ∙ sym f) ∙ answered-by (y .line) (y .result) u d));
+            let (c, j, f, g) = call-of x m e in
+            rw (← f) (order .complete c j (y .line) (y .result) (call-end c j y k (n ∙ sym f) ∙ answered-by (y .line) (y .result) u d));
         in-real-time = λ i j m n y k e x o f before.
-          let (c, p, g) = in-order i m in
-          let (u, v, w) = in-order j n in
-          let (d, q, r, t) = call-of x o (same-bucket x o u v (f ∙ sym w)) in
-          let ended : EndedIn (c .end) (y .line) = rw (call-end c p y k (e ∙ sym g)) (ended-in (y .line) (y .result)) in
-          let first = order .in-real-time c d p q (rw g m) (rw (r, f) n) (y .line) ended (rw t before) in
-          rw (← g, ← f, ← r) first;
-        answered = fed-too [] (order .order) (λ i m. m) (order .fed)
+            let (c, p, g) = in-order i m in
+            let (u, v, w) = in-order j n in
+            let (d, q, r, t) = call-of x o (same-bucket x o u v (f ∙ sym w)) in
+            let ended : EndedIn (c .end) (y .line) = rw (call-end c p y k (e ∙ sym g)) (ended-in (y .line) (y .result)) in
+            let first = order .in-real-time c d p q (rw g m) (rw (r, f) n) (y .line) ended (rw t before) in
+            rw (← g, ← f, ← r) first;
+        answered = fed-too [] (order .order) (λ i m. m) (order .fed);
       }
 
 -- ---- the theorem

@@ -73,11 +73,11 @@ module _ (n buckets now taken p b : ℕ) (half : n < 2 * majority n) {log : Log}
   write-facts =
       let won = h .leads .won in
       let one =
-          write-added ok wrote refl (rw (new .election) (h .leads .positive)) (new .counter) not-below (new .origin) (new .succeeds)
-          (won .win) (won .had) (won .election ∙ rw (new .election)) (λ i m. rw (new .mine i m) (new .unwritten, h .call .unended)) in
+      write-added ok wrote refl (rw (new .election) (h .leads .positive)) (new .counter) not-below (new .origin) (new .succeeds)
+      (won .win) (won .had) (won .election ∙ rw (new .election)) (λ i m. rw (new .mine i m) (new .unwritten, h .call .unended)) in
       let two =
-          round-added one opens refl (record { win = won .win; had = won .had; election = won .election; leader = won .leader })
-          (above-all n buckets now taken p b half ok h) (λ i. absurd (other i)) in
+      round-added one opens refl (record { win = won .win; had = won .had; election = won .election; leader = won .leader })
+      (above-all n buckets now taken p b half ok h) (λ i. absurd (other i)) in
       accept-added two own wrote first-in refl refl
       (λ r m i. rw (new .election, ← h .leads .vote) (h .leads .stored .reports r m i))
 
@@ -93,14 +93,14 @@ module _ (n buckets now taken p b : ℕ) (half : n < 2 * majority n) {log : Log}
       record {
         stored = stored;
         volatile =
-          record {
-            role = s .volatile .role;
-            votes = s .volatile .votes;
-            lastRound = s .volatile .lastRound + 1;
-            rounds = set (s .volatile .rounds) b (some (newRound n p b why s));
-            calls = set (s .volatile .calls) b (oneMore (isOwn why) (callAt (s .volatile) b))
-          };
-        stopped = s .stopped
+            record {
+              role = s .volatile .role;
+              votes = s .volatile .votes;
+              lastRound = s .volatile .lastRound + 1;
+              rounds = set (s .volatile .rounds) b (some (newRound n p b why s));
+              calls = set (s .volatile .calls) b (oneMore (isOwn why) (callAt (s .volatile) b));
+            };
+        stopped = s .stopped;
       }
 
   writes-server : opening n p b why (writing v t) s ≡ writer
@@ -136,14 +136,14 @@ module _ (n buckets now taken p b : ℕ) (half : n < 2 * majority n) {log : Log}
         voted = λ l. inr (won-grows grows (h .leads .won));
         wins = st .wins;
         copies =
-          each-place (λ j. Holds writeLog j (copyAt stored j .version) (copyAt stored j .table) × (copyAt stored j .version .election ≤ e)) b
-          (λ j d. rw (copy-there j d) (holds-grows grows (st .copies j .0), rw vote at (st .copies j .1)))
-          (rw copy-here (held, omega (arith, new .election)));
+            each-place (λ j. Holds writeLog j (copyAt stored j .version) (copyAt stored j .table) × (copyAt stored j .version .election ≤ e)) b
+            (λ j d. rw (copy-there j d) (holds-grows grows (st .copies j .0), rw vote at (st .copies j .1)))
+            (rw copy-here (held, omega (arith, new .election)));
         accepts =
-          each-cons {P = λ y. y .server ≡ p → (y .at ≼ copyAt stored (y .bucket) .version) × (y .at .election ≤ e)}
-          (λ i. (rw copy-here (le-refl v), omega (arith, new .election)))
-          (λ y m i. (accepted-below y m i, rw vote at (st .accepts y m i .1)));
-        reports = λ y m i. rw vote at (st .reports y m i)
+            each-cons {P = λ y. y .server ≡ p → (y .at ≼ copyAt stored (y .bucket) .version) × (y .at .election ≤ e)}
+            (λ i. (rw copy-here (le-refl v), omega (arith, new .election)))
+            (λ y m i. (accepted-below y m i, rw vote at (st .accepts y m i .1)));
+        reports = λ y m i. rw vote at (st .reports y m i);
       }
 
   write-newest : (j : ℕ) → CopyNewest writeLog e j (copyAt stored j)
@@ -153,18 +153,18 @@ module _ (n buckets now taken p b : ℕ) (half : n < 2 * majority n) {log : Log}
       rw (copy-there j d)
       (record {
         recovered = λ i.
-          each-cons {P = λ w. w .bucket ≡ j → w .at .election ≡ e → w .at ≼ copyAt (s .stored) j .version}
-          (λ q l. absurd (d (sym q))) (h .leads .newest j .recovered i);
+            each-cons {P = λ w. w .bucket ≡ j → w .at .election ≡ e → w .at ≼ copyAt (s .stored) j .version}
+            (λ q l. absurd (d (sym q))) (h .leads .newest j .recovered i);
         unrecovered = λ i.
-          each-cons {P = λ w. w .bucket ≡ j → w .at .election ≡ e → ⊥}
-          (λ q l. d (sym q)) (h .leads .newest j .unrecovered i)
+            each-cons {P = λ w. w .bucket ≡ j → w .at .election ≡ e → ⊥}
+            (λ q l. d (sym q)) (h .leads .newest j .unrecovered i);
       }))
       (rw copy-here
       (record {
         recovered = λ i.
-          each-cons {P = λ w. w .bucket ≡ b → w .at .election ≡ e → w .at ≼ v}
-          (λ q l. le-refl v) (λ w m q l. le-of-lt (new .newest w m q l));
-        unrecovered = λ i w m q l. i (new .election)
+            each-cons {P = λ w. w .bucket ≡ b → w .at .election ≡ e → w .at ≼ v}
+            (λ q l. le-refl v) (λ w m q l. le-of-lt (new .newest w m q l));
+        unrecovered = λ i w m q l. i (new .election);
       }))
 
   write-leads : Leads n buckets writeLog p writer
@@ -172,21 +172,21 @@ module _ (n buckets now taken p b : ℕ) (half : n < 2 * majority n) {log : Log}
       let sh = h .leads .shape in
       record {
         shape =
-          record {
-            copies = simp length-set (sh .copies);
-            votes = sh .votes;
-            rounds = simp length-set (sh .rounds);
-            calls = simp length-set (sh .calls)
-          };
+            record {
+              copies = simp length-set (sh .copies);
+              votes = sh .votes;
+              rounds = simp length-set (sh .rounds);
+              calls = simp length-set (sh .calls);
+            };
         stored = write-stored;
         numbered =
-          each-cons {P = λ o. o .leader ≡ p → o .election ≡ e → o .number ≤ s .volatile .lastRound + 1}
-          (λ i j. omega arith) (λ o m i j. omega (arith, h .leads .numbered o m i j));
+            each-cons {P = λ o. o .leader ≡ p → o .election ≡ e → o .number ≤ s .volatile .lastRound + 1}
+            (λ i j. omega arith) (λ o m i j. omega (arith, h .leads .numbered o m i j));
         role = h .leads .role;
         won = won-grows grows (h .leads .won);
         vote = refl;
         positive = h .leads .positive;
-        newest = write-newest
+        newest = write-newest;
       }
 
   -- a call on another bucket is another call
@@ -194,9 +194,9 @@ module _ (n buckets now taken p b : ℕ) (half : n < 2 * majority n) {log : Log}
   untouched j d y k =
       record {
         unwritten = λ f.
-          each-cons {P = λ w. w .call ≡ some (y .number) → ⊥}
-          (λ i. d (ap (λ z. z .bucket) (ok .calls .begun-once _ _ (k .begun) (h .call .begun) (new .mine _ i)))) f;
-        unended = λ f. f
+            each-cons {P = λ w. w .call ≡ some (y .number) → ⊥}
+            (λ i. d (ap (λ z. z .bucket) (ok .calls .begun-once _ _ (k .begun) (h .call .begun) (new .mine _ i)))) f;
+        unended = λ f. f;
       }
 
   write-elsewhere : (j : ℕ) → j ≢ b → Bucket n writeLog p writer j
@@ -216,9 +216,9 @@ module _ (n buckets now taken p b : ℕ) (half : n < 2 * majority n) {log : Log}
         elsewhere = write-elsewhere;
         inside = h .inside;
         here =
-          getD-set-same (s .volatile .calls) b (oneMore (isOwn why) (callAt (s .volatile) b)) none (rw (h .leads .shape .calls) (h .inside))
-          ∙ rw (h .here);
-        call = write-call
+            getD-set-same (s .volatile .calls) b (oneMore (isOwn why) (callAt (s .volatile) b)) none (rw (h .leads .shape .calls) (h .inside))
+            ∙ rw (h .here);
+        call = write-call;
       }
 
   pub write-ready : Ready n buckets writeLog p b (more (isOwn why) c) (opening n p b why (writing v t) s)
@@ -244,7 +244,7 @@ module _ (n buckets now taken p b : ℕ) (half : n < 2 * majority n) {log : Log}
         line = now;
         opened = first-in;
         after = ok .time .begins _ (h .call .begun);
-        phase = phase
+        phase = phase;
       })))
 
   -- what the server stores at bucket b afterwards

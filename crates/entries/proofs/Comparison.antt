@@ -142,7 +142,7 @@ module _ {n m : ℕ} {x y : List ℕ} {i : ℕ} (c : Comparing n m x y i) where
         inY = omega arith;
         allX = c .allX;
         allY = c .allY;
-        rest = c .rest ∙ rw (next-byte n x i h (c .allX), next-byte m y i k (c .allY)) (order-next _ _ _ _ l g)
+        rest = c .rest ∙ rw (next-byte n x i h (c .allX), next-byte m y i k (c .allY)) (order-next _ _ _ _ l g);
       }
 
   pub comparing-longer : i < n → m ≤ i → order (take n x) (take m y) ≡ After

@@ -87,7 +87,7 @@ module _ {k : List ℕ} (t : Decoded) (p : Place) (c : Placed k (tableIn t) p) w
       storing-full h m =
           record {
             is = sym (storing-none 4 k v (tableIn t) l (sym (c .held-is) ∙ h) (rw (← d .is) m));
-            kept = λ x. refl
+            kept = λ x. refl;
           }
 
 -- a value of no bytes takes the key away

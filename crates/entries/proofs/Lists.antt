@@ -44,7 +44,7 @@ copying-goes-on {top} {s} {n} {b} {i} c h =
       within = omega arith;
       count = c .count;
       room = length-set b i (getD s i 0) ∙ c .room;
-      same = rw (add-one i, take-suc-set b i (getD s i 0) (omega arith), take-suc s i 0 (omega arith), c .same)
+      same = rw (add-one i, take-suc-set b i (getD s i 0) (omega arith), take-suc s i 0 (omega arith), c .same);
     }
 
 pub copying-ends : {top : ℕ} {s : List ℕ} {n : ℕ} {b : List ℕ} {i : ℕ} → Copying top s n b i → n ≤ i → take n b ≡ take top s

@@ -90,7 +90,7 @@ module _ {k : List ℕ} {n : ℕ} {l : List Slot} {i : ℕ} (c : Placing k n l i
       record {
         at-is = sym (c .passed ∙ rw (next h, leading, o) (omega arith));
         held-is = sym (c .same ∙ rw (next h, holds, o));
-        low = few
+        low = few;
       }
 
   pub placing-same : i < n → order k (keyBytes (getD l i blank .key)) ≡ Same → Placed k (entriesIn n l) (record { at = i; held = true })
@@ -99,7 +99,7 @@ module _ {k : List ℕ} {n : ℕ} {l : List Slot} {i : ℕ} (c : Placing k n l i
       record {
         at-is = sym (c .passed ∙ rw (next h, leading, o) (omega arith));
         held-is = sym (c .same ∙ rw (next h, holds, o));
-        low = few
+        low = few;
       }
 
   pub placing-goes-on : i < n → order k (keyBytes (getD l i blank .key)) ≡ After → Placing k n l (i + 1)
@@ -110,7 +110,7 @@ module _ {k : List ℕ} {n : ℕ} {l : List Slot} {i : ℕ} (c : Placing k n l i
         low = c .low;
         four = c .four;
         passed = c .passed ∙ rw (next h, leading, o) (omega arith);
-        same = c .same ∙ rw (next h, holds, o)
+        same = c .same ∙ rw (next h, holds, o);
       }
 
   pub placing-ends : n ≤ i → Placed k (entriesIn n l) (record { at = n; held = false })
@@ -120,5 +120,5 @@ module _ {k : List ℕ} {n : ℕ} {l : List Slot} {i : ℕ} (c : Placing k n l i
       record {
         at-is = sym (c .passed ∙ rw e (omega (arith, c .inside)));
         held-is = sym (c .same ∙ rw e);
-        low = few
+        low = few;
       }

@@ -33,11 +33,12 @@ module _ {A : Type 0} {top p : ℕ} {l : List A} {s : A} {out : List A} {carried
         size = length-set out i carried ∙ c .size;
         full = c .full;
         rest = more-rest;
-        whole = more-whole
+        whole = more-whole;
       }
     where
       more-rest : drop (i + 1) (set out i carried) ≡ drop (i + 1) l
       more-rest = drop-set-lt (i + 1) out i carried (omega arith) ∙ sym (drop-drop 1 i out) ∙ ap (drop 1) (c .rest) ∙ drop-drop 1 i l
+
       more-whole : take (i + 1) (set out i carried) ++ (getD out i d ∷ drop (i + 1) l) ≡ take p l ++ (s ∷ drop p l)
       more-whole =
           rw (same-next d, add-one i, take-suc-set out i carried (omega (arith, c .size)), append-snoc (take i out) carried (getD l i d ∷ drop (suc i) l), ← drop-cons l i d (omega (arith, c .full)))
@@ -74,13 +75,15 @@ module _ {A : Type 0} {top p : ℕ} {l : List A} {out : List A} {i : ℕ} (c : R
         size = length-set out i (getD out (i + 1) d) ∙ c .size;
         full = c .full;
         rest = more-rest;
-        whole = more-whole
+        whole = more-whole;
       }
     where
       more-rest : drop (i + 1) (set out i (getD out (i + 1) d)) ≡ drop (i + 1) l
       more-rest = drop-set-lt (i + 1) out i (getD out (i + 1) d) (omega arith) ∙ sym (drop-drop 1 i out) ∙ ap (drop 1) (c .rest) ∙ drop-drop 1 i l
+
       two : drop (i + 1) l ≡ getD l (i + 1) d ∷ drop (i + 1 + 1) l
       two = rw (add-one (i + 1)) (drop-cons l (i + 1) d (omega (arith, c .full)))
+
       more-whole : take (i + 1) (set out i (getD out (i + 1) d)) ++ drop (i + 1 + 1) l ≡ take p l ++ drop (p + 1) l
       more-whole =
           ap (λ x. x ++ drop (i + 1 + 1) l) (ap (λ n. take n (set out i (getD out (i + 1) d))) (add-one i) ∙ take-suc-set out i (getD out (i + 1) d) (omega (arith, c .size)))
@@ -157,6 +160,6 @@ module _ {A B : Type 0} (f : A → B) (top n p : ℕ) (l r : List A) where
       let all : p + 1 + m ≡ n = omega arith in
       sym (map-take f (n - 1) r)
       ∙ ap (map f)
-          (sym (take-take (n - 1) top r (omega arith)) ∙ ap (take (n - 1)) q ∙ ap (λ x. take x (take p l ++ drop (p + 1) l)) less ∙ used-removed p m l (omega arith))
+      (sym (take-take (n - 1) top r (omega arith)) ∙ ap (take (n - 1)) q ∙ ap (λ x. take x (take p l ++ drop (p + 1) l)) less ∙ used-removed p m l (omega arith))
       ∙ map-append f (take p (take (p + 1 + m) l)) (drop (p + 1) (take (p + 1 + m) l))
       ∙ rw (all, map-take f p (take n l), map-drop f (p + 1) (take n l), map-take f n l)

@@ -48,8 +48,11 @@ remove k (e ∷ t) = elim (order k (e .key)) [ Before ↦ e ∷ t | Same ↦ t |
 unfoldable pub stored : ℕ → List ℕ → List ℕ → List Entry → Option (List Entry)
 stored most k [] t = some (remove k t)
 stored most k (b ∷ v) t =
-    elim (holds k t) [ true ↦ some (put k (b ∷ v) t) | false ↦
-    elim (ltb (length t) most) [ true ↦ some (put k (b ∷ v) t) | false ↦ none ] ]
+    elim (holds k t) [
+      | true ↦ some (put k (b ∷ v) t)
+      | false ↦
+          elim (ltb (length t) most) [ true ↦ some (put k (b ∷ v) t) | false ↦ none ]
+    ]
 
 -- all keys, rising
 abbrev pub keysOf : List Entry → List (List ℕ)

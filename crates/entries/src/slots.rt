@@ -1,7 +1,4 @@
 // Decoded tables by value: a key is looked up, stored and removed.
-use crate::keys::at_most;
-use crate::keys::compare;
-use crate::keys::value_length;
 use crate::Decoded;
 use crate::Key;
 use crate::Order;
@@ -9,6 +6,9 @@ use crate::Place;
 use crate::Slot;
 use crate::Stored;
 use crate::Value;
+use crate::keys::at_most;
+use crate::keys::compare;
+use crate::keys::value_length;
 ghost use mathlib.Core.Path.{_≡_};
 ghost use mathlib.Core.List.{_++_, _∷_, []};
 ghost use Prim.Native.Nat.{_≤_, _<_, _+_};
@@ -153,7 +153,10 @@ fn put(t: Decoded, k: Key, v: Value) -> Stored
             count: n,
             slots: same,
         };
-        return Stored { full: false, table: u };
+        return Stored {
+            full: false,
+            table: u,
+        };
     }
     if n < 4 {
         let more = inserted(slots, p.at, s);
@@ -161,9 +164,15 @@ fn put(t: Decoded, k: Key, v: Value) -> Stored
             count: n + 1,
             slots: more,
         };
-        return Stored { full: false, table: u };
+        return Stored {
+            full: false,
+            table: u,
+        };
     }
-    Stored { full: true, table: t }
+    Stored {
+        full: true,
+        table: t,
+    }
 }
 
 // A slot that holds nothing.

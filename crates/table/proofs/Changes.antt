@@ -110,6 +110,7 @@ module _ (most long : ℕ) (k : List ℕ) (k₁ : 1 ≤ length k) (k₂ : length
     where
       is-put : (length (put k (b ∷ v) t) ≤ most) → some (put k (b ∷ v) t) ≡ some u → fits most long u ≡ true
       is-put n d = let s : put k (b ∷ v) t ≡ u = cc in rw (← s) (put-fits b v t l n h)
+
       go : (p : Bool) → holds k t ≡ p → (q : Bool) → ltb (length t) most ≡ q → fits most long u ≡ true
       go true p q c = is-put (omega (arith, length-put-held k (b ∷ v) t p, fits-parts most long t h .few)) (rw (stored, p) at e)
       go false p true c = is-put (omega (arith, length-put k (b ∷ v) t, ltb-true (length t) most c)) (rw (stored, p, c) at e)

@@ -44,7 +44,7 @@ module _ {out₀ : List ℕ} {at : ℕ} {w : List ℕ} {n : ℕ} {out : List ℕ
         inside = omega arith;
         room = c .room;
         size = length-set out (at + i) x ∙ c .size;
-        rest = c .rest ∙ rw (drop-cons w i 0 k, e, m, add-one i)
+        rest = c .rest ∙ rw (drop-cons w i 0 k, e, m, add-one i);
       }
 
   pub putting-ends : n ≤ i → out ≡ sets out₀ at w
@@ -73,13 +73,15 @@ module _ {out₀ : List ℕ} {n : ℕ} {l : List Slot} {out : List ℕ} {at i : 
         room = c .room;
         size = ap length e ∙ length-sets out (1 + 4 * i) (at ∷ (k ∷ ((at + k) ∷ (v ∷ [])))) ∙ c .size;
         far = omega (arith, c .far);
-        rest = c .rest ∙ more
+        rest = c .rest ∙ more;
       }
     where
       tail : List ℕ
       tail = header (at + k + v) (drop (i + 1) (entriesIn n l))
+
       first : header at (drop i (entriesIn n l)) ≡ (at ∷ (k ∷ ((at + k) ∷ (v ∷ [])))) ++ tail
       first = unfold header entryIn in rw (next-entry n l i h (omega (arith, c .low, c .four)), ← ek, ← ev)
+
       more : sets out (1 + 4 * i) (header at (drop i (entriesIn n l))) ≡ sets after (1 + 4 * (i + 1)) (header (at + k + v) (drop (i + 1) (entriesIn n l)))
       more =
           let p : 1 + 4 * i + 4 ≡ 1 + 4 * (i + 1) = omega arith in
@@ -118,19 +120,24 @@ module _ {out₀ : List ℕ} {n : ℕ} {l : List Slot} {out : List ℕ} {at i : 
         size = ap length f ∙ length-sets mid (at + k) value ∙ ap length e ∙ length-sets out at key ∙ c .size;
         far = omega (arith, c .far);
         ahead = omega (arith, c .ahead, longer);
-        rest = c .rest ∙ more
+        rest = c .rest ∙ more;
       }
     where
       key : List ℕ
       key = keyBytes (getD l i blank .key)
+
       value : List ℕ
       value = valueBytes (getD l i blank .value)
+
       tail : List ℕ
       tail = body (drop (i + 1) (entriesIn n l))
+
       first : body (drop i (entriesIn n l)) ≡ key ++ (value ++ tail)
       first = unfold body entryIn in rw (next-entry n l i h (omega (arith, c .low, c .four)))
+
       longer : length (body (drop i (entriesIn n l))) ≡ k + v + length tail
       longer = rw (first, length-append key (value ++ tail), length-append value tail, ← ek, ← ev) (omega arith)
+
       more : sets out at (body (drop i (entriesIn n l))) ≡ sets after (at + k + v) tail
       more =
           ap (sets out at) first
@@ -147,7 +154,7 @@ module _ {out₀ : List ℕ} {n : ℕ} {l : List Slot} {out : List ℕ} {at i : 
       record {
         is = rw m (sym (c .rest ∙ rw e));
         ends = rw m (omega arith);
-        low = omega (arith, c .far, c .inside, c .low)
+        low = omega (arith, c .far, c .inside, c .low);
       }
 
 -- ---- the whole form, by the four passes: the count, the header, the body, the zeros
@@ -157,18 +164,23 @@ written t out one two three four end h e₁ e₂ e₃ e₄ =
   where
     p : List ℕ
     p = packed t
+
     size-packed : length p ≡ end
     size-packed = length-packed t ∙ sym (e₃ .ends)
+
     size : length (bucketBytes 4 16 t) ≡ 113
     size = unfold bucketBytes bucketSize in simp (length-append, length-replicate, size-packed) (omega (arith, e₃ .low))
+
     form : bucketBytes 4 16 t ≡ p ++ replicate (113 - end) 0
     form = unfold bucketBytes bucketSize in rw size-packed
+
     first : three ≡ sets out 0 p
     first = unfold packed in
         let hd = header (1 + 4 * length t) t in
         e₃ .is
         ∙ ap (λ x. sets x (1 + 4 * length t) (body t)) (e₂ ∙ ap (λ x. sets x 1 hd) e₁)
         ∙ sym (sets-append (set out 0 (length t)) 1 hd (body t) ∙ ap (λ x. sets (sets (set out 0 (length t)) 1 hd) (1 + x) (body t)) (length-header (1 + 4 * length t) t))
+
     passes : four ≡ sets out 0 (bucketBytes 4 16 t)
     passes =
         let z : List ℕ = replicate (113 - end) 0 in

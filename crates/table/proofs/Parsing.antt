@@ -52,7 +52,7 @@ module _ {b : List ℕ} {n : ℕ} {l : List Slot} {at i : ℕ} (c : Decoding b n
         room = c .room;
         four = length-set l i s ∙ c .four;
         far = omega (arith, c .far);
-        whole = c .whole ∙ more
+        whole = c .whole ∙ more;
       }
     where
       more : map entryIn (take i l) ++ entriesOf 16 (n - i) (drop (1 + 4 * i) b) (drop at b) ≡ map entryIn (take (i + 1) (set l i s)) ++ entriesOf 16 (n - (i + 1)) (drop (1 + 4 * (i + 1)) b) (drop (at + k + v) b)
@@ -74,5 +74,5 @@ unfolding entryIn
 slot-cut b at k v x y h g p q =
     let key : keyBytes x ≡ take k (drop at b) = p ∙ take-all 8 (take k (drop at b)) (rw length-take (omega arith)) in
     let value : valueBytes y ≡ take v (drop k (drop at b)) =
-        q ∙ take-all 16 (take v (drop (at + k) b)) (rw length-take (omega arith)) ∙ ap (take v) (sym (drop-drop k at b)) in
+    q ∙ take-all 16 (take v (drop (at + k) b)) (rw length-take (omega arith)) ∙ ap (take v) (sym (drop-drop k at b)) in
     rw (key, value)

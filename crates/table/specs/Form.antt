@@ -33,13 +33,19 @@ rising (e ∷ (f ∷ t)) = elim (order (e .key) (f .key)) [ Before ↦ rising (f
 unfoldable pub sized : ℕ → List Entry → Bool
 sized long [] = true
 sized long (e ∷ t) =
-    elim (within maxKey (length (e .key))) [ false ↦ false | true ↦
-    elim (within long (length (e .value))) [ false ↦ false | true ↦ sized long t ] ]
+    elim (within maxKey (length (e .key))) [
+      | false ↦ false
+      | true ↦
+          elim (within long (length (e .value))) [ false ↦ false | true ↦ sized long t ]
+    ]
 
 unfoldable pub fits : ℕ → ℕ → List Entry → Bool
 fits most long t =
-    elim (leb (length t) most) [ false ↦ false | true ↦
-    elim (sized long t) [ false ↦ false | true ↦ rising t ] ]
+    elim (leb (length t) most) [
+      | false ↦ false
+      | true ↦
+          elim (sized long t) [ false ↦ false | true ↦ rising t ]
+    ]
 
 -- ---- the form of a table
 
@@ -87,5 +93,8 @@ sameBytes a b = elim (order a b) [ Before ↦ false | Same ↦ true | After ↦ 
 unfoldable pub readBucket : ℕ → ℕ → List ℕ → Option (List Entry)
 readBucket most long b =
     let t = tableOf most long b in
-    elim (fits most long t) [ false ↦ none | true ↦
-    elim (sameBytes b (bucketBytes most long t)) [ false ↦ none | true ↦ some t ] ]
+    elim (fits most long t) [
+      | false ↦ none
+      | true ↦
+          elim (sameBytes b (bucketBytes most long t)) [ false ↦ none | true ↦ some t ]
+    ]

@@ -1,10 +1,10 @@
 // From bucket bytes to a decoded table, by the count and the lengths in them, whatever they are.
+use entries::Decoded;
+use entries::Slot;
 use entries::keys::at_most;
 use entries::keys::key_of;
 use entries::keys::value_of;
 use entries::slots::blank_slot;
-use entries::Decoded;
-use entries::Slot;
 ghost use mathlib.Core.Path.{_≡_};
 ghost use Prim.Native.Nat.{_≤_, _<_, _+_, min};
 ghost use lib.ListN.{length, getD, take, drop};

@@ -1,10 +1,10 @@
 // From a decoded table to bucket bytes.
-use entries::keys::key_length;
-use entries::keys::value_length;
-use entries::slots::count_of;
 use entries::Decoded;
 use entries::Key;
 use entries::Value;
+use entries::keys::key_length;
+use entries::keys::value_length;
+use entries::slots::count_of;
 ghost use mathlib.Core.Path.{_≡_};
 ghost use mathlib.Core.List.{_∷_, [], _++_};
 ghost use Prim.Native.Nat.{_≤_, _+_, _-_, _*_};
