@@ -52,7 +52,7 @@ pub new-marks : (n p b : ℕ) (u : Purpose) (s : Server) → length (newRound n 
 unfolding newRound
 new-marks n p b u s = simp (length-set, length-replicate)
 
-module _ (n buckets now taken p b : ℕ) (half : n < 2 * majority n) {log : Log} (ok : LogOk n now taken log) {c : Call} {s : Server} (h : Ready n buckets log p b c s) where
+module _ {n buckets now taken p b : ℕ} (half : n < 2 * majority n) {log : Log} (ok : LogOk n now taken log) {c : Call} {s : Server} (h : Ready n buckets log p b c s) where
   abbrev e : ℕ
   e = s .stored .number
 
