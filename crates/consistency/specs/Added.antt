@@ -1,26 +1,21 @@
 -- One entry more is an addition by the server that it belongs to.
 use mathlib.Core.Path.{_≡_, refl}
 use mathlib.Core.Logic.{_⊎_, inl, inr}
-use mathlib.Core.List.{List, [], _∷_, List·Memᴰ·tail}
+use mathlib.Core.List.{List, [], _∷_}
 use mathlib.Core.Option.{Option, some}
 use Prim.Native.Nat.{ℕ}
 use Rattle.history.specs.Members.{_∈_, each-cons}
-use Rattle.consistency.specs.Log.{Vote, Win, Write, Accept, Report, Opened, Check, Begun, Ended, Log, Grows, _⊆_}
+use Rattle.consistency.specs.Log.{Vote, Win, Write, Accept, Report, Opened, Check, Begun, Ended, Log}
 use Rattle.consistency.specs.Claims.{Won}
 use Rattle.consistency.specs.Growth.{Adds, TakenAt}
+use Rattle.consistency.specs.Carry.{grows-vote, grows-win, grows-write, grows-accept, grows-report, grows-round, grows-check, grows-begun, grows-ended}
 use Rattle.consistency.specs.Acts.{addVote, addWin, addWrite, addAccept, addReport, addRound, addCheck, addBegun, addEnded}
-
-same : {A : Type 0} {l : List A} → l ⊆ l
-same x m = m
-
-tail : {A : Type 0} {y : A} {l : List A} → l ⊆ (y ∷ l)
-tail x m = List·Memᴰ·tail m
 
 module _ (log : Log) where
   pub adds-vote : (x : Vote) → Adds (x .server) log (addVote x log)
   adds-vote x =
       record {
-        grows = record { votes = tail; wins = same; writes = same; accepts = same; reports = same; rounds = same; checks = same; begins = same; ends = same };
+        grows = grows-vote x;
         votes = each-cons (inr refl) (λ x m. inl m);
         wins = λ x m. inl m;
         writes = λ x m. inl m;
@@ -33,7 +28,7 @@ module _ (log : Log) where
   pub adds-win : (x : Win) → Adds (x .leader) log (addWin x log)
   adds-win x =
       record {
-        grows = record { votes = same; wins = tail; writes = same; accepts = same; reports = same; rounds = same; checks = same; begins = same; ends = same };
+        grows = grows-win x;
         votes = λ x m. inl m;
         wins = each-cons (inr refl) (λ x m. inl m);
         writes = λ x m. inl m;
@@ -46,7 +41,7 @@ module _ (log : Log) where
   pub adds-write : (p : ℕ) (x : Write) → Won log (x .at .election) p → ((i : ℕ) → x .call ≡ some i → TakenAt log p i) → Adds p log (addWrite x log)
   adds-write p x won taken =
       record {
-        grows = record { votes = same; wins = same; writes = tail; accepts = same; reports = same; rounds = same; checks = same; begins = same; ends = same };
+        grows = grows-write x;
         votes = λ x m. inl m;
         wins = λ x m. inl m;
         writes = each-cons (inr (record { win = won .win; had = won .had; election = won .election; leader = won .leader }, taken)) (λ x m. inl m);
@@ -59,7 +54,7 @@ module _ (log : Log) where
   pub adds-accept : (x : Accept) → Adds (x .server) log (addAccept x log)
   adds-accept x =
       record {
-        grows = record { votes = same; wins = same; writes = same; accepts = tail; reports = same; rounds = same; checks = same; begins = same; ends = same };
+        grows = grows-accept x;
         votes = λ x m. inl m;
         wins = λ x m. inl m;
         writes = λ x m. inl m;
@@ -72,7 +67,7 @@ module _ (log : Log) where
   pub adds-report : (x : Report) → Adds (x .server) log (addReport x log)
   adds-report x =
       record {
-        grows = record { votes = same; wins = same; writes = same; accepts = same; reports = tail; rounds = same; checks = same; begins = same; ends = same };
+        grows = grows-report x;
         votes = λ x m. inl m;
         wins = λ x m. inl m;
         writes = λ x m. inl m;
@@ -85,7 +80,7 @@ module _ (log : Log) where
   pub adds-round : (x : Opened) → Adds (x .leader) log (addRound x log)
   adds-round x =
       record {
-        grows = record { votes = same; wins = same; writes = same; accepts = same; reports = same; rounds = tail; checks = same; begins = same; ends = same };
+        grows = grows-round x;
         votes = λ x m. inl m;
         wins = λ x m. inl m;
         writes = λ x m. inl m;
@@ -98,7 +93,7 @@ module _ (log : Log) where
   pub adds-check : (p : ℕ) (x : Check) → Adds p log (addCheck x log)
   adds-check p x =
       record {
-        grows = record { votes = same; wins = same; writes = same; accepts = same; reports = same; rounds = same; checks = tail; begins = same; ends = same };
+        grows = grows-check x;
         votes = λ x m. inl m;
         wins = λ x m. inl m;
         writes = λ x m. inl m;
@@ -111,7 +106,7 @@ module _ (log : Log) where
   pub adds-begun : (p : ℕ) (x : Begun) → Adds p log (addBegun x log)
   adds-begun p x =
       record {
-        grows = record { votes = same; wins = same; writes = same; accepts = same; reports = same; rounds = same; checks = same; begins = tail; ends = same };
+        grows = grows-begun x;
         votes = λ x m. inl m;
         wins = λ x m. inl m;
         writes = λ x m. inl m;
@@ -124,7 +119,7 @@ module _ (log : Log) where
   pub adds-ended : (p : ℕ) (x : Ended) → TakenAt log p (x .number) → Adds p log (addEnded x log)
   adds-ended p x taken =
       record {
-        grows = record { votes = same; wins = same; writes = same; accepts = same; reports = same; rounds = same; checks = same; begins = same; ends = tail };
+        grows = grows-ended x;
         votes = λ x m. inl m;
         wins = λ x m. inl m;
         writes = λ x m. inl m;

@@ -34,7 +34,8 @@ use Rattle.consistency.specs.Above.{lt-above}
 use Rattle.consistency.specs.Broadcast.{each-of-broadcast}
 use Rattle.consistency.specs.Marks.{acknowledgers, closed-majority, closed-marked, closed-chosen}
 use Rattle.consistency.specs.Ready.{Leads, leads-carried, Ready, round-agrees}
-use Rattle.consistency.specs.Going.{Sent, kept-after, open-kept}
+use Rattle.consistency.specs.Chaining.{Sent, kept-after}
+use Rattle.consistency.specs.Going.{open-kept}
 use Rattle.consistency.specs.Opening.{more, only-own, new-marks, readLog, read-adds, Looks, read-facts, read-ready, read-round, recovery-read-ok, check-ok}
 use Rattle.consistency.specs.Writing.{NewWrite, wrote, writeLog, write-adds, write-facts, write-ready, write-marks, write-rests, write-copy, write-number}
 use Rattle.consistency.specs.Finish.{finish-kept}
@@ -47,14 +48,13 @@ module _ (n buckets now taken p b : ℕ) (half : n < 2 * majority n) where
   -- ---- the messages of a round
 
   read-sent : {log : Log} (ok : LogOk n now taken log) {c : Call} {s : Server} (h : Ready n buckets log p b c s) (u : Purpose) (x : Version)
-      → Claims.writing u ≡ false → Looks half ok h u x
-      → Sent n buckets now taken p log (readLog half ok h u x) (broadcast n p b (s .stored .number) (s .volatile .lastRound + 1) (requestBody reading))
+      → Claims.writing u ≡ false
+      → Sent buckets p log (readLog half ok h u x) (broadcast n p b (s .stored .number) (s .volatile .lastRound + 1) (requestBody reading))
   unfolding requestBody
-  read-sent ok {c} {s} h u x kind look =
+  read-sent ok {c} {s} h u x kind =
       let a = read-adds half ok h u x in
       record {
         adds = a;
-        facts = read-facts half ok h u x look;
         begins = refl;
         ends = refl;
         sends =
@@ -73,14 +73,13 @@ module _ (n buckets now taken p b : ℕ) (half : n < 2 * majority n) where
   write-sent : {log : Log} (ok : LogOk n now taken log) {c : Call} {s : Server} (h : Ready n buckets log p b c s)
       {v u : Version} {t : List Entry} {owner : Option ℕ} (new : NewWrite n now log b c s v u t owner) (why : Purpose) (other : why ≡ check → ⊥)
       → Claims.writing why ≡ true
-      → Sent n buckets now taken p log (writeLog half ok h new why other)
+      → Sent buckets p log (writeLog half ok h new why other)
       (broadcast n p b (s .stored .number) (s .volatile .lastRound + 1) (requestBody (writing v t)))
   unfolding requestBody
   write-sent ok {c} {s} h {v} {u} {t} {owner} new why other kind =
       let a = write-adds half ok h new why other in
       record {
         adds = a;
-        facts = write-facts half ok h new why other;
         begins = refl;
         ends = refl;
         sends =
@@ -170,6 +169,7 @@ module _ (n buckets now taken p b : ℕ) (half : n < 2 * majority n) where
     own-write-kept =
         open-kept b s ownWrite (writing (nextVersion b s) t) (finish b done)
         (write-sent ok (h .ready) new ownWrite own-not-check refl)
+        (write-facts half ok (h .ready) new ownWrite own-not-check)
         (write-rests half ok (h .ready) new ownWrite own-not-check
         (refl, new .election, refl, _, first-in, refl, refl, refl, own-marks))
         own-done
@@ -227,7 +227,7 @@ module _ (n buckets now taken p b : ℕ) (half : n < 2 * majority n) where
     answered-kept r made =
         let g = adds-check log p checkOf .grows in
         let chosen = chosen-grows g (h .chosen) in
-        let sent : Sent n buckets now taken p log checkLog [] = record { adds = adds-check log p checkOf; facts = checked-facts; begins = refl; ends = refl; sends = λ m i. none-in i } in
+        let sent : Sent buckets p log checkLog [] = record { adds = adds-check log p checkOf; begins = refl; ends = refl; sends = λ m i. none-in i } in
         kept-after sent
         (finish-kept checked-facts checked-ready r (λ e. chosen)
         (by-check checkOf first-in refl (ok .time .rounds _ (k .had)) chosen _ (k .begun) refl refl (k .after)
@@ -305,7 +305,8 @@ module _ (n buckets now taken p b : ℕ) (half : n < 2 * majority n) where
     unfolding checking opening accepting isOwn
     checking-kept =
         open-kept b s check reading (afterRead n p b)
-        (read-sent ok (h .ready) check seen refl looks)
+        (read-sent ok (h .ready) check seen refl)
+        (read-facts half ok (h .ready) check seen looks)
         (round-agrees (read-ready half ok (h .ready) check seen refl) (newRound n p b check s)
         (read-round half ok (h .ready) check seen) check-rests)
         check-answers
@@ -385,6 +386,7 @@ module _ (n buckets now taken p b : ℕ) (half : n < 2 * majority n) where
     recovering-kept =
         open-kept b s recoveryWrite (writing (version (s .stored .number) 1) t) (checking n p b)
         (write-sent ok (h .ready) recovery-new recoveryWrite recovery-not-check refl)
+        (write-facts half ok (h .ready) recovery-new recoveryWrite recovery-not-check)
         (write-rests half ok (h .ready) recovery-new recoveryWrite recovery-not-check
         (refl, refl, h .unsent, recovery-unwritten, recovery-marks))
         recovery-checks
@@ -432,7 +434,8 @@ module _ (n buckets now taken p b : ℕ) (half : n < 2 * majority n) where
     unfolding opening accepting isOwn
     recovery-read-kept =
         open-kept b s recoveryRead reading (recovering n p b (copyAt (s .stored) b .table))
-        (read-sent ok (h .ready) recoveryRead (version 0 0) refl (λ i. absurd (reading-not-check i)))
+        (read-sent ok (h .ready) recoveryRead (version 0 0) refl)
+        (read-facts half ok (h .ready) recoveryRead (version 0 0) (λ i. absurd (reading-not-check i)))
         (round-agrees (read-ready half ok (h .ready) recoveryRead (version 0 0) refl) (newRound n p b recoveryRead s)
         (read-round half ok (h .ready) recoveryRead (version 0 0)) recovery-read-rests)
         recovery-read-recovers

@@ -6,8 +6,8 @@ pub mod Growth
 pub mod Buckets
 pub mod Others
 pub mod Acts
-pub mod Added
 pub mod Carry
+pub mod Added
 pub mod Extend
 pub mod Above
 pub mod Broadcast
