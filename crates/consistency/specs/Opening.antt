@@ -23,6 +23,8 @@ use Rattle.consistency.specs.Buckets.{Untouched, call-grows, bucket-grow
 use Rattle.consistency.specs.Acts.{addReport, addRound}
 use Rattle.consistency.specs.Added.{adds-round, adds-report}
 use Rattle.consistency.specs.Extend.{round-added, report-added}
+use Rattle.consistency.specs.Ceasing.{stored-grows}
+use Rattle.consistency.specs.Storing.{heeded-stored, report-stored}
 use Rattle.consistency.specs.Ready.{Leads, Ready, Bucket}
 
 -- one more round made for a call
@@ -100,17 +102,9 @@ module _ {n buckets now taken p b : ℕ} (half : n < 2 * majority n) {log : Log}
   -- the leader's vote goes to itself
   read-stored : (u : Purpose) (x : Version) → StoredOk (readLog u x) p (voting e p (s .stored))
   read-stored u x =
-      let g = read-adds u x .grows in
-      let st = h .leads .stored in
-      record {
-        number = omega arith;
-        votes = λ y m i. rw (h .leads .vote) at (st .votes y m i);
-        voted = λ l. inr (won-grows g (h .leads .won));
-        wins = st .wins;
-        copies = λ j. (holds-grows g (st .copies j .0), rw (h .leads .vote) at (st .copies j .1));
-        accepts = λ y m i. (st .accepts y m i .0, rw (h .leads .vote) at (st .accepts y m i .1));
-        reports = each-cons {P = λ y. y .server ≡ p → y .election ≤ e} (λ i. omega arith) (λ y m i. rw (h .leads .vote) at (st .reports y m i));
-      }
+      report-stored p b e k _ (addRound (entry u x) log) (voting e p (s .stored))
+      (stored-grows (adds-round log (entry u x) .grows) (λ y m. m) (λ y m. m) (λ y m. m) (λ y m. m) (heeded-stored (h .leads .stored) (omega (arith, h .leads .vote)) (h .leads .won)))
+      (omega arith)
 
   module _ (u : Purpose) (x : Version) where
     abbrev after : Server

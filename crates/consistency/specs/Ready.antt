@@ -9,7 +9,8 @@ use Rattle.model.specs.Cluster.{Copy, Stored, copyAt, Role, leading, Round, Cal
 use Rattle.history.specs.Members.{_∈_}
 use Rattle.consistency.specs.Log.{Opened, Log, Grows, _⊆_}
 use Rattle.consistency.specs.Claims.{Won}
-use Rattle.consistency.specs.Growth.{won-grows, holds-grows}
+use Rattle.consistency.specs.Growth.{won-grows}
+use Rattle.consistency.specs.Ceasing.{stored-grows}
 use Rattle.consistency.specs.Invariant.{StoredOk, CallOk, RoundOk, BucketOk, CopyNewest, RoleOk, Shape, ServerOk}
 
 -- a leader, whatever its rounds and calls
@@ -40,16 +41,7 @@ pub leads-carried : {n buckets : ℕ} {a b : Log} {p : ℕ} {s : Server} → Gro
 leads-carried g votes wins writes accepts reports rounds h =
     record {
       shape = h .shape;
-      stored =
-          record {
-            number = h .stored .number;
-            votes = λ x m. h .stored .votes x (votes x m);
-            voted = λ i. elim (h .stored .voted i) [ inl v ↦ inl (g .votes _ v) | inr w ↦ inr (won-grows g w) ];
-            wins = λ x m. h .stored .wins x (wins x m);
-            copies = λ j. (holds-grows g (h .stored .copies j .0), h .stored .copies j .1);
-            accepts = λ x m. h .stored .accepts x (accepts x m);
-            reports = λ x m. h .stored .reports x (reports x m);
-          };
+      stored = stored-grows g votes wins accepts reports (h .stored);
       numbered = λ o m. h .numbered o (rounds o m);
       role = h .role;
       won = won-grows g (h .won);

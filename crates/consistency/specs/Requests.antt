@@ -23,20 +23,7 @@ use Rattle.consistency.specs.Added.{adds-accept, adds-report}
 use Rattle.consistency.specs.Extend.{accept-added, report-added}
 use Rattle.consistency.specs.Chaining.{unmoved}
 use Rattle.consistency.specs.Replying.{StoredOnly, unsettled-after, replied}
-use Rattle.consistency.specs.Storing.{storing-keeps, acceptance, accept-stored, reporting, report-stored}
-
--- the number of a leader that a server heeds becomes its vote
-heeded-stored : {log : Log} {p e q : ℕ} {st : Stored} → StoredOk log p st → st .vote ≤ e → Won log e q → StoredOk log p (voting e q st)
-heeded-stored h l won =
-    record {
-      number = omega (arith, h .number);
-      votes = λ x m f. omega (arith, h .votes x m f);
-      voted = λ o. inr won;
-      wins = h .wins;
-      copies = λ b. (h .copies b .0, omega (arith, h .copies b .1));
-      accepts = λ x m f. (h .accepts x m f .0, omega (arith, h .accepts x m f .1));
-      reports = λ x m f. omega (arith, h .reports x m f);
-    }
+use Rattle.consistency.specs.Storing.{heeded-stored, storing-keeps, acceptance, accept-stored, reporting, report-stored}
 
 module _ (n buckets now taken : ℕ) (half : n < 2 * majority n) (p : ℕ) (log : Log) (ok : LogOk n now taken log) (s : Server) (agrees : ServerOk n buckets log p s)
     (m : Message) (here : m .receiver ≡ p) (good : MessageOk buckets log m) where

@@ -4,16 +4,17 @@ use mathlib.Core.Logic.{inl, inr, _≢_}
 use mathlib.Core.List.{List}
 use mathlib.Core.Bool.{Bool, true, false}
 use Prim.Native.Nat.{ℕ, _≤_, _<_}
+use native.Mathlib.Omega.{arith}
 use native.Mathlib.Decide.{ℕ-discrete}
 use lib.ListN.{length, getD, set, length-set}
 use lib.Seq.{getD-set-same, getD-set-other}
 use Rattle.entries.specs.Entries.{Entry}
 use Rattle.model.specs.Cluster.{Version, above, Copy, freshCopy, Stored, copyAt}
-use Rattle.model.specs.Replica.{storing}
+use Rattle.model.specs.Replica.{voting, storing}
 use Rattle.history.specs.Members.{each-cons}
 use Rattle.history.specs.Version.{_≼_, _≺_, le-refl, le-trans, le-of-lt}
 use Rattle.consistency.specs.Log.{Accept, Report, Log}
-use Rattle.consistency.specs.Claims.{Holds}
+use Rattle.consistency.specs.Claims.{Won, Holds}
 use Rattle.consistency.specs.Invariant.{StoredOk}
 use Rattle.consistency.specs.Growth.{won-grows, holds-grows}
 use Rattle.consistency.specs.Acts.{addAccept, addReport}
@@ -47,6 +48,19 @@ module _ (b : ℕ) (v : Version) (t : List Entry) (st : Stored) where
   storing-keeps =
       storing-cases (λ x. (x .number ≡ st .number) × (x .vote ≡ st .vote) × (length (x .copies) ≡ length (st .copies)))
       (λ l. (refl, refl, refl)) (λ l. (refl, refl, length-set (st .copies) b (record { version = v; table = t })))
+
+-- the number of a leader that a server heeds becomes its vote
+pub heeded-stored : {log : Log} {p e q : ℕ} {st : Stored} → StoredOk log p st → st .vote ≤ e → Won log e q → StoredOk log p (voting e q st)
+heeded-stored h l won =
+    record {
+      number = omega (arith, h .number);
+      votes = λ x m f. omega (arith, h .votes x m f);
+      voted = λ o. inr won;
+      wins = h .wins;
+      copies = λ b. (h .copies b .0, omega (arith, h .copies b .1));
+      accepts = λ x m f. (h .accepts x m f .0, omega (arith, h .accepts x m f .1));
+      reports = λ x m f. omega (arith, h .reports x m f);
+    }
 
 -- ---- an acknowledged write
 

@@ -1,6 +1,6 @@
 -- A leader opens a writing round: the log gets the write, the round and the leader's own acceptance, the leader's copy becomes the
 -- new version, and the server agrees with that.
-use mathlib.Core.Path.{_≡_, refl, sym, _∙_, ap}
+use mathlib.Core.Path.{_≡_, refl, sym, _∙_, ap, subst}
 use mathlib.Core.Logic.{_⊎_, inl, inr, _≢_}
 use mathlib.Core.List.{List, [], _∷_}
 use mathlib.Core.Bool.{Bool, true, false}
@@ -12,7 +12,7 @@ use lib.Seq.{getD-set-same, getD-set-other}
 use Rattle.entries.specs.Entries.{Entry}
 use Rattle.model.specs.Measures.{majority}
 use Rattle.model.specs.Cluster.{Version, version, above, Copy, Stored, freshCopy, copyAt, Purpose, recoveryRead, recoveryWrite, check, ownWrite, silent, acknowledged, Round, Call, roundAt, callAt, Server}
-use Rattle.model.specs.Replica.{writing, accepting, storing}
+use Rattle.model.specs.Replica.{writing, accepting, storing, voting}
 use Rattle.model.specs.Leader.{isOwn, oneMore, newRound, opening}
 use Rattle.history.specs.Members.{_∈_, first-in, each-cons}
 use Rattle.history.specs.Version.{_≼_, _≺_, le-refl, le-trans, le-of-lt}
@@ -25,6 +25,8 @@ use Rattle.consistency.specs.Acts.{addWrite, addAccept, addRound}
 use Rattle.consistency.specs.Added.{adds-round, adds-write, adds-accept}
 use Rattle.consistency.specs.Above.{above-lt}
 use Rattle.consistency.specs.Extend.{round-added, write-added, accept-added}
+use Rattle.consistency.specs.Ceasing.{stored-grows}
+use Rattle.consistency.specs.Storing.{heeded-stored, accept-stored}
 use Rattle.consistency.specs.Ready.{Leads, Ready, Bucket, each-place, round-agrees}
 use Rattle.consistency.specs.Opening.{more, call-more, only-own, entry, above-all}
 
@@ -103,6 +105,10 @@ module _ {n buckets now taken p b : ℕ} (half : n < 2 * majority n) {log : Log}
         stopped = s .stopped;
       }
 
+  stored-is : storing b v t (voting e p (s .stored)) ≡ stored
+  unfolding storing
+  stored-is = rw (storing, new .above)
+
   writes-server : opening n p b why (writing v t) s ≡ writer
   unfolding opening accepting storing
   writes-server = rw (storing, new .above)
@@ -116,35 +122,12 @@ module _ {n buckets now taken p b : ℕ} (half : n < 2 * majority n) {log : Log}
   abbrev grows : Grows log writeLog
   grows = write-adds .grows
 
-  held : Holds writeLog b v t
-  held = later wrote first-in refl refl refl
-
-  accepted-below : (y : Accept) → y ∈ log .accepts → y .server ≡ p → y .at ≼ copyAt stored (y .bucket) .version
-  accepted-below y m i =
-      each-place (λ j. y .bucket ≡ j → y .at ≼ copyAt stored j .version) b
-      (λ j d q. rw (copy-there j d, ← q) (h .leads .stored .accepts y m i .0))
-      (λ q. rw copy-here (le-trans (rw q at (h .leads .stored .accepts y m i .0)) (le-of-lt (above-lt _ _ (new .above)))))
-      (y .bucket) refl
-
   write-stored : StoredOk writeLog p stored
   write-stored =
-      let st = h .leads .stored in
-      let vote = h .leads .vote in
-      record {
-        number = omega arith;
-        votes = λ y m i. rw vote at (st .votes y m i);
-        voted = λ l. inr (won-grows grows (h .leads .won));
-        wins = st .wins;
-        copies =
-            each-place (λ j. Holds writeLog j (copyAt stored j .version) (copyAt stored j .table) × (copyAt stored j .version .election ≤ e)) b
-            (λ j d. rw (copy-there j d) (holds-grows grows (st .copies j .0), rw vote at (st .copies j .1)))
-            (rw copy-here (held, omega (arith, new .election)));
-        accepts =
-            each-cons {P = λ y. y .server ≡ p → (y .at ≼ copyAt stored (y .bucket) .version) × (y .at .election ≤ e)}
-            (λ i. (rw copy-here (le-refl v), omega (arith, new .election)))
-            (λ y m i. (accepted-below y m i, rw vote at (st .accepts y m i .1)));
-        reports = λ y m i. rw vote at (st .reports y m i);
-      }
+      let g = adds-trans (adds-write log p wrote (rw (new .election) (h .leads .won)) (λ i m. rw (new .mine i m) took)) (adds-round (addWrite wrote log) opens) .grows in
+      let before = stored-grows g (λ y m. m) (λ y m. m) (λ y m. m) (λ y m. m) (heeded-stored (h .leads .stored) (omega (arith, h .leads .vote)) (h .leads .won)) in
+      subst (StoredOk writeLog p) stored-is
+      (accept-stored p b v (addRound opens (addWrite wrote log)) t (voting e p (s .stored)) before (omega (arith, new .election)) (rw (h .leads .shape .copies) (h .inside)) (later wrote first-in refl refl refl))
 
   write-newest : (j : ℕ) → CopyNewest writeLog e j (copyAt stored j)
   write-newest =
