@@ -1,10 +1,10 @@
 -- The form in which every rule of a server is shown to keep the invariant: it adds to the log, and server, messages and answers
 -- agree with what it added.
 use mathlib.Core.Path.{_≡_}
-use mathlib.Core.List.{List, [], _∷_, _++_, map}
+use mathlib.Core.List.{List, _∷_, _++_, map}
 use Prim.Native.Nat.{ℕ}
 use Rattle.model.specs.Calls.{Answer}
-use Rattle.model.specs.Cluster.{Server, Message}
+use Rattle.model.specs.Cluster.{Message}
 use Rattle.model.specs.Leader.{Reaction}
 use Rattle.history.specs.Members.{_∈_}
 use Rattle.consistency.specs.Log.{Vote, Win, Write, Accept, Report, Opened, Check, Begun, Ended, Log}

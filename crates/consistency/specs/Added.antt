@@ -1,10 +1,9 @@
 -- One entry more is an addition by the server that it belongs to.
 use mathlib.Core.Path.{_≡_, refl}
-use mathlib.Core.Logic.{_⊎_, inl, inr}
-use mathlib.Core.List.{List, [], _∷_}
-use mathlib.Core.Option.{Option, some}
+use mathlib.Core.Logic.{inl, inr}
+use mathlib.Core.Option.{some}
 use Prim.Native.Nat.{ℕ}
-use Rattle.history.specs.Members.{_∈_, each-cons}
+use Rattle.history.specs.Members.{each-cons}
 use Rattle.consistency.specs.Log.{Vote, Win, Write, Accept, Report, Opened, Check, Begun, Ended, Log}
 use Rattle.consistency.specs.Claims.{Won}
 use Rattle.consistency.specs.Growth.{Adds, TakenAt}

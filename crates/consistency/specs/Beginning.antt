@@ -1,19 +1,18 @@
 -- A leader takes a call.
-use mathlib.Core.Path.{_≡_, refl, sym, _∙_, ap, subst}
-use mathlib.Core.Logic.{_⊎_, inl, inr, _≢_}
-use mathlib.Core.List.{List, [], _∷_}
-use mathlib.Core.Bool.{Bool, true, false}
+use mathlib.Core.Path.{_≡_, refl, sym, _∙_, subst}
+use mathlib.Core.List.{List}
+use mathlib.Core.Bool.{false}
 use mathlib.Core.Option.{Option, none, some}
-use Prim.Native.Nat.{ℕ, suc, _+_, _≤_, _*_, _<_}
+use Prim.Native.Nat.{ℕ, suc, _*_, _<_}
 use native.Mathlib.Omega.{arith}
-use lib.ListN.{length, getD, set, length-set}
+use lib.ListN.{set, length-set}
 use lib.Seq.{getD-set-same, getD-set-other}
 use Rattle.entries.specs.Entries.{Entry}
 use Rattle.model.specs.Measures.{majority}
 use Rattle.model.specs.Calls.{Words}
-use Rattle.model.specs.Cluster.{copyAt, Copy, Role, leading, Round, Call, roundAt, callAt, Server}
+use Rattle.model.specs.Cluster.{copyAt, Copy, leading, Round, Call, roundAt, callAt, Server}
 use Rattle.model.specs.Leader.{beginCall}
-use Rattle.history.specs.Members.{_∈_, first-in, each-cons}
+use Rattle.history.specs.Members.{_∈_, first-in}
 use Rattle.consistency.specs.Log.{Write, Begun, Log}
 use Rattle.consistency.specs.Claims.{Chosen}
 use Rattle.consistency.specs.Invariant.{Unwritten, Unended, Makes, kept, changed, LogOk, BucketOk, ServerOk}
@@ -22,7 +21,7 @@ use Rattle.consistency.specs.Buckets.{bucket-grows}
 use Rattle.consistency.specs.Acts.{addBegun, Kept}
 use Rattle.consistency.specs.Added.{adds-begun}
 use Rattle.consistency.specs.Extend.{begun-added}
-use Rattle.consistency.specs.Ready.{Leads, leads-carried, Ready, Bucket, leader-of}
+use Rattle.consistency.specs.Ready.{Leads, leads-carried, Ready, leader-of}
 use Rattle.consistency.specs.Chain.{read-kept}
 
 -- where no call is open no round is, and what is written under the leader's number is chosen

@@ -1,30 +1,29 @@
 -- The steps of a call at a leader keep the invariant: the call's own write, the checking round, recovery, READ, and what follows a
 -- round that closes.
 use mathlib.Core.Path.{_≡_, refl, sym, _∙_, ap, subst}
-use mathlib.Core.Logic.{_⊎_, inl, inr, _≢_}
-use mathlib.Core.List.{List, [], _∷_}
+use mathlib.Core.Logic.{_≢_}
+use mathlib.Core.List.{List, []}
 use mathlib.Core.Bool.{Bool, true, false}
 use mathlib.Core.Option.{Option, none, some}
-use Prim.Native.Nat.{ℕ, zero, suc, _+_, _≤_, _*_, _<_}
+use Prim.Native.Nat.{ℕ, _+_, _≤_, _*_, _<_}
 use native.Mathlib.Omega.{arith}
 use native.Mathlib.Numerals.{add-one}
-use lib.ListN.{length, getD, length-set, length-replicate}
 use native.Mathlib.Decide.{ℕ-discrete}
 use lib.Dec.{eqb}
 use borrow.Author.Tests.{eqb-true, eqb-false}
 use Rattle.entries.specs.Entries.{Entry}
 use Rattle.model.specs.Measures.{majority}
 use Rattle.model.specs.Calls.{Result, done, Effect, answers, writes, effect}
-use Rattle.model.specs.Cluster.{Version, version, above, Copy, Stored, copyAt, Purpose, recoveryRead, recoveryWrite, check, ownWrite, silent, acknowledged, Round, Call, roundAt, callAt, Server, Message}
-use Rattle.model.specs.Replica.{Request, reading, writing, requestBody, accepting}
+use Rattle.model.specs.Cluster.{Version, version, above, Copy, copyAt, Purpose, recoveryRead, recoveryWrite, check, ownWrite, Round, Call, roundAt, callAt, Server}
+use Rattle.model.specs.Replica.{reading, writing, requestBody, accepting}
 use Rattle.model.specs.Leader.{Reaction, isOwn, reportTo, newRound, closes, opening, openRound, broadcast, finish, nextVersion, applying, afterRead, checking, recovering, readBucket, closed}
 use Rattle.history.specs.Members.{_∈_, first-in, none-in, each-cons}
-use Rattle.history.specs.Version.{_≼_, _≺_, le-refl, lt-of-le-lt}
+use Rattle.history.specs.Version.{_≼_, _≺_, lt-of-le-lt}
 use Rattle.history.specs.Quorum.{Majority}
 use Rattle.consistency.specs.Log.{Write, Opened, Check, Log}
-use Rattle.consistency.specs.Claims.{Won, Holds, first, later, Chosen, RoundOf, Reported, MessageOk}
+use Rattle.consistency.specs.Claims.{Holds, first, later, Chosen, Reported, MessageOk}
 use Rattle.consistency.specs.Claims
-use Rattle.consistency.specs.Invariant.{Unwritten, LogOk, Origin, Makes, kept, changed, Succeeds, recovers, follows, EndOk, by-write, by-check, RoundOk, PhaseOk, MarksAccepted}
+use Rattle.consistency.specs.Invariant.{Unwritten, LogOk, kept, changed, recovers, follows, by-write, by-check, RoundOk, PhaseOk, MarksAccepted}
 use Rattle.consistency.specs.Growth.{chosen-grows, holds-grows, won-grows}
 use Rattle.consistency.specs.Acts.{Kept, addCheck}
 use Rattle.consistency.specs.Buckets.{bucket-grows}
@@ -33,10 +32,10 @@ use Rattle.consistency.specs.Extend.{check-added}
 use Rattle.consistency.specs.Above.{lt-above}
 use Rattle.consistency.specs.Broadcast.{each-of-broadcast}
 use Rattle.consistency.specs.Marks.{acknowledgers, closed-majority, closed-marked, closed-chosen}
-use Rattle.consistency.specs.Ready.{Leads, leads-carried, Ready, round-agrees}
+use Rattle.consistency.specs.Ready.{leads-carried, Ready, round-agrees}
 use Rattle.consistency.specs.Chaining.{Sent, kept-after}
 use Rattle.consistency.specs.Going.{open-kept}
-use Rattle.consistency.specs.Opening.{more, only-own, new-marks, readLog, read-adds, Looks, read-facts, read-ready, read-round, recovery-read-ok, check-ok}
+use Rattle.consistency.specs.Opening.{more, new-marks, readLog, read-adds, Looks, read-facts, read-ready, read-round, recovery-read-ok, check-ok}
 use Rattle.consistency.specs.Writing.{NewWrite, wrote, writeLog, write-adds, write-facts, write-ready, write-marks, write-rests, write-copy, write-number}
 use Rattle.consistency.specs.Finish.{finish-kept}
 

@@ -2,7 +2,7 @@
 -- claims nothing else, so a message that is lost, copied or late does no harm.
 use mathlib.Core.Path.{_≡_}
 use mathlib.Core.Logic.{_⊎_}
-use mathlib.Core.List.{List, [], _∷_}
+use mathlib.Core.List.{List, []}
 use mathlib.Core.Bool.{Bool, true, false}
 use Prim.Native.Nat.{ℕ, _≤_, _<_}
 use Rattle.entries.specs.Entries.{Entry}
@@ -10,7 +10,7 @@ use Rattle.model.specs.Measures.{majority}
 use Rattle.model.specs.Cluster.{Version, version, Purpose, recoveryRead, recoveryWrite, check, ownWrite, Body, pleaseVote, ackVote, nackVote, replicaWrite, ackWrite, nackWrite, replicaRead, ackRead, nackRead, Message}
 use Rattle.history.specs.Members.{_∈_}
 use Rattle.history.specs.Quorum.{Majority}
-use Rattle.consistency.specs.Log.{Vote, Win, Write, Accept, Report, Opened, Begun, Log}
+use Rattle.consistency.specs.Log.{Win, Write, Opened, Log}
 
 -- p won the election e
 pub record Won (log : Log) (e p : ℕ) : Type 0 where

@@ -1,21 +1,20 @@
 -- A call ends at a leader, and the leader goes on.
-use mathlib.Core.Path.{_≡_, refl, sym, _∙_, ap}
-use mathlib.Core.Logic.{_⊎_, inl, inr, _≢_}
-use mathlib.Core.List.{List, [], _∷_, _++_}
-use mathlib.Core.Option.{Option, none, some}
-use Prim.Native.Nat.{ℕ, _≤_, _<_}
-use lib.ListN.{length, getD, set, length-set}
+use mathlib.Core.Path.{_≡_, refl, sym, ap}
+use mathlib.Core.Logic.{_≢_}
+use mathlib.Core.Option.{none}
+use Prim.Native.Nat.{ℕ}
+use lib.ListN.{length-set}
 use lib.Seq.{getD-set-same, getD-set-other}
-use Rattle.model.specs.Calls.{Result, Answer}
-use Rattle.model.specs.Cluster.{copyAt, Call, roundAt, callAt, Server, Message}
-use Rattle.model.specs.Leader.{Reaction, after, answerOf, finish, reaction}
-use Rattle.history.specs.Members.{_∈_, none-in, each-cons, each-append}
-use Rattle.consistency.specs.Log.{Ended, Log, Grows}
-use Rattle.consistency.specs.Claims.{Chosen, MessageOk}
-use Rattle.consistency.specs.Invariant.{Unended, LogOk, EndOk, CallOk, ServerOk}
+use Rattle.model.specs.Calls.{Result}
+use Rattle.model.specs.Cluster.{copyAt, Call, roundAt, callAt, Server}
+use Rattle.model.specs.Leader.{answerOf, finish}
+use Rattle.history.specs.Members.{none-in, each-cons}
+use Rattle.consistency.specs.Log.{Ended, Log}
+use Rattle.consistency.specs.Claims.{Chosen}
+use Rattle.consistency.specs.Invariant.{LogOk, EndOk, CallOk}
 use Rattle.consistency.specs.Growth.{chosen-grows, Adds}
 use Rattle.consistency.specs.Buckets.{Untouched, bucket-grows}
-use Rattle.consistency.specs.Acts.{addEnded, endsOf, Kept}
+use Rattle.consistency.specs.Acts.{addEnded, Kept}
 use Rattle.consistency.specs.Added.{adds-ended}
 use Rattle.consistency.specs.Extend.{ended-added}
 use Rattle.consistency.specs.Ready.{Leads, leads-carried, Ready, Bucket, leader-agrees, each-place}

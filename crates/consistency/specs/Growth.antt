@@ -1,18 +1,18 @@
 -- Every claim survives growth of the log; and a server that takes no step stays in agreement with a log that another server adds to.
-use mathlib.Core.Path.{_≡_, refl, sym, _∙_, ap}
-use mathlib.Core.Logic.{_⊎_, inl, inr, _≢_}
-use mathlib.Core.List.{List, [], _∷_}
-use mathlib.Core.Option.{Option, none, some}
-use Prim.Native.Nat.{ℕ, _≤_, _*_, _<_}
+use mathlib.Core.Path.{_≡_, refl, sym, _∙_}
+use mathlib.Core.Logic.{_⊎_, inl, inr}
+use mathlib.Core.List.{List}
+use mathlib.Core.Option.{some}
+use Prim.Native.Nat.{ℕ, _*_, _<_}
 use Rattle.entries.specs.Entries.{Entry}
 use Rattle.model.specs.Measures.{majority}
-use Rattle.model.specs.Cluster.{Version, Copy, Stored, copyAt, Role, follower, candidate, leading, Purpose, recoveryRead, recoveryWrite, check, ownWrite, Round, Call, Volatile, roundAt, callAt, Server, Body, pleaseVote, ackVote, nackVote, replicaWrite, ackWrite, nackWrite, replicaRead, ackRead, nackRead, Message}
+use Rattle.model.specs.Cluster.{Version, Body, pleaseVote, ackVote, nackVote, replicaWrite, ackWrite, nackWrite, replicaRead, ackRead, nackRead, Message}
 use Rattle.history.specs.Members.{_∈_}
-use Rattle.history.specs.Quorum.{Majority, majorities-meet}
-use Rattle.consistency.specs.Log.{Vote, Win, Write, Accept, Report, Opened, Check, Begun, Ended, Log, Grows}
+use Rattle.history.specs.Quorum.{majorities-meet}
+use Rattle.consistency.specs.Log.{Vote, Win, Write, Accept, Report, Opened, Begun, Ended, Log, Grows}
 use Rattle.consistency.specs.Claims.{Won, Holds, first, later, Chosen, quorum, RoundOf, BodyOk, MessageOk}
 use Rattle.consistency.specs.Claims
-use Rattle.consistency.specs.Invariant.{Unwritten, Unended, VoteFacts, LogOk, StoredOk, PhaseOk, CallOk, RoundOk, BucketOk, CopyNewest, RoleOk, Shape, ServerOk}
+use Rattle.consistency.specs.Invariant.{VoteFacts}
 
 -- ---- claims
 

@@ -1,6 +1,6 @@
 -- A server handles a message: every kind keeps the invariant.
-use mathlib.Core.Path.{_≡_, refl, sym, _∙_, ap}
-use mathlib.Core.List.{List, []}
+use mathlib.Core.Path.{_≡_, refl}
+use mathlib.Core.List.{[]}
 use Prim.Native.Nat.{ℕ, _*_, _<_}
 use Rattle.model.specs.Measures.{majority}
 use Rattle.model.specs.Cluster.{Server, Body, pleaseVote, ackVote, nackVote, replicaWrite, ackWrite, nackWrite, replicaRead, ackRead, nackRead, Message, freshCopy, acknowledged, refused}

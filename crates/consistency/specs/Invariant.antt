@@ -2,20 +2,20 @@
 -- `n` is the number of servers, `now` the present line, `taken` the number of calls taken.
 use mathlib.Core.Path.{_≡_}
 use mathlib.Core.Logic.{_⊎_, _≢_}
-use mathlib.Core.List.{List, [], _∷_}
-use mathlib.Core.Bool.{Bool, true, false}
+use mathlib.Core.List.{List}
+use mathlib.Core.Bool.{true, false}
 use mathlib.Core.Option.{Option, none, some}
 use Prim.Native.Nat.{ℕ, suc, _≤_, _<_}
 use lib.ListN.{length, getD}
 use Rattle.entries.specs.Entries.{Entry}
 use Rattle.model.specs.Measures.{majority}
-use Rattle.model.specs.Calls.{Words, Result, done, notdone, unknown, Effect, answers, writes, effect}
-use Rattle.model.specs.Cluster.{Version, version, Copy, Stored, copyAt, Role, follower, candidate, leading, Purpose, recoveryRead, recoveryWrite, check, ownWrite, Mark, silent, acknowledged, refused, Round, Call, Volatile, roundAt, callAt, Server, Message}
+use Rattle.model.specs.Calls.{done, notdone, unknown, answers, writes, effect}
+use Rattle.model.specs.Cluster.{Version, version, Copy, Stored, copyAt, Role, follower, candidate, leading, Purpose, recoveryRead, recoveryWrite, check, ownWrite, Mark, silent, acknowledged, Round, Call, Volatile, roundAt, callAt, Server}
 use Rattle.history.specs.Members.{_∈_}
-use Rattle.history.specs.Version.{_≼_, _≺_}
+use Rattle.history.specs.Version.{_≼_}
 use Rattle.history.specs.Quorum.{Majority}
 use Rattle.consistency.specs.Log.{Vote, Win, Write, Accept, Report, Opened, Check, Begun, Ended, Log}
-use Rattle.consistency.specs.Claims.{Won, Holds, Chosen, RoundOf, Reported, Accepted, MessageOk}
+use Rattle.consistency.specs.Claims.{Won, Holds, Chosen, Reported, Accepted}
 
 -- no write is the own write of call i; call i has not ended
 abbrev pub Unwritten : Log → ℕ → Type 0

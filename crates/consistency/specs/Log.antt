@@ -1,6 +1,6 @@
 -- The log: what servers have ever done, kept beside the machine and only ever added to. Nothing in the machine reads it.
 -- Lines are numbered in the order of the script.
-use mathlib.Core.List.{List, [], _∷_}
+use mathlib.Core.List.{List, []}
 use mathlib.Core.Option.{Option}
 use Prim.Native.Nat.{ℕ}
 use Rattle.entries.specs.Entries.{Entry}

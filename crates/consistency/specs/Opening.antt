@@ -1,23 +1,22 @@
 -- A leader opens a reading round: the log gets the round and the leader's own report, and the server agrees with that.
-use mathlib.Core.Path.{_≡_, refl, sym, _∙_, ap}
-use mathlib.Core.Logic.{_⊎_, inl, inr, _≢_}
-use mathlib.Core.List.{List, [], _∷_}
+use mathlib.Core.Path.{_≡_, refl, _∙_}
+use mathlib.Core.Logic.{_≢_}
 use mathlib.Core.Bool.{Bool, true, false}
-use mathlib.Core.Option.{Option, none, some}
+use mathlib.Core.Option.{none, some}
 use Prim.Native.Nat.{ℕ, zero, suc, _+_, _≤_, _*_, _<_}
 use native.Mathlib.Omega.{arith}
 use native.Mathlib.Decide.{ℕ-discrete}
 use lib.ListN.{length, getD, set, replicate, length-set, length-replicate}
 use lib.Seq.{getD-set-same, getD-set-other}
 use Rattle.model.specs.Measures.{majority}
-use Rattle.model.specs.Cluster.{Version, Copy, Stored, copyAt, Role, leading, Purpose, recoveryRead, recoveryWrite, check, ownWrite, Mark, silent, acknowledged, refused, Round, Call, roundAt, callAt, Server}
-use Rattle.model.specs.Replica.{Request, reading, writing, accepting, voting}
+use Rattle.model.specs.Cluster.{Version, copyAt, Purpose, recoveryRead, check, silent, acknowledged, Call, roundAt, callAt, Server}
+use Rattle.model.specs.Replica.{reading, accepting, voting}
 use Rattle.model.specs.Leader.{isOwn, oneMore, newRound, opening, reportTo}
 use Rattle.history.specs.Members.{_∈_, first-in, each-cons}
 use Rattle.history.specs.Version.{_≼_, le-refl}
-use Rattle.consistency.specs.Log.{Vote, Win, Write, Accept, Report, Opened, Log, Grows}
-use Rattle.consistency.specs.Claims.{Won, Holds, Chosen}
-use Rattle.consistency.specs.Invariant.{Unwritten, Unended, LogOk, StoredOk, PhaseOk, CallOk, RoundOk, BucketOk, CopyNewest, Shape}
+use Rattle.consistency.specs.Log.{Write, Report, Opened, Log}
+use Rattle.consistency.specs.Claims.{Chosen}
+use Rattle.consistency.specs.Invariant.{Unwritten, LogOk, StoredOk, CallOk, RoundOk, Shape}
 use Rattle.consistency.specs.Growth.{won-grows, holds-grows, chosen-grows, one-winner, Adds, adds-trans}
 use Rattle.consistency.specs.Buckets.{Untouched, call-grows, bucket-grows}
 use Rattle.consistency.specs.Acts.{addReport, addRound}

@@ -1,12 +1,9 @@
 -- What server p adds to the log leaves every other server in agreement with it.
-use mathlib.Core.Path.{_≡_, refl, sym, _∙_, ap}
-use mathlib.Core.Logic.{_⊎_, inl, inr, _≢_}
-use mathlib.Core.List.{List, [], _∷_}
-use mathlib.Core.Option.{Option, none, some}
-use Prim.Native.Nat.{ℕ, _≤_, _*_, _<_}
+use mathlib.Core.Path.{_≡_, sym, _∙_, ap}
+use mathlib.Core.Logic.{inl, inr, _≢_}
+use Prim.Native.Nat.{ℕ, _*_, _<_}
 use Rattle.model.specs.Measures.{majority}
 use Rattle.model.specs.Cluster.{Copy, Stored, copyAt, Role, follower, candidate, leading, Call, Volatile, roundAt, callAt, Server}
-use Rattle.history.specs.Members.{_∈_}
 use Rattle.consistency.specs.Log.{Log}
 use Rattle.consistency.specs.Claims.{Won}
 use Rattle.consistency.specs.Invariant.{LogOk, StoredOk, CallOk, CopyNewest, RoleOk, ServerOk}

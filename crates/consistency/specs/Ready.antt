@@ -1,11 +1,11 @@
 -- A leader in the middle of a step for the call c on bucket b: everything agrees with the log, but nothing is said yet of a round
 -- on that bucket.
-use mathlib.Core.Path.{_≡_, refl, sym, _∙_, ap, subst}
-use mathlib.Core.Logic.{_⊎_, inl, inr, _≢_}
-use mathlib.Core.Option.{Option, none, some}
+use mathlib.Core.Path.{_≡_, subst}
+use mathlib.Core.Logic.{_≢_}
+use mathlib.Core.Option.{some}
 use Prim.Native.Nat.{ℕ, _≤_, _<_}
 use native.Mathlib.Decide.{ℕ-discrete}
-use Rattle.model.specs.Cluster.{Copy, Stored, copyAt, Role, leading, Round, Call, roundAt, callAt, Server}
+use Rattle.model.specs.Cluster.{copyAt, leading, Round, Call, roundAt, callAt, Server}
 use Rattle.history.specs.Members.{_∈_}
 use Rattle.consistency.specs.Log.{Opened, Log, Grows, _⊆_}
 use Rattle.consistency.specs.Claims.{Won}

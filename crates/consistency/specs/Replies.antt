@@ -1,10 +1,10 @@
 -- A reply reaches a server: it is counted, and then the round closes, fails or stays open.
-use mathlib.Core.Path.{_≡_, refl, sym, _∙_, ap, subst}
-use mathlib.Core.Logic.{_⊎_, inl, inr, _≢_}
-use mathlib.Core.List.{List, [], _∷_}
+use mathlib.Core.Path.{_≡_, refl, sym, _∙_, ap}
+use mathlib.Core.Logic.{_⊎_, inl, inr}
+use mathlib.Core.List.{List, []}
 use mathlib.Core.Bool.{Bool, true, false}
 use mathlib.Core.Option.{Option, none, some}
-use Prim.Native.Nat.{ℕ, suc, _+_, _≤_, _*_, _<_}
+use Prim.Native.Nat.{ℕ, _≤_, _*_, _<_}
 use native.Mathlib.Omega.{arith}
 use native.Mathlib.Decide.{ℕ-discrete, decLt}
 use lib.Dec.{eqb}
@@ -13,9 +13,9 @@ use lib.Seq.{getD-set-same, getD-set-other}
 use borrow.Author.Tests.{eqb-true}
 use Rattle.entries.specs.Entries.{Entry}
 use Rattle.model.specs.Measures.{majority}
-use Rattle.model.specs.Cluster.{Version, version, above, Copy, freshCopy, copyAt, Role, follower, candidate, leading, Purpose, recoveryRead, recoveryWrite, check, ownWrite, Mark, silent, acknowledged, refused, Round, Call, roundAt, callAt, Server, Message, ackWrite, nackWrite, ackRead, nackRead}
+use Rattle.model.specs.Cluster.{Version, version, above, Copy, freshCopy, copyAt, Role, follower, candidate, leading, Purpose, recoveryRead, recoveryWrite, check, ownWrite, Mark, silent, acknowledged, refused, Round, Call, roundAt, callAt, Server, Message, ackWrite, ackRead}
 use Rattle.model.specs.Leader.{Reaction, quiet, closes, fails, cease, closed, better, markedBy, reportTo, counted, withRound, counting, onReply}
-use Rattle.history.specs.Members.{_∈_, first-in, none-in}
+use Rattle.history.specs.Members.{_∈_, none-in}
 use Rattle.history.specs.Version.{_≼_, le-refl, le-trans, le-of-lt}
 use Rattle.consistency.specs.Log.{Opened, Log}
 use Rattle.consistency.specs.Claims.{Holds, first, RoundOf, Reported, Accepted, MessageOk, BodyOk}
@@ -25,7 +25,7 @@ use Rattle.consistency.specs.Acts.{Kept}
 use Rattle.consistency.specs.Above.{above-lt, above-not}
 use Rattle.consistency.specs.Chaining.{unmoved}
 use Rattle.consistency.specs.Ceasing.{cease-kept, as-unsettled}
-use Rattle.consistency.specs.Ready.{Leads, Ready, Bucket, leader-of, each-place, round-agrees}
+use Rattle.consistency.specs.Ready.{Leads, Ready, Bucket, leader-of, round-agrees}
 use Rattle.consistency.specs.Chain.{closed-kept}
 
 -- what the reply of server q to round k under e on bucket b says, with its mark and the copy it reports

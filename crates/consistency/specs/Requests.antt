@@ -1,7 +1,6 @@
 -- A server handles a leader's request: below its vote it refuses; otherwise it takes over the leader's number as its vote, reports
 -- its copy or stores the version, and acknowledges.
 use mathlib.Core.Path.{_≡_, refl, sym, _∙_}
-use mathlib.Core.Logic.{inr}
 use mathlib.Core.List.{List, [], _∷_}
 use mathlib.Core.Bool.{Bool, true, false}
 use Prim.Native.Nat.{ℕ, _*_, _≤_, _<_}
@@ -10,13 +9,13 @@ use lib.Dec.{ltb}
 use borrow.Author.Tests.{ltb-false}
 use Rattle.entries.specs.Entries.{Entry}
 use Rattle.model.specs.Measures.{majority}
-use Rattle.model.specs.Cluster.{Version, Stored, copyAt, Server, Body, replicaWrite, replicaRead, Message}
+use Rattle.model.specs.Cluster.{Version, copyAt, Server, Body, replicaWrite, replicaRead, Message}
 use Rattle.model.specs.Replica.{voting, Request, reading, writing, heeds, storing, accepting, acknowledging, refusing}
 use Rattle.model.specs.Leader.{reaction, withStored, settle, replyTo, replying, onRequest}
 use Rattle.history.specs.Members.{first-in, none-in, each-cons}
 use Rattle.consistency.specs.Log.{Log}
 use Rattle.consistency.specs.Claims.{Won, later, BodyOk, MessageOk}
-use Rattle.consistency.specs.Invariant.{LogOk, StoredOk, ServerOk}
+use Rattle.consistency.specs.Invariant.{LogOk, ServerOk}
 use Rattle.consistency.specs.Growth.{round-grows, holds-grows, one-winner}
 use Rattle.consistency.specs.Acts.{addAccept, addReport, Kept}
 use Rattle.consistency.specs.Added.{adds-accept, adds-report}

@@ -1,25 +1,24 @@
 -- Every list of lines leaves a log whose calls and answers are those that are read off the script.
 use mathlib.Core.Path.{_≡_, refl, sym, _∙_, ap, subst}
-use mathlib.Core.Logic.{_⊎_, inl, inr}
-use mathlib.Core.List.{List, [], _∷_, _++_, map, List·Memᴰ·head, List·Memᴰ·tail, Memᴰ·append-left, Memᴰ·append-right, List·Memᴰ·append-cases, Memᴰ·map, Memᴰ·of-map}
-use mathlib.Core.Bool.{Bool, true, false}
+use mathlib.Core.List.{List, [], _∷_, _++_, map, Memᴰ·append-left, Memᴰ·append-right, Memᴰ·map, Memᴰ·of-map}
+use mathlib.Core.Bool.{true, false}
 use mathlib.Core.Option.{Option, none, some}
-use Prim.Native.Nat.{ℕ, zero, suc, _+_, _≤_, _*_, _<_}
+use Prim.Native.Nat.{ℕ, zero, suc, _+_, _*_, _<_}
 use native.Mathlib.Omega.{arith}
 use native.Mathlib.Numerals.{add-one}
 use lib.ListN.{length, getD, replicate, length-replicate}
 use Rattle.model.specs.Measures.{majority}
-use Rattle.model.specs.Calls.{Words, bucketFor, Answer}
-use Rattle.model.specs.Cluster.{Copy, freshCopy, freshServer, freshCluster, Cluster, Round, Call, Message}
-use Rattle.model.specs.Lines.{Line, cluster, elect, call, deliver, copy, lose, timeout, stop, State, Tally, nothing, Outcome, refusal, printed, Stepped, Work, serverAt, messageAt, dropAt, stoppedAt, wasted, handed, handing, work, firstOf, conditions}
+use Rattle.model.specs.Calls.{Answer}
+use Rattle.model.specs.Cluster.{freshCopy, freshServer, freshCluster, Cluster, Round, Call, Message}
+use Rattle.model.specs.Lines.{Line, cluster, elect, call, deliver, copy, lose, timeout, stop, State, Tally, Outcome, printed, Stepped, Work, serverAt, messageAt, dropAt, stoppedAt, wasted, handed, handing, work, firstOf, conditions}
 use Rattle.model.specs.Leader.{handle}
 use Rattle.model.specs.Parse.{parse}
 use Rattle.model.specs.Run.{step, outcomes}
 use Rattle.history.specs.Members.{_∈_, none-in, each-append}
 use Rattle.limits.specs.Tally.{none-applies}
 use Rattle.limits.specs.Refusals.{ComesOut, turned, founded, took, comes-out}
-use Rattle.limits.specs.Always.{Measured, Stands, line-keeps-measures}
-use Rattle.consistency.specs.Statement.{Begin, End, Meaning, buckets, calling, other, meaning, beginsFrom, endsFrom}
+use Rattle.limits.specs.Always.{Measured, line-keeps-measures}
+use Rattle.consistency.specs.Statement.{Begin, End, buckets, meaning, beginsFrom, endsFrom}
 use Rattle.consistency.specs.Log.{Begun, Ended, Log, emptyLog, _⊆_}
 use Rattle.consistency.specs.Claims.{Holds}
 use Rattle.consistency.specs.Claims

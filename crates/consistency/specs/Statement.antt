@@ -4,14 +4,14 @@
 -- `outcomes`, which gives for each line the number it was refused with or the answers it printed.
 use mathlib.Core.Path.{_≡_}
 use mathlib.Core.List.{List, [], _∷_, _++_, map, List·Memᴰ}
-use mathlib.Core.Bool.{Bool, true, false}
+use mathlib.Core.Bool.{true, false}
 use mathlib.Core.Option.{Option, none, some}
 use Prim.Native.Nat.{ℕ, _+_, _<_}
 use lib.Dec.{ltb}
 use lib.ListN.{length}
 use Rattle.entries.specs.Entries.{Entry, valueOf, holds, put, remove, keysOf}
 use Rattle.table.specs.Form.{sameBytes}
-use Rattle.model.specs.Calls.{Words, get, set, setif, del, keys, bucketFor, Result, value, listed, done, mismatch, full, notdone, unknown, Answer}
+use Rattle.model.specs.Calls.{Words, get, set, setif, del, keys, bucketFor, Result, value, listed, done, mismatch, full, notdone, unknown}
 use Rattle.model.specs.Lines.{Line, cluster, elect, call, deliver, copy, lose, timeout, stop, Outcome, refusal, printed, nothing}
 use Rattle.model.specs.Parse.{parse}
 use Rattle.model.specs.Run.{outcomes}

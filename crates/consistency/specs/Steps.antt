@@ -1,33 +1,31 @@
 -- Every accepted line keeps the cluster in agreement with a log that grows by what the line began and printed.
-use mathlib.Core.Path.{_≡_, refl, sym, _∙_, ap, subst}
-use mathlib.Core.Logic.{_⊎_, inl, inr, _≢_}
-use mathlib.Core.List.{List, [], _∷_, _++_, List·Memᴰ·head, List·Memᴰ·tail, Memᴰ·append-left, Memᴰ·append-right, List·Memᴰ·append-cases}
+use mathlib.Core.Path.{_≡_, refl, _∙_}
+use mathlib.Core.List.{List, [], _∷_, _++_, List·Memᴰ·head, List·Memᴰ·tail}
 use mathlib.Core.Bool.{Bool, true, false, not}
 use mathlib.Core.Option.{Option, none, some}
 use Prim.Native.Nat.{ℕ, zero, suc, _+_, _≤_, _*_, _<_}
 use native.Mathlib.Omega.{arith}
 use native.Mathlib.Numerals.{add-one}
-use lib.ListN.{length, getD, set, take, drop, take-append-drop}
+use lib.ListN.{length, getD, take, drop}
 use Rattle.model.specs.Measures.{majority, maxServers}
 use Rattle.model.specs.Calls.{Words, bucketFor}
-use Rattle.model.specs.Cluster.{Role, follower, candidate, leading, Server, Message, Cluster, Call, callAt, nackVote, freshServer}
-use Rattle.model.specs.Leader.{Reaction, cease, handle}
+use Rattle.model.specs.Cluster.{Role, follower, candidate, leading, Message, Cluster, Call, callAt}
+use Rattle.model.specs.Leader.{Reaction, handle}
 use Rattle.model.specs.Leader
-use Rattle.model.specs.Lines.{Line, cluster, elect, call, deliver, copy, lose, timeout, stop, Tally, Condition, firstOf, conditions, serverAt, messageAt, dropAt, stoppedAt, isLeading, present, byLine, wasted, handed, handing, halted, Work, work}
+use Rattle.model.specs.Lines.{Line, cluster, elect, call, deliver, copy, lose, timeout, stop, Tally, conditions, serverAt, messageAt, dropAt, stoppedAt, isLeading, present, byLine, wasted, handed, handing, halted, work}
 use Rattle.history.specs.Members.{_∈_, none-in, each-append}
 use Rattle.limits.specs.Lists.{All, nil, cons, all-at}
-use Rattle.limits.specs.Tally.{none-applies, message-there}
+use Rattle.limits.specs.Tally.{message-there}
 use Rattle.limits.specs.Always.{Stands, either-false, server-there, bucket-less}
 use Rattle.consistency.specs.Log.{Begun, Ended, Log, _⊆_}
-use Rattle.consistency.specs.Claims.{MessageOk}
-use Rattle.consistency.specs.Invariant.{LogOk, ServerOk}
+use Rattle.consistency.specs.Invariant.{ServerOk}
 use Rattle.consistency.specs.Growth.{adds-refl}
 use Rattle.consistency.specs.Acts.{endsOf, Kept}
 use Rattle.consistency.specs.Added.{adds-begun}
 use Rattle.consistency.specs.Chaining.{unmoved}
 use Rattle.consistency.specs.Ceasing.{cease-kept, as-unsettled}
 use Rattle.consistency.specs.Electing.{elect-kept}
-use Rattle.consistency.specs.Beginning.{taking, begin-kept}
+use Rattle.consistency.specs.Beginning.{begin-kept}
 use Rattle.consistency.specs.Handling.{handle-kept}
 use Rattle.consistency.specs.Good.{Good, stepped-good}
 

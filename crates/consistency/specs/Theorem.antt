@@ -1,25 +1,21 @@
 -- Demand 3: every script has, for each bucket, one order of its calls (the statement is in Statement.antt).
 use mathlib.Core.Path.{_≡_, refl, sym, _∙_, ap, subst}
-use mathlib.Core.Logic.{_⊎_, inl, inr}
-use mathlib.Core.List.{List, [], _∷_, _++_, map, List·Memᴰ·head, List·Memᴰ·tail, Memᴰ·map, Memᴰ·of-map, append-nil}
+use mathlib.Core.List.{List, [], _∷_, List·Memᴰ·head, List·Memᴰ·tail, Memᴰ·map, Memᴰ·of-map, append-nil}
 use mathlib.Core.Bool.{Bool, true, false}
-use mathlib.Core.Option.{Option, none, some}
-use Prim.Native.Nat.{ℕ, _<_}
-use native.Mathlib.Omega.{arith}
+use Prim.Native.Nat.{ℕ}
 use lib.Dec.{ltb}
 use lib.ListN.{length}
 use Rattle.entries.specs.Entries.{Entry, valueOf, holds, stored}
 use Rattle.table.specs.Form.{sameBytes}
-use Rattle.model.specs.Calls.{Words, get, set, setif, del, keys, Result, value, listed, done, mismatch, full, notdone, unknown, Effect, answers, writes, setting, effect}
+use Rattle.model.specs.Calls.{Words, get, set, setif, del, keys, Result, value, listed, done, mismatch, full, notdone, unknown, setting, effect}
 use Rattle.model.specs.Lines.{nothing}
 use Rattle.history.specs.Members.{_∈_, none-in}
 use Rattle.history.specs.History.{Call, answered}
 use Rattle.history.specs.History as H
 use Rattle.history.specs.Ordering.{Ordering, by-unknown, by-notdone, by-answer, EndedIn}
 use Rattle.history.specs.Ordering as O
-use Rattle.consistency.specs.Statement.{Begin, End, plainSet, plain, Reply, reply, begins, ends, Distinct, Fed, OneOrder}
-use Rattle.consistency.specs.Log.{Begun, Ended, Log, emptyLog}
-use Rattle.consistency.specs.Invariant.{LogOk}
+use Rattle.consistency.specs.Statement.{Begin, End, plainSet, plain, reply, begins, ends, Distinct, Fed, OneOrder}
+use Rattle.consistency.specs.Log.{Begun, Log, emptyLog}
 use Rattle.consistency.specs.OneBucket.{left, said, historyOf, callOf, endBy}
 use Rattle.consistency.specs.OneBucket
 use Rattle.consistency.specs.BucketMembers.{part-has, part-each, entry-found}

@@ -1,34 +1,33 @@
 -- A leader opens a writing round: the log gets the write, the round and the leader's own acceptance, the leader's copy becomes the
 -- new version, and the server agrees with that.
 use mathlib.Core.Path.{_≡_, refl, sym, _∙_, ap, subst}
-use mathlib.Core.Logic.{_⊎_, inl, inr, _≢_}
-use mathlib.Core.List.{List, [], _∷_}
-use mathlib.Core.Bool.{Bool, true, false}
+use mathlib.Core.Logic.{_≢_}
+use mathlib.Core.List.{List}
+use mathlib.Core.Bool.{true}
 use mathlib.Core.Option.{Option, none, some}
-use Prim.Native.Nat.{ℕ, zero, suc, _+_, _≤_, _*_, _<_}
+use Prim.Native.Nat.{ℕ, _+_, _≤_, _*_, _<_}
 use native.Mathlib.Omega.{arith}
-use lib.ListN.{length, getD, set, replicate, length-set, length-replicate}
+use lib.ListN.{set, length-set, length-replicate}
 use lib.Seq.{getD-set-same, getD-set-other}
 use Rattle.entries.specs.Entries.{Entry}
 use Rattle.model.specs.Measures.{majority}
-use Rattle.model.specs.Cluster.{Version, version, above, Copy, Stored, freshCopy, copyAt, Purpose, recoveryRead, recoveryWrite, check, ownWrite, silent, acknowledged, Round, Call, roundAt, callAt, Server}
+use Rattle.model.specs.Cluster.{Version, version, above, Copy, Stored, freshCopy, copyAt, Purpose, check, Call, roundAt, callAt, Server}
 use Rattle.model.specs.Replica.{writing, accepting, storing, voting}
 use Rattle.model.specs.Leader.{isOwn, oneMore, newRound, opening}
 use Rattle.history.specs.Members.{_∈_, first-in, each-cons}
-use Rattle.history.specs.Version.{_≼_, _≺_, le-refl, le-trans, le-of-lt}
-use Rattle.consistency.specs.Log.{Vote, Win, Write, Accept, Report, Opened, Log, Grows}
-use Rattle.consistency.specs.Claims.{Won, Holds, later}
-use Rattle.consistency.specs.Invariant.{Unwritten, Unended, LogOk, Origin, Succeeds, StoredOk, MarksAccepted, PhaseOk, CallOk, RoundOk, CopyNewest, Shape, ServerOk}
-use Rattle.consistency.specs.Growth.{won-grows, holds-grows, Adds, adds-trans, TakenAt}
-use Rattle.consistency.specs.Buckets.{Untouched, call-grows, bucket-grows}
+use Rattle.history.specs.Version.{_≼_, _≺_, le-refl, le-of-lt}
+use Rattle.consistency.specs.Log.{Write, Accept, Opened, Log, Grows}
+use Rattle.consistency.specs.Claims.{later}
+use Rattle.consistency.specs.Invariant.{Unwritten, LogOk, Origin, Succeeds, StoredOk, MarksAccepted, PhaseOk, CallOk, CopyNewest, ServerOk}
+use Rattle.consistency.specs.Growth.{won-grows, Adds, adds-trans, TakenAt}
+use Rattle.consistency.specs.Buckets.{Untouched, bucket-grows}
 use Rattle.consistency.specs.Acts.{addWrite, addAccept, addRound}
 use Rattle.consistency.specs.Added.{adds-round, adds-write, adds-accept}
-use Rattle.consistency.specs.Above.{above-lt}
 use Rattle.consistency.specs.Extend.{round-added, write-added, accept-added}
 use Rattle.consistency.specs.Ceasing.{stored-grows}
 use Rattle.consistency.specs.Storing.{heeded-stored, accept-stored}
 use Rattle.consistency.specs.Ready.{Leads, Ready, Bucket, each-place, round-agrees}
-use Rattle.consistency.specs.Opening.{more, call-more, only-own, entry, above-all}
+use Rattle.consistency.specs.Opening.{more, only-own, entry, above-all}
 
 -- a new write by the leader s of bucket b, for call c or for recovery
 pub record NewWrite (n now : ℕ) (log : Log) (b : ℕ) (c : Call) (s : Server) (v u : Version) (t : List Entry) (owner : Option ℕ) : Type 0 where

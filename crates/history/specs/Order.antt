@@ -5,7 +5,6 @@ use mathlib.Core.Logic.{inl, inr}
 use mathlib.Core.Option.{Option, none, some}
 use mathlib.Core.List.{List, [], _∷_, _++_, append-assoc, append-nil, List·Memᴰ·head, List·Memᴰ·tail, Memᴰ·append-left, Memᴰ·append-right}
 use Prim.Native.Nat.{ℕ}
-use native.Mathlib.Omega.{arith}
 use Rattle.history.specs.Members.{_∈_, none-in, each-append, clash}
 use Rattle.history.specs.Version.{Version, version, same?}
 use Rattle.history.specs.History.{Contents, Quorums, Write, History, Call, answered, Holds, first, later, Makes, kept, changed, Facts}

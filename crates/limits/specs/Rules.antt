@@ -13,8 +13,7 @@ use lib.ListN
 use lib.Seq.{getD-set-same, getD-set-other}
 use borrow.Author.Tests.{eqb-false}
 use Rattle.entries.specs.Entries.{Entry}
-use Rattle.table.specs.Form.{fits}
-use Rattle.model.specs.Measures.{maxEntries, maxValueBytes, majority}
+use Rattle.model.specs.Measures.{majority}
 use Rattle.model.specs.Calls.{Words, bucketFor, Result, done, Effect, answers, writes}
 use Rattle.model.specs.Cluster.{Version, version, above, Copy, freshCopy, Stored, copyAt, Role, follower, candidate, leading, Purpose, recoveryRead, recoveryWrite, check, ownWrite, Mark, silent, acknowledged, refused, Round, Call, Volatile, Server, Body, pleaseVote, ackVote, nackVote, replicaWrite, ackWrite, nackWrite, replicaRead, ackRead, nackRead, Message, roundAt, callAt}
 use Rattle.model.specs.Replica.{voting, grants, afterVote, Request, reading, writing, requestBody, heeds, storing, accepting, acknowledging, refusing}

@@ -1,7 +1,7 @@
 -- The calls: their words, their results, and what a call does to its bucket's table.
-use mathlib.Core.List.{List, [], _∷_}
-use mathlib.Core.Bool.{Bool, true, false}
-use mathlib.Core.Option.{Option, none, some}
+use mathlib.Core.List.{List, []}
+use mathlib.Core.Bool.{true, false}
+use mathlib.Core.Option.{none, some}
 use Prim.Native.Nat.{ℕ}
 use Rattle.hash.specs.Fnv.{bucketOf}
 use Rattle.entries.specs.Entries.{Entry, valueOf, stored, keysOf}

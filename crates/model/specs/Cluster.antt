@@ -1,10 +1,10 @@
 -- What a cluster holds: servers with their copies, rounds and calls, and the messages in flight.
-use mathlib.Core.List.{List, [], _∷_, _++_, map}
+use mathlib.Core.List.{List, []}
 use mathlib.Core.Bool.{Bool, true, false}
-use mathlib.Core.Option.{Option, none, some}
-use Prim.Native.Nat.{ℕ, zero, suc}
+use mathlib.Core.Option.{Option, none}
+use Prim.Native.Nat.{ℕ}
 use lib.Dec.{ltb, eqb}
-use lib.ListN.{replicate, getD, set}
+use lib.ListN.{replicate, getD}
 use Rattle.entries.specs.Entries.{Entry}
 use Rattle.model.specs.Calls.{Words}
 

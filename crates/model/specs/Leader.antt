@@ -9,7 +9,7 @@ use lib.ListN.{replicate, getD, set}
 use Rattle.entries.specs.Entries.{Entry}
 use Rattle.model.specs.Measures.{majority}
 use Rattle.model.specs.Calls.{Words, Result, done, notdone, unknown, Effect, answers, writes, effect, Answer}
-use Rattle.model.specs.Cluster.{Version, version, above, Copy, Stored, Role, follower, candidate, leading, Purpose, recoveryRead, recoveryWrite, check, ownWrite, Mark, silent, acknowledged, refused, Round, Call, Volatile, Server, Body, pleaseVote, ackVote, nackVote, replicaWrite, ackWrite, nackWrite, replicaRead, ackRead, nackRead, Message, freshCopy, copyAt, roundAt, callAt}
+use Rattle.model.specs.Cluster.{Version, version, above, Copy, Stored, follower, candidate, leading, Purpose, recoveryRead, recoveryWrite, check, ownWrite, Mark, silent, acknowledged, refused, Round, Call, Volatile, Server, Body, pleaseVote, ackVote, nackVote, replicaWrite, ackWrite, nackWrite, replicaRead, ackRead, nackRead, Message, freshCopy, copyAt, roundAt, callAt}
 use Rattle.model.specs.Replica.{grants, afterVote, Request, reading, writing, requestBody, heeds, accepting, acknowledging, refusing}
 
 -- what a server's step gives: the server afterwards, the messages it sends, in order, and the answers it prints

@@ -9,7 +9,7 @@ use lib.ListN.{length, getD, take, drop, set}
 use Rattle.model.specs.Measures.{maxServers, maxBuckets, maxKeyBytes, maxValueBytes, maxMessages, maxAccepted, maxElection}
 use Rattle.model.specs.Calls.{Words, bucketFor, Answer}
 use Rattle.model.specs.Calls
-use Rattle.model.specs.Cluster.{Role, follower, candidate, leading, Server, Body, nackVote, Message, Cluster, freshServer, freshCluster, roundAt, callAt}
+use Rattle.model.specs.Cluster.{Role, follower, candidate, leading, Server, nackVote, Message, Cluster, freshServer, freshCluster, roundAt, callAt}
 use Rattle.model.specs.Leader.{Reaction, reaction, cease, beginCall, handle}
 use Rattle.model.specs.Leader
 

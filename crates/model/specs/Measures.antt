@@ -1,5 +1,5 @@
 -- The measures of a cluster (document 01, 'Measures of a cluster'), each named once.
-use mathlib.Core.List.{List, [], _∷_}
+use mathlib.Core.List.{[], _∷_}
 use Prim.Native.Nat.{ℕ}
 use lib.ListN.{getD}
 

@@ -1,13 +1,13 @@
 -- A script line from its bytes (document 01, 'Script lines'). What is not of the forms there is none: refusal 1.
-use mathlib.Core.List.{List, [], _∷_, _++_, reverse}
-use mathlib.Core.Bool.{Bool, true, false}
+use mathlib.Core.List.{List, [], _∷_, reverse}
+use mathlib.Core.Bool.{true, false}
 use mathlib.Core.Option.{Option, none, some}
 use Prim.Native.Nat.{ℕ, _+_, _-_, _*_}
 use lib.Dec.{ltb, leb, eqb}
 use lib.ListN.{length}
 use Rattle.table.specs.Form.{sameBytes}
 use Rattle.model.specs.Measures.{maxLineBytes}
-use Rattle.model.specs.Calls.{Words, get, set, setif, del, keys}
+use Rattle.model.specs.Calls.{get, set, setif, del, keys}
 use Rattle.model.specs.Lines.{Line, cluster, elect, call, deliver, copy, lose, timeout, stop}
 use Rattle.model.specs.Text.{bytes}
 

@@ -1,12 +1,11 @@
 -- What a server does as a voter and as a replica: Algorithms 1, 2 and 3 of the paper, on what it stores.
-use mathlib.Core.List.{List, [], _∷_}
+use mathlib.Core.List.{List}
 use mathlib.Core.Bool.{Bool, true, false}
-use mathlib.Core.Option.{Option, none, some}
 use Prim.Native.Nat.{ℕ}
 use lib.Dec.{ltb, eqb}
 use lib.ListN.{set}
 use Rattle.entries.specs.Entries.{Entry}
-use Rattle.model.specs.Cluster.{Version, above, Copy, Stored, copyAt, Body, replicaWrite, replicaRead, ackWrite, nackWrite, ackRead, nackRead}
+use Rattle.model.specs.Cluster.{Version, above, Stored, copyAt, Body, replicaWrite, replicaRead, ackWrite, nackWrite, ackRead, nackRead}
 
 -- the vote and its leader (Algorithm 1, lines 8 and 9; Algorithms 2 and 3, lines 14 and 15)
 abbrev pub voting : ℕ → ℕ → Stored → Stored

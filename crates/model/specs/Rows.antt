@@ -10,7 +10,7 @@ use Rattle.hash.specs.Fnv.{fnv, bucketOf}
 use Rattle.entries.specs.Entries.{Entry, entry}
 use Rattle.table.specs.Form.{bucketBytes, readBucket, sameBytes}
 use Rattle.model.specs.Measures.{majority, maxEntries, maxValueBytes}
-use Rattle.model.specs.Cluster.{Version, version, Copy, copyAt, Stored, Role, follower, candidate, leading, Server, ackVote, replicaWrite, kindNumber, Message, freshServer}
+use Rattle.model.specs.Cluster.{Version, version, copyAt, Role, follower, candidate, leading, Server, ackVote, replicaWrite, kindNumber, Message, freshServer}
 use Rattle.model.specs.Leader.{Reaction, elect, handle}
 use Rattle.model.specs.Compute.{computing}
 
