@@ -1,5 +1,5 @@
 -- A table: keys with their values, in rising order of key bytes. Keys and values are lists of bytes.
--- A value of no bytes means that the key is absent (document 01, 'Bucket bytes'), so no entry holds one.
+-- A value of no bytes means that the key is absent (document 01, 'Bucket bytes'), so `stored` puts none into a table.
 use mathlib.Core.List.{List, [], _∷_, map}
 use mathlib.Core.Bool.{Bool, true, false}
 use mathlib.Core.Option.{Option, none, some}

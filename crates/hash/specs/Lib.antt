@@ -1,3 +1,2 @@
 -- What the contracts of `hash` cite.
 pub mod Fnv
-pub mod Rows

@@ -7,3 +7,4 @@ pub mod Tables
 pub mod Rules
 pub mod Always
 pub mod Printed
+pub mod Prints

@@ -29,14 +29,15 @@ pub record Copy : Type 0 where
   pub version : Version
   pub table : List Entry
 
--- its election number; its vote, the number last voted under; the leader that the vote went to; its copies by bucket
+-- its election number; its vote, the number last voted under; the leader that the vote went to, which means nothing while
+-- the vote is 0; its copies by bucket
 pub record Stored : Type 0 where
   pub number : ℕ
   pub vote : ℕ
   pub leader : ℕ
   pub copies : List Copy
 
--- ---- what a server forgets when it stops
+-- ---- role, rounds and calls: a stopped server keeps them, unused
 
 pub data Role : Type 0 where
   follower : Role

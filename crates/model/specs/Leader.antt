@@ -1,5 +1,5 @@
 -- The rules of a server (document 01, 'Rules of a server'): elections, rounds, calls, and the handling of a message.
--- `n` is the number of servers, `me` the server's own number.
+-- `n` is the number of servers, `me` the server's own number, `b` a bucket, `e` an election number, `k` a round, `q` another server.
 use mathlib.Core.List.{List, [], _∷_, _++_, map}
 use mathlib.Core.Bool.{Bool, true, false}
 use mathlib.Core.Option.{Option, none, some}
@@ -24,7 +24,7 @@ reaction s ms out = record { server = s; sends = ms; answers = out }
 abbrev pub quiet : Server → Reaction
 quiet s = reaction s [] []
 
--- what was sent before a further step
+-- a reaction, with messages sent before it
 abbrev pub after : List Message → Reaction → Reaction
 after ms r = reaction (r .server) (ms ++ r .sends) (r .answers)
 
@@ -173,7 +173,8 @@ reportTo recoveryWrite c = freshCopy
 reportTo check c = freshCopy
 reportTo ownWrite c = freshCopy
 
--- the open round of a broadcast, with the sender's own acknowledgement: a leader's vote is its number, so it heeds itself
+-- the open round of a broadcast, with the sender's own acknowledgement. It does not ask whether the sender would refuse: a
+-- leader's vote equals its number in every reached state (RoleOk in crates/consistency/specs/Invariant.antt)
 unfoldable pub newRound : ℕ → ℕ → ℕ → Purpose → Server → Round
 newRound n me b purpose s =
     record {
@@ -355,7 +356,7 @@ abbrev pub replyTo : ℕ → Message → Body → Message
 replyTo me m body =
     record { sender = me; receiver = m .sender; bucket = m .bucket; election = m .election; round = m .round; body = body }
 
--- the answer to a request, after which the server may have ceased to lead
+-- the answer to a request, after which the server may have ceased to lead; ceasing sends nothing
 abbrev pub replying : Reaction → Message → Reaction
 replying r m = reaction (r .server) (m ∷ []) (r .answers)
 

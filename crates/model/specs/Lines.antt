@@ -44,7 +44,7 @@ pub data Outcome : Type 0 where
   refusal : ℕ → Outcome
   printed : List Answer → Outcome
 
--- ---- parts of a cluster
+-- ---- parts of a cluster; what stands for one that is not there is never looked at
 
 abbrev pub serverAt : Cluster → ℕ → Server
 serverAt c s = getD (c .servers) s (freshServer 0 0)
@@ -220,6 +220,7 @@ handing c m kept copied =
 abbrev pub halted : Server → Server
 halted s = record { stored = s .stored; volatile = s .volatile; stopped = true }
 
+-- a second cluster line is refused with 2 and never comes here
 unfoldable pub work : Cluster → Line → Work
 work c (cluster n b) = byLine c 0 (c .calls) (reaction (serverAt c 0) [] [])
 work c (elect s) = byLine c s (c .calls) (Leader.elect (length (c .servers)) s (serverAt c s))

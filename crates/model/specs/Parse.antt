@@ -71,7 +71,7 @@ hexadecimal (b ∷ l) = elim (sameBytes (b ∷ l) (bytes "-")) [ true ↦ some [
 
 -- ---- lines
 
--- a line made of one thing that was read, or of two
+-- a line made of one to four things that were read
 unfoldable pub made : {A : Type 0} → (A → Line) → Option A → Option Line
 made f none = none
 made f (some a) = some (f a)
@@ -88,7 +88,7 @@ unfoldable pub made4 : {A B C D : Type 0} → (A → B → C → D → Line) →
 made4 f none y z u = none
 made4 f (some a) y z u = made3 (f a) y z u
 
--- the first of several readings whose word is the line's first; a reading is chosen by its word and its number of words
+-- a line with one argument, by its first word; then with two, three and four
 unfoldable pub lineOf1 : List ℕ → List ℕ → Option Line
 lineOf1 w a =
     elim (sameBytes w (bytes "elect")) [

@@ -7,7 +7,7 @@ use Rattle.model.specs.Calls.{Result, value, listed, done, mismatch, ful
 use Rattle.model.specs.Lines.{Tally, Outcome, refusal, printed}
 use Rattle.model.specs.Text.{bytes}
 
--- a number in decimal; a number has no more digits than its size, which bounds the recursion
+-- a number in decimal; n + 1 steps are enough for the digits of n
 unfoldable pub decimalInto : ℕ → ℕ → List ℕ → List ℕ
 decimalInto zero n rest = rest
 decimalInto (suc f) n rest =

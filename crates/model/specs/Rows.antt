@@ -2,15 +2,15 @@
 use mathlib.Core.Path.{_≡_, refl}
 use mathlib.Core.List.{List, [], _∷_, _++_}
 use mathlib.Core.Bool.{Bool, true, false, not}
-use mathlib.Core.Option.{Option, none, some}
 use Prim.Native.Nat.{ℕ}
 use lib.Dec.{eqb}
 use lib.ListN.{replicate}
 use Rattle.hash.specs.Fnv.{fnv, bucketOf}
-use Rattle.entries.specs.Entries.{Entry, entry}
+use Rattle.entries.specs.Entries.{Entry, entry, valueOf}
 use Rattle.table.specs.Form.{bucketBytes, readBucket, sameBytes}
 use Rattle.model.specs.Measures.{majority, maxEntries, maxValueBytes}
-use Rattle.model.specs.Cluster.{Version, version, copyAt, Role, follower, candidate, leading, Server, ackVote, replicaWrite, kindNumber, Message, freshServer}
+use Rattle.model.specs.Cluster.{Version, version, copyAt, Server, ackVote, replicaWrite, kindNumber, Message, freshServer}
+use Rattle.model.specs.Lines.{present, isLeading}
 use Rattle.model.specs.Leader.{Reaction, elect, handle}
 use Rattle.model.specs.Compute.{computing}
 
@@ -24,15 +24,6 @@ every (false ∷ l) = false
 unfoldable pub firstKind : List Message → ℕ
 firstKind [] = 0
 firstKind (m ∷ l) = kindNumber (m .body)
-
-unfoldable pub refusedForm : Option (List Entry) → Bool
-refusedForm none = true
-refusedForm (some t) = false
-
-unfoldable pub leads : Role → Bool
-leads follower = false
-leads candidate = false
-leads leading = true
 
 -- the table and the bytes of P5
 abbrev pub table5 : List Entry
@@ -57,7 +48,7 @@ write v = record { sender = 0; receiver = 1; bucket = 0; election = v .election;
 abbrev pub written : ℕ → Version → Version → Reaction
 written vote stored v = handle 3 1 (write v) (replica vote stored)
 
--- server 0 of 5, elected under number 1, after an ACKVOTE from server 1
+-- server 0 of 5, candidate under number 1, after an ACKVOTE from server 1
 abbrev pub voted : Server → Server
 voted s = handle 5 0 (record { sender = 1; receiver = 0; bucket = 0; election = 1; round = 0; body = ackVote }) s .server
 
@@ -76,18 +67,20 @@ rows =
     -- P6: empty table: 113 zeros
     ∷ sameBytes (bucketBytes maxEntries maxValueBytes []) (replicate 113 0)
     -- P7: P5 with last byte 1: refused 13
-    ∷ refusedForm (readBucket maxEntries maxValueBytes (front5 ++ (replicate 104 0 ++ (1 ∷ []))))
-    -- P8: vote 5, stored (5, 3), write (5, 2): acknowledged, (5, 3) stays
+    ∷ not (present (readBucket maxEntries maxValueBytes (front5 ++ (replicate 104 0 ++ (1 ∷ [])))))
+    -- P8: vote 5, stored (5, 3), write (5, 2): acknowledged, (5, 3) stays, with its table
     ∷ every
     (eqb (firstKind (written 5 (version 5 3) (version 5 2) .sends)) 5
+    ∷ eqb (copyAt (written 5 (version 5 3) (version 5 2) .server .stored) 0 .version .election) 5
     ∷ eqb (copyAt (written 5 (version 5 3) (version 5 2) .server .stored) 0 .version .counter) 3
+    ∷ sameBytes (valueOf (0x61 ∷ []) (copyAt (written 5 (version 5 3) (version 5 2) .server .stored) 0 .table)) (0x68 ∷ 0x69 ∷ [])
     ∷ [])
     -- P9: vote 6, write under 5: NACKWRITE
     ∷ eqb (firstKind (written 6 (version 5 3) (version 5 4) .sends)) 6
     -- P10: 5 servers, own vote and two ACKVOTEs from server 1: no leader
-    ∷ not (leads (voted (voted (elect 5 0 (freshServer 5 1) .server)) .volatile .role))
+    ∷ not (isLeading (voted (voted (elect 5 0 (freshServer 5 1) .server)) .volatile .role))
     ∷ []
 
 pub rows-hold : every rows ≡ true
-unfolding computing every firstKind refusedForm leads rows
+unfolding computing every firstKind rows
 rows-hold = refl

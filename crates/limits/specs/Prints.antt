@@ -1,0 +1,23 @@
+-- What a whole input prints is the text of each line's outcome, then the tally. So what is shown of outcomes is shown of the
+-- printed bytes.
+use mathlib.Core.Path.{_≡_, refl, ap}
+use mathlib.Core.List.{List, [], _∷_, _++_, append-assoc}
+use Prim.Native.Nat.{ℕ, _+_}
+use Rattle.model.specs.Lines.{State, nothing, Outcome}
+use Rattle.model.specs.Print.{outcomeText, tallyText}
+use Rattle.model.specs.Run.{step, stateAfter, outcomes, linesOf, printedFrom, run}
+
+-- the texts of outcomes, of lines numbered from `number` on
+unfoldable pub outcomeTexts : ℕ → List Outcome → List ℕ
+outcomeTexts number [] = []
+outcomeTexts number (o ∷ os) = outcomeText number o ++ outcomeTexts (number + 1) os
+
+printed-outcomes : (number : ℕ) (s : State) (ls : List (List ℕ)) → printedFrom number s ls ≡ outcomeTexts number (outcomes s ls) ++ tallyText (stateAfter s ls .tally)
+unfolding printedFrom outcomeTexts outcomes stateAfter
+printed-outcomes number s [] = refl
+printed-outcomes number s (l ∷ ls) =
+    rw append-assoc (ap (λ r. outcomeText number (step s l .outcome) ++ r) (printed-outcomes (number + 1) (step s l .state) ls))
+
+pub run-prints : (input : List ℕ) → run input ≡ outcomeTexts 1 (outcomes nothing (linesOf input)) ++ tallyText (stateAfter nothing (linesOf input) .tally)
+unfolding run
+run-prints input = printed-outcomes 1 nothing (linesOf input)
