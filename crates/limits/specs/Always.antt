@@ -10,11 +10,13 @@ use lib.Dec.{leb}
 use lib.ListN.{length, length-set, length-replicate, getD-replicate}
 use borrow.Author.Tests.{ltb-false, leb-false, leb-true, eqb-false}
 use Rattle.hash.specs.Fnv.{bucketOf}
+use Rattle.table.specs.Form.{within}
+use Rattle.table.proofs.Fitting.{within-parts}
 use Rattle.model.specs.Measures.{maxServers, maxBuckets, maxMessages, maxAccepted, maxElection}
 use Rattle.model.specs.Calls.{Words, get, set, setif, del, keys, bucketFor}
 use Rattle.model.specs.Cluster.{Role, follower, candidate, leading, Round, Call, Message, Cluster, freshServer, freshCluster, freshCopy}
 use Rattle.model.specs.Leader.{Reaction}
-use Rattle.model.specs.Lines.{Line, cluster, elect, call, deliver, copy, lose, timeout, stop, State, nothing, Tally, firstOf, conditions, either, noServer, noBucket, noBucketFor, badKey, badValue, badWords, spent, stoppedAt, isLeading, lastNumber, serverAt, dropAt, Work, stepped, byLine, wasted, handing, work, tallied, Stepped, inRange}
+use Rattle.model.specs.Lines.{Line, cluster, elect, call, deliver, copy, lose, timeout, stop, State, nothing, Tally, firstOf, conditions, either, noServer, noBucket, noBucketFor, badKey, badValue, badWords, spent, stoppedAt, isLeading, lastNumber, serverAt, dropAt, Work, stepped, byLine, wasted, handing, work, tallied, Stepped}
 use Rattle.model.specs.Parse.{parse}
 use Rattle.model.specs.Run.{step, stateAfter}
 use Rattle.limits.specs.Lists.{All, nil, cons, all-head, all-tail, all-imply, all-append, all-take, all-drop, all-set, all-at, all-replicate}
@@ -244,14 +246,6 @@ abbrev pub Measured : Option Cluster → Tally → Type 0
 Measured none t = t ≡ nothing .tally
 Measured (some c) t = Stands c t
 
-in-range : (top x : ℕ) → inRange top x ≡ true → (1 ≤ x) × (x ≤ top)
-unfolding inRange
-in-range top x e = go (leb 1 x) refl
-  where
-    go : (t : Bool) → leb 1 x ≡ t → (1 ≤ x) × (x ≤ top)
-    go true p = (leb-true _ _ p, leb-true _ _ (rw (inRange, p) at e))
-    go false p = let z : _≡_ {A = ℕ} 0 1 = cc (rw (inRange, p) at e) in absurd (omega arith)
-
 fresh-server-within : (n b : ℕ) → 1 ≤ n → ServerWithin n b (limitsAfter 0 0) 0 (freshServer n b)
 unfolding freshServer
 fresh-server-within n b h =
@@ -291,12 +285,12 @@ stands-on c t l h e room =
       handed = omega (arith, h .handed, counts .handed);
     }
 
-founded-stands : (n b : ℕ) (t : Tally) → inRange maxServers n ≡ true → inRange maxBuckets b ≡ true → t ≡ nothing .tally →
+founded-stands : (n b : ℕ) (t : Tally) → within maxServers n ≡ true → within maxBuckets b ≡ true → t ≡ nothing .tally →
     Stands (freshCluster n b) t
 unfolding freshCluster
 founded-stands n b t p q z =
-    let (low, high) = in-range maxServers n p in
-    let (some-there, few) = in-range maxBuckets b q in
+    let (low, high) = within-parts maxServers n p in
+    let (some-there, few) = within-parts maxBuckets b q in
     record {
       servers = n;
       buckets = b;

@@ -9,9 +9,10 @@ use native.Mathlib.Omega.{arith}
 use lib.Dec.{leb}
 use lib.ListN.{length}
 use borrow.Author.Tests.{leb-true}
+use Rattle.table.specs.Form.{within}
 use Rattle.model.specs.Measures.{maxServers, maxBuckets, maxMessages}
 use Rattle.model.specs.Cluster.{Cluster, freshCluster}
-use Rattle.model.specs.Lines.{Line, cluster, elect, call, deliver, copy, lose, timeout, stop, State, refusal, printed, Condition, firstOf, conditions, work, tallied, Stepped, turnedDown, taking, inCluster, inRange, founding, perform}
+use Rattle.model.specs.Lines.{Line, cluster, elect, call, deliver, copy, lose, timeout, stop, State, refusal, printed, Condition, firstOf, conditions, work, tallied, Stepped, turnedDown, taking, inCluster, founding, perform}
 use Rattle.model.specs.Parse.{parse}
 use Rattle.model.specs.Run.{step}
 use Rattle.limits.specs.Lists.{All, nil, cons}
@@ -68,7 +69,7 @@ lowest-wins c l r = firstOf-lowest 2 (conditions c l) r (conditions-rise c l)
 
 pub data ComesOut (s : State) (o : Option Line) : Stepped → Type 0 where
   turned : (r : ℕ) → 1 ≤ r → r ≤ 12 → ComesOut s o (turnedDown s r)
-  founded : (n b : ℕ) → o ≡ some (cluster n b) → inRange maxServers n ≡ true → inRange maxBuckets b ≡ true → s .cluster ≡ none →
+  founded : (n b : ℕ) → o ≡ some (cluster n b) → within maxServers n ≡ true → within maxBuckets b ≡ true → s .cluster ≡ none →
       ComesOut s o (record { state = record { cluster = some (freshCluster n b); tally = s .tally }; outcome = printed [] })
   took : (c : Cluster) (l : Line) → o ≡ some l → s .cluster ≡ some c → firstOf (conditions c l) ≡ none →
       length (work c l .cluster .messages) ≤ maxMessages →
@@ -76,9 +77,9 @@ pub data ComesOut (s : State) (o : Option Line) : Stepped → Type 0 where
 
 founding-comes-out : (s : State) (l : Line) → s .cluster ≡ none → ComesOut s (some l) (founding s l)
 unfolding founding
-founding-comes-out s (cluster n b) e = go (inRange maxServers n) refl (inRange maxBuckets b) refl
+founding-comes-out s (cluster n b) e = go (within maxServers n) refl (within maxBuckets b) refl
   where
-    go : (p : Bool) → inRange maxServers n ≡ p → (q : Bool) → inRange maxBuckets b ≡ q → ComesOut s (some (cluster n b)) (founding s (cluster n b))
+    go : (p : Bool) → within maxServers n ≡ p → (q : Bool) → within maxBuckets b ≡ q → ComesOut s (some (cluster n b)) (founding s (cluster n b))
     go false p q c = rw (founding, p) (turned 2 (omega arith) (omega arith))
     go true p false c = rw (founding, p, c) (turned 2 (omega arith) (omega arith))
     go true p true c = rw (founding, p, c) (founded n b refl p c e)

@@ -6,6 +6,7 @@ use mathlib.Core.Option.{Option, none, some}
 use Prim.Native.Nat.{ℕ, _+_}
 use lib.Dec.{ltb, leb, eqb}
 use lib.ListN.{length, getD, take, drop, set}
+use Rattle.table.specs.Form.{within}
 use Rattle.model.specs.Measures.{maxServers, maxBuckets, maxKeyBytes, maxValueBytes, maxMessages, maxAccepted, maxElection}
 use Rattle.model.specs.Calls.{Words, bucketFor, Answer}
 use Rattle.model.specs.Calls
@@ -264,15 +265,12 @@ unfoldable pub inCluster : State → Cluster → Line → Stepped
 inCluster s c l = elim (firstOf (conditions c l)) [ some r ↦ turnedDown s r | none ↦ taking s (work c l) ]
 
 -- 2: the first cluster line makes the cluster, if its numbers are in range; nothing else is taken before it
-unfoldable pub inRange : ℕ → ℕ → Bool
-inRange top n = elim (leb 1 n) [ true ↦ leb n top | false ↦ false ]
-
 unfoldable pub founding : State → Line → Stepped
 founding s (cluster n b) =
-    elim (inRange maxServers n) [
+    elim (within maxServers n) [
       | false ↦ turnedDown s 2
       | true ↦
-          elim (inRange maxBuckets b) [
+          elim (within maxBuckets b) [
             | false ↦ turnedDown s 2
             | true ↦
                 record { state = record { cluster = some (freshCluster n b); tally = s .tally }; outcome = printed [] }

@@ -2,6 +2,7 @@
 use mathlib.Core.List.{[], _∷_}
 use Prim.Native.Nat.{ℕ}
 use lib.ListN.{getD}
+use Rattle.table.specs.Form.{maxKey}
 
 abbrev pub maxServers : ℕ
 maxServers = 7
@@ -15,7 +16,7 @@ maxEntries = 4
 
 -- bytes of a key, which has at least one
 abbrev pub maxKeyBytes : ℕ
-maxKeyBytes = 8
+maxKeyBytes = maxKey
 
 -- bytes of a value, which may have none
 abbrev pub maxValueBytes : ℕ
