@@ -117,10 +117,6 @@ adds-refl p a =
 taken-grows : {a b : Log} {p i : ℕ} → Grows a b → TakenAt a p i → TakenAt b p i
 taken-grows g t = (t .0, g .begins _ (t .1), t .2, t .3)
 
-either-then : {A B C : Type 0} → (A → C) → A ⊎ B → C ⊎ B
-either-then f (inl a) = inl (f a)
-either-then f (inr b) = inr b
-
 pub adds-trans : {p : ℕ} {a b c : Log} → Adds p a b → Adds p b c → Adds p a c
 adds-trans {p} {a} {b} {c} f g =
     record {

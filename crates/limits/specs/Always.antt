@@ -6,9 +6,8 @@ use mathlib.Core.Option.{Option, none, some}
 use Prim.Native.Nat.{ℕ, zero, suc, _+_, _*_, _≤_, _<_}
 use native.Mathlib.Omega.{arith}
 use native.Mathlib.Nat.{mod-lt}
-use lib.Dec.{leb}
 use lib.ListN.{length, length-set, length-replicate, getD-replicate}
-use borrow.Author.Tests.{ltb-false, leb-false, leb-true, eqb-false}
+use borrow.Author.Tests.{ltb-false, leb-false, eqb-false}
 use Rattle.hash.specs.Fnv.{bucketOf}
 use Rattle.table.specs.Form.{within}
 use Rattle.table.proofs.Fitting.{within-parts}
