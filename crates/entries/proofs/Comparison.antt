@@ -47,9 +47,6 @@ unfolding order
 order-refl [] = refl
 order-refl (a ∷ l) = order-next a a l l (le-refl a) (le-refl a) ∙ order-refl l
 
-pub same-order : (l m : List ℕ) → l ≡ m → order l m ≡ Same
-same-order l m e = rw e (order-refl m)
-
 -- lists that are the same in the order are equal
 pub order-same : (l m : List ℕ) → order l m ≡ Same → l ≡ m
 unfolding order
@@ -74,18 +71,6 @@ after-before (a ∷ l) (b ∷ m) h = go (bytes a b) (after-before l m)
     go : Bytes a b → (order l m ≡ After → order m l ≡ Before) → order (b ∷ m) (a ∷ l) ≡ Before
     go (less k) ih = cc (order-less a b l m k)
     go (more k) ih = order-less b a m l k
-    go (equal h₁ h₂) ih = order-next b a m l h₂ h₁ ∙ ih (sym (order-next a b l m h₁ h₂) ∙ h)
-
-pub before-after : (l m : List ℕ) → order l m ≡ Before → order m l ≡ After
-unfolding order
-before-after [] [] h = cc
-before-after [] (b ∷ m) h = refl
-before-after (a ∷ l) [] h = cc
-before-after (a ∷ l) (b ∷ m) h = go (bytes a b) (before-after l m)
-  where
-    go : Bytes a b → (order l m ≡ Before → order m l ≡ After) → order (b ∷ m) (a ∷ l) ≡ After
-    go (less k) ih = order-more b a m l k
-    go (more k) ih = cc (order-more a b l m k)
     go (equal h₁ h₂) ih = order-next b a m l h₂ h₁ ∙ ih (sym (order-next a b l m h₁ h₂) ∙ h)
 
 pub before-trans : (l m n : List ℕ) → order l m ≡ Before → order m n ≡ Before → order l n ≡ Before

@@ -15,12 +15,14 @@ pub fn at_most(n: usize, top: usize) -> usize
     if n < top { n } else { top }
 }
 
+// How many bytes of a key count: all eight where its length says more.
 pub fn key_length(k: Key) -> usize
     ensures { λ r. ⌜ Cut 8 (keyBytes k) r ⌝ }
 {
     at_most(k.len, 8)
 }
 
+// How many bytes of a value count: all sixteen where its length says more.
 pub fn value_length(v: Value) -> usize
     ensures { λ r. ⌜ Cut 16 (valueBytes v) r ⌝ }
 {

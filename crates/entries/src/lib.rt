@@ -1,4 +1,4 @@
-// The bucket form of document 01: tables of up to four keys, decoded into arrays by value, changed, and encoded again.
+// Tables of up to four keys as arrays by value: a key is looked up, stored and removed.
 pub mod keys;
 pub mod slots;
 

@@ -17,6 +17,7 @@ ghost use Rattle.entries.specs.Entries.{valueOf, stored, remove};
 ghost use Rattle.entries.specs.Decoded.{Counted, keyBytes, valueBytes, tableIn};
 ghost use Rattle.entries.specs.Places.{Placed, Storing};
 
+// How many slots of a table count: all four where its count says more.
 pub fn count_of(t: Decoded) -> usize
     ensures { λ r. ⌜ Counted t r ⌝ }
 {
@@ -45,6 +46,7 @@ pub fn place(t: Decoded, k: Key) -> Place
     Place { at: n, held: false }
 }
 
+// A value of no bytes.
 pub fn no_value() -> Value
     ensures { λ r. ⌜ valueBytes r ≡ [] ⌝ }
 {

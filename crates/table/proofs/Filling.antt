@@ -4,14 +4,14 @@ use mathlib.Core.List.{List, [], _∷_, _++_, append-assoc}
 use Prim.Native.Nat.{ℕ, suc, _≤_, _<_, _+_, _-_, _*_}
 use native.Mathlib.Omega.{arith}
 use native.Mathlib.Numerals.{add-one}
-use lib.ListN.{length, take, drop, getD, set, replicate, length-set, length-take, length-append, length-replicate, drop-of-length-le}
+use lib.ListN.{length, drop, getD, set, replicate, length-set, length-append, length-replicate, drop-of-length-le}
 use lib.Seq.{sets, sets-eq, length-sets, drop-cons}
 use Rattle.entries.specs.declared.Slot.{Slot}
 use Rattle.entries.specs.Entries.{Entry}
 use Rattle.entries.specs.Decoded.{keyBytes, valueBytes, entryIn, blank}
 use Rattle.entries.proofs.Views.{entriesIn, length-entries, next-entry}
 use Rattle.table.specs.Form.{bucketSize, header, body, packed, bucketBytes}
-use Rattle.table.specs.Steps.{Bodied}
+use Rattle.table.specs.Steps.{Offsets, Entered, Bodied}
 use Rattle.table.proofs.Reading.{length-header, length-packed}
 
 -- two runs of stores, the second behind the first
@@ -20,6 +20,9 @@ sets-append l i [] b = let e : i + 0 ≡ i = omega arith in rw e
 sets-append l i (x ∷ a) b =
     let e : i + suc (length a) ≡ suc i + length a = omega arith in
     sets-append (set l i x) (suc i) a b ∙ rw e
+
+pub sets-both : (l mid after : List ℕ) (i n : ℕ) (a b : List ℕ) → n ≡ length a → mid ≡ sets l i a → after ≡ sets mid (i + n) b → after ≡ sets l i (a ++ b)
+sets-both l mid after i n a b h e f = f ∙ rw (e, h) (sym (sets-append l i a b))
 
 -- ---- a list w of n bytes written byte by byte: i of them are written from `at` on
 pub record Putting (out₀ : List ℕ) (at : ℕ) (w : List ℕ) (n : ℕ) (out : List ℕ) (i : ℕ) : Type 0 where
@@ -64,30 +67,37 @@ pub heading-starts : (out : List ℕ) (n : ℕ) (l : List Slot) → n ≤ 4 → 
 heading-starts out n l h f r = record { inside = omega arith; low = h; four = f; room = r; size = refl; far = omega arith; rest = refl }
 
 module _ {out₀ : List ℕ} {n : ℕ} {l : List Slot} {out : List ℕ} {at i : ℕ} (c : Heading out₀ n l out at i) where
-  pub heading-goes-on : {k v : ℕ} (after : List ℕ) → i < n → k ≤ 8 → v ≤ 16 → k ≡ length (keyBytes (getD l i blank .key)) → v ≡ length (valueBytes (getD l i blank .value)) → after ≡ sets out (1 + 4 * i) (at ∷ (k ∷ ((at + k) ∷ (v ∷ [])))) → Heading out₀ n l after (at + k + v) (i + 1)
-  heading-goes-on {k} {v} after h hk hv ek ev e =
+  pub heading-goes-on : {r : ℕ} (after : List ℕ) → i < n → Offsets i at (getD l i blank) out after r → Heading out₀ n l after r (i + 1)
+  heading-goes-on {r} after h o =
       record {
         inside = omega arith;
         low = c .low;
         four = c .four;
         room = c .room;
-        size = ap length e ∙ length-sets out (1 + 4 * i) (at ∷ (k ∷ ((at + k) ∷ (v ∷ [])))) ∙ c .size;
-        far = omega (arith, c .far);
+        size = ap length (o .is) ∙ length-sets out (1 + 4 * i) four ∙ c .size;
+        far = omega (arith, c .far, o .next, o .key, o .value);
         rest = c .rest ∙ more;
       }
     where
+      k : ℕ
+      k = length (keyBytes (getD l i blank .key))
+
+      v : ℕ
+      v = length (valueBytes (getD l i blank .value))
+
+      four : List ℕ
+      four = at ∷ (k ∷ ((at + k) ∷ (v ∷ [])))
+
       tail : List ℕ
       tail = header (at + k + v) (drop (i + 1) (entriesIn n l))
 
-      first : header at (drop i (entriesIn n l)) ≡ (at ∷ (k ∷ ((at + k) ∷ (v ∷ [])))) ++ tail
-      first = unfold header entryIn in rw (next-entry n l i h (omega (arith, c .low, c .four)), ← ek, ← ev)
+      first : header at (drop i (entriesIn n l)) ≡ four ++ tail
+      first = unfold header entryIn in rw (next-entry n l i h (omega (arith, c .low, c .four)))
 
-      more : sets out (1 + 4 * i) (header at (drop i (entriesIn n l))) ≡ sets after (1 + 4 * (i + 1)) (header (at + k + v) (drop (i + 1) (entriesIn n l)))
+      more : sets out (1 + 4 * i) (header at (drop i (entriesIn n l))) ≡ sets after (1 + 4 * (i + 1)) (header r (drop (i + 1) (entriesIn n l)))
       more =
           let p : 1 + 4 * i + 4 ≡ 1 + 4 * (i + 1) = omega arith in
-          ap (sets out (1 + 4 * i)) first
-          ∙ sets-append out (1 + 4 * i) (at ∷ (k ∷ ((at + k) ∷ (v ∷ [])))) tail
-          ∙ rw (p, ← e)
+          ap (sets out (1 + 4 * i)) first ∙ sets-append out (1 + 4 * i) four tail ∙ rw (p, ← o .is, o .next)
 
   pub heading-ends : n ≤ i → out ≡ sets out₀ 1 (header (1 + 4 * n) (entriesIn n l))
   unfolding header
@@ -110,16 +120,16 @@ pub bodying-starts : (out : List ℕ) (n : ℕ) (l : List Slot) → n ≤ 4 → 
 bodying-starts out n l h f r = record { inside = omega arith; low = h; four = f; room = r; size = refl; far = omega arith; ahead = refl; rest = refl }
 
 module _ {out₀ : List ℕ} {n : ℕ} {l : List Slot} {out : List ℕ} {at i : ℕ} (c : Bodying out₀ n l out at i) where
-  pub bodying-goes-on : {k v : ℕ} (mid after : List ℕ) → i < n → k ≤ 8 → v ≤ 16 → k ≡ length (keyBytes (getD l i blank .key)) → v ≡ length (valueBytes (getD l i blank .value)) → mid ≡ sets out at (keyBytes (getD l i blank .key)) → after ≡ sets mid (at + k) (valueBytes (getD l i blank .value)) → Bodying out₀ n l after (at + k + v) (i + 1)
-  bodying-goes-on {k} {v} mid after h hk hv ek ev e f =
+  pub bodying-goes-on : {r : ℕ} (after : List ℕ) → i < n → Entered at (getD l i blank) out after r → Bodying out₀ n l after r (i + 1)
+  bodying-goes-on {r} after h o =
       record {
         inside = omega arith;
         low = c .low;
         four = c .four;
         room = c .room;
-        size = ap length f ∙ length-sets mid (at + k) value ∙ ap length e ∙ length-sets out at key ∙ c .size;
-        far = omega (arith, c .far);
-        ahead = omega (arith, c .ahead, longer);
+        size = ap length (o .is) ∙ length-sets out at (key ++ value) ∙ c .size;
+        far = omega (arith, c .far, o .next, o .key, o .value);
+        ahead = omega (arith, c .ahead, longer, both, o .next);
         rest = c .rest ∙ more;
       }
     where
@@ -132,18 +142,19 @@ module _ {out₀ : List ℕ} {n : ℕ} {l : List Slot} {out : List ℕ} {at i : 
       tail : List ℕ
       tail = body (drop (i + 1) (entriesIn n l))
 
-      first : body (drop i (entriesIn n l)) ≡ key ++ (value ++ tail)
-      first = unfold body entryIn in rw (next-entry n l i h (omega (arith, c .low, c .four)))
+      first : body (drop i (entriesIn n l)) ≡ (key ++ value) ++ tail
+      first = unfold body entryIn in rw (next-entry n l i h (omega (arith, c .low, c .four))) (sym (append-assoc key value tail))
 
-      longer : length (body (drop i (entriesIn n l))) ≡ k + v + length tail
-      longer = rw (first, length-append key (value ++ tail), length-append value tail, ← ek, ← ev) (omega arith)
+      both : length (key ++ value) ≡ length key + length value
+      both = length-append key value
 
-      more : sets out at (body (drop i (entriesIn n l))) ≡ sets after (at + k + v) tail
+      longer : length (body (drop i (entriesIn n l))) ≡ length (key ++ value) + length tail
+      longer = ap length first ∙ length-append (key ++ value) tail
+
+      more : sets out at (body (drop i (entriesIn n l))) ≡ sets after r tail
       more =
-          ap (sets out at) first
-          ∙ sets-append out at key (value ++ tail)
-          ∙ rw (← e, ← ek)
-          (sets-append mid (at + k) value tail ∙ rw (← f, ← ev))
+          let e : at + length (key ++ value) ≡ r = omega (arith, both, o .next) in
+          ap (sets out at) first ∙ sets-append out at (key ++ value) tail ∙ rw (← o .is, e)
 
   pub bodying-ends : n ≤ i → Bodied (entriesIn n l) out₀ out at
   unfolding body

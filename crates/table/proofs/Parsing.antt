@@ -1,6 +1,6 @@
 -- Bucket bytes decoded entry by entry.
-use mathlib.Core.Path.{_≡_, refl, sym, ap, _∙_}
-use mathlib.Core.List.{List, [], _∷_, _++_, map, map-append, append-nil, append-assoc}
+use mathlib.Core.Path.{_≡_, sym, ap, _∙_}
+use mathlib.Core.List.{List, [], _∷_, _++_, map, map-append, append-nil}
 use Prim.Native.Nat.{ℕ, suc, _≤_, _<_, _+_, _-_, _*_, min}
 use native.Mathlib.Omega.{arith}
 use native.Mathlib.Numerals.{add-one}
@@ -9,10 +9,10 @@ use lib.Seq.{take-suc-set, getD-drop, drop-drop, take-all, append-snoc}
 use Rattle.entries.specs.declared.Slot.{Slot}
 use Rattle.entries.specs.declared.Key.{Key}
 use Rattle.entries.specs.declared.Value.{Value}
-use Rattle.entries.specs.Entries.{Entry, entry}
+use Rattle.entries.specs.Entries.{entry}
 use Rattle.entries.specs.Decoded.{keyBytes, valueBytes, entryIn, tableIn}
 use Rattle.entries.proofs.Shifts.{map-take}
-use Rattle.table.specs.Form.{maxKey, entriesOf, tableOf}
+use Rattle.table.specs.Form.{entriesOf, tableOf}
 
 -- the first i of n entries are in the slots, and the rest is to be read from `at` on
 pub record Decoding (b : List ℕ) (n : ℕ) (l : List Slot) (at i : ℕ) : Type 0 where

@@ -101,12 +101,16 @@ pub read-unfit : (most long : ℕ) (b : List ℕ) → fits most long (tableOf mo
 unfolding readBucket
 read-unfit most long b f = rw (readBucket, f)
 
--- the form of a table that fits is read as that table
-pub reads-back : (most long : ℕ) (t : List Entry) → fits most long t ≡ true → readBucket most long (bucketBytes most long t) ≡ some t
+-- the form of a table that fits stands for that table, and is read as it
+pub table-of-form : (most long : ℕ) (t : List Entry) → fits most long t ≡ true → tableOf most long (bucketBytes most long t) ≡ t
 unfolding bucketBytes
-reads-back most long t h =
+table-of-form most long t h =
     let f = fits-parts most long t h in
-    let e = table-back most long t (replicate (bucketSize most long - length (packed t)) 0) (f .few) (sized-capped long t (f .sizes)) in
+    table-back most long t (replicate (bucketSize most long - length (packed t)) 0) (f .few) (sized-capped long t (f .sizes))
+
+pub reads-back : (most long : ℕ) (t : List Entry) → fits most long t ≡ true → readBucket most long (bucketBytes most long t) ≡ some t
+reads-back most long t h =
+    let e = table-of-form most long t h in
     read-taken most long (bucketBytes most long t) (ap (fits most long) e ∙ h) (ap (bucketBytes most long) (sym e)) ∙ ap some e
 
 -- bytes that are read are the form of the table that is read, and it fits: a table has one form, and no other bytes are taken

@@ -1,2 +1,3 @@
+-- The bucket form, and what its writer leaves.
 pub mod Form
 pub mod Steps

@@ -12,6 +12,7 @@ ghost use Rattle.entries.specs.Entries.{entry};
 ghost use Rattle.entries.specs.Decoded.{entryIn, tableIn};
 ghost use Rattle.table.specs.Form.{tableOf};
 
+// A byte as a number to count with.
 fn wide(x: u8) -> usize
     ensures { λ r. ⌜ r ≡ x ⌝ }
 {

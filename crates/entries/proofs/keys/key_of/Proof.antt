@@ -1,6 +1,5 @@
 -- `keys::key_of` meets its contract: a copy of at most eight bytes.
 use Rattle.entries.specs.Decoded.{keyBytes}
-use native.Mathlib.Omega.{arith}
 use borrow.Author.Needs.{needs}
 use Prim.Native.Nat.{_-_}
 use Rattle.entries.proofs.Lists.{Copying, copying-starts, copying-goes-on, copying-ends}

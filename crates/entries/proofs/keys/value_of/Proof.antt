@@ -1,5 +1,4 @@
 -- `keys::value_of` meets its contract: a copy of at most sixteen bytes.
-use native.Mathlib.Omega.{arith}
 use borrow.Author.Needs.{needs}
 use Prim.Native.Nat.{_-_}
 use Rattle.entries.specs.Decoded.{valueBytes}

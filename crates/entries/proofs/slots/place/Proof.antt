@@ -1,11 +1,10 @@
 -- `slots::place` meets its contract: the keys passed stand before k.
 use Prim.Native.Nat.{_-_}
-use Rattle.entries.specs.Places.{Placed}
-use Rattle.entries.specs.Decoded.{keyBytes, tableIn}
-use mathlib.Core.Path.{_≡_, sym, _∙_}
+use Rattle.entries.specs.Decoded.{keyBytes}
+use mathlib.Core.Path.{sym, _∙_}
 use Rattle.entries.proofs.Placing.{Placing, placing-starts, placing-before, placing-same, placing-goes-on, placing-ends}
 use borrow.Author.Needs.{needs}
-use Rattle.entries.proofs.Views.{entriesIn, table-whole}
+use Rattle.entries.proofs.Views.{table-whole}
 use Rattle.entries.proofs.slots.place.Statement.{statement}
 use Rattle.entries.proofs.slots.place.Tie as tie
 

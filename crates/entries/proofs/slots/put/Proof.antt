@@ -1,5 +1,5 @@
 -- `slots::put` meets its contract: the key's slot is replaced, or a new one is put in at its place.
-use Rattle.entries.specs.Decoded.{keyBytes, valueBytes, entryIn}
+use Rattle.entries.specs.Decoded.{valueBytes, entryIn}
 use mathlib.Core.Path.{refl}
 use native.Mathlib.Omega.{arith}
 use Rattle.entries.proofs.Edits.{held-below, place-within, storing-replaced, storing-inserted, storing-full}

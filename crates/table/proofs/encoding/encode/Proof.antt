@@ -1,7 +1,7 @@
 -- `encoding::encode` meets its contract: the count, the header, the body, the zeros.
 use lib.ListN.{set, length-set}
 use Rattle.table.proofs.Filling.{written}
-use mathlib.Core.Path.{_≡_, sym, ap, _∙_}
+use mathlib.Core.Path.{ap, _∙_}
 use native.Mathlib.Omega.{arith}
 use borrow.Author.Needs.{needs}
 use Rattle.entries.specs.Decoded.{tableIn}

@@ -1,8 +1,9 @@
 -- `encoding::put_body` meets its contract: entry by entry.
+use borrow.Author.Needs.{needs}
 use Prim.Native.Nat.{_-_}
 use Rattle.table.proofs.Filling.{Bodying, bodying-starts, bodying-goes-on, bodying-ends}
-use borrow.Author.Needs.{needs}
 use Rattle.entries.proofs.Views.{table-whole}
+use native.Mathlib.Omega.{arith}
 use Rattle.table.proofs.encoding.put_body.Statement.{statement}
 use Rattle.table.proofs.encoding.put_body.Tie as tie
 
@@ -30,26 +31,8 @@ mul-s c = search needs
 array-copy-out-s : tie.Need-array-copy-out-s Inv-loop μ-loop
 array-copy-out-s c = search needs
 
-key-length-requires : tie.Need-key-length-requires Inv-loop μ-loop
-key-length-requires c κs = search needs
-
-value-length-requires : tie.Need-value-length-requires Inv-loop μ-loop
-value-length-requires c κs = search needs
-
-put-key-requires : tie.Need-put-key-requires Inv-loop μ-loop
-put-key-requires c κs = search needs
-
-add-put-value : tie.Need-add-put-value Inv-loop μ-loop
-add-put-value c = search needs
-
-put-value-requires : tie.Need-put-value-requires Inv-loop μ-loop
-put-value-requires c κs = search needs
-
-add-at-2 : tie.Need-add-at-2 Inv-loop μ-loop
-add-at-2 c = search needs
-
-add-at-3 : tie.Need-add-at-3 Inv-loop μ-loop
-add-at-3 c = search needs
+put-entry-requires : tie.Need-put-entry-requires Inv-loop μ-loop
+put-entry-requires c κs = omega arith
 
 add-i : tie.Need-add-i Inv-loop μ-loop
 add-i c = search needs
@@ -58,11 +41,7 @@ loop-less : tie.Need-loop-less Inv-loop μ-loop
 loop-less c = search needs
 
 loop-again : tie.Need-loop-again Inv-loop μ-loop
-loop-again c =
-    let k = c .before .before .before .before .before .before .before .before .before .key-length .ensures in
-    let v = c .before .before .before .before .before .before .before .before .value-length .ensures in
-    bodying-goes-on (c .before .before .before .before .before .before .before .before .before .before .before .before .before .before .loop .inv) (c .before .before .before .before .before .before .put-key .last .0) (c .before .before .put-value .last .0) (c .before .before .before .before .before .before .before .before .before .before .before .before .before .loop-test .taken) (k .low) (v .low) (k .is) (v .is)
-    (c .before .before .before .before .before .before .put-key .ensures) (c .before .before .put-value .ensures)
+loop-again c = bodying-goes-on (c .before .before .before .before .before .before .loop .inv) (c .before .before .put-entry .last .0) (c .before .before .before .before .before .loop-test .taken) (c .before .before .put-entry .ensures)
 
 same-length : tie.Need-same-length Inv-loop μ-loop
 same-length c = search needs
@@ -82,13 +61,7 @@ put-body-spec =
     loop-holds
     mul-s
     array-copy-out-s
-    key-length-requires
-    value-length-requires
-    put-key-requires
-    add-put-value
-    put-value-requires
-    add-at-2
-    add-at-3
+    put-entry-requires
     add-i
     loop-less
     loop-again

@@ -1,11 +1,9 @@
 -- `encoding::put_header` meets its contract: entry by entry.
 use borrow.Author.Needs.{needs}
-use Rattle.table.specs.Form.{header}
-use Rattle.table.proofs.Filling.{Heading, heading-starts, heading-goes-on, heading-ends}
-use lib.Seq.{sets}
-use Prim.Native.Nat.{_-_, _+_, _*_}
-use mathlib.Core.Path.{_≡_, sym, ap, _∙_}
+use Prim.Native.Nat.{_-_}
 use Rattle.entries.proofs.Views.{table-whole}
+use Rattle.table.proofs.Filling.{Heading, heading-starts, heading-goes-on, heading-ends}
+use native.Mathlib.Omega.{arith}
 use Rattle.table.proofs.encoding.put_header.Statement.{statement}
 use Rattle.table.proofs.encoding.put_header.Tie as tie
 
@@ -33,38 +31,8 @@ mul-s c = search needs
 array-copy-out-s : tie.Need-array-copy-out-s Inv-loop μ-loop
 array-copy-out-s c = search needs
 
-key-length-requires : tie.Need-key-length-requires Inv-loop μ-loop
-key-length-requires c κs = search needs
-
-value-length-requires : tie.Need-value-length-requires Inv-loop μ-loop
-value-length-requires c κs = search needs
-
-add-mid : tie.Need-add-mid Inv-loop μ-loop
-add-mid c = search needs
-
-mul-put-four : tie.Need-mul-put-four Inv-loop μ-loop
-mul-put-four c = search needs
-
-add-put-four : tie.Need-add-put-four Inv-loop μ-loop
-add-put-four c = search needs
-
-cast-put-four : tie.Need-cast-put-four Inv-loop μ-loop
-cast-put-four c = search needs
-
-cast-put-four-2 : tie.Need-cast-put-four-2 Inv-loop μ-loop
-cast-put-four-2 c = search needs
-
-cast-put-four-3 : tie.Need-cast-put-four-3 Inv-loop μ-loop
-cast-put-four-3 c = search needs
-
-cast-put-four-4 : tie.Need-cast-put-four-4 Inv-loop μ-loop
-cast-put-four-4 c = search needs
-
-put-four-requires : tie.Need-put-four-requires Inv-loop μ-loop
-put-four-requires c κs = search needs
-
-add-at-2 : tie.Need-add-at-2 Inv-loop μ-loop
-add-at-2 c = search needs
+put-offsets-requires : tie.Need-put-offsets-requires Inv-loop μ-loop
+put-offsets-requires c κs = omega arith
 
 add-i : tie.Need-add-i Inv-loop μ-loop
 add-i c = search needs
@@ -73,10 +41,7 @@ loop-less : tie.Need-loop-less Inv-loop μ-loop
 loop-less c = search needs
 
 loop-again : tie.Need-loop-again Inv-loop μ-loop
-loop-again c =
-    let k = c .before .before .before .before .before .key-length .ensures in
-    let v = c .before .before .before .before .value-length .ensures in
-    heading-goes-on (c .before .before .before .before .before .before .before .before .before .before .loop .inv) (c .before .before .put-four .last .0) (c .before .before .before .before .before .before .before .before .before .loop-test .taken) (k .low) (v .low) (k .is) (v .is) (c .before .before .put-four .ensures)
+loop-again c = heading-goes-on (c .before .before .before .before .before .before .loop .inv) (c .before .before .put-offsets .last .0) (c .before .before .before .before .before .loop-test .taken) (c .before .before .put-offsets .ensures)
 
 same-length : tie.Need-same-length Inv-loop μ-loop
 same-length c = search needs
@@ -98,17 +63,7 @@ put-header-spec =
     loop-holds
     mul-s
     array-copy-out-s
-    key-length-requires
-    value-length-requires
-    add-mid
-    mul-put-four
-    add-put-four
-    cast-put-four
-    cast-put-four-2
-    cast-put-four-3
-    cast-put-four-4
-    put-four-requires
-    add-at-2
+    put-offsets-requires
     add-i
     loop-less
     loop-again

@@ -1,0 +1,47 @@
+-- `bucket_keys` meets its contract.
+use borrow.Author.Needs.{needs}
+use Rattle.bucket_c.proofs.Exporting.{keys-refused, keys-short, keys-done}
+use Rattle.bucket.specs.Answers.{outcomeNumber, keysIn}
+use Rattle.bucket_c.proofs.bucket_keys.Statement.{statement}
+use Rattle.bucket_c.proofs.bucket_keys.Tie as tie
+
+list-keys-requires : tie.Need-list-keys-requires
+list-keys-requires c κs = search needs
+
+enum-told : tie.Need-enum-told
+enum-told c = search needs
+
+returns : tie.Need-returns
+unfolding outcomeNumber
+returns c = keys-short _ _ _ (rw (c .before .enum-told .given .1) at (c .before .before .before .list-keys .ensures)) (c .if1 .taken)
+
+put-keys-requires : tie.Need-put-keys-requires
+put-keys-requires c κs = search needs
+
+enum-told-2 : tie.Need-enum-told-2
+enum-told-2 c = search needs
+
+same-length : tie.Need-same-length
+same-length c = search needs
+
+returns-2 : tie.Need-returns-2
+unfolding outcomeNumber keysIn
+returns-2 c =
+    keys-done _ _ _ _ _ (rw (c .before .before .before .before .before .enum-told .given .1) at (c .before .before .before .before .before .before .before .list-keys .ensures)) (c .before .before .before .before .if1 .left) (c .before .before .put-keys .ensures)
+
+returns-3 : tie.Need-returns-3
+unfolding outcomeNumber
+returns-3 c = keys-refused _ _ _ (rw (c .enum-told2 .given .1) at (c .before .before .list-keys .ensures))
+
+pub bucket-keys-spec : {M : Type 1} → statement M
+bucket-keys-spec =
+    tie.close
+    (tie.spec
+    list-keys-requires
+    enum-told
+    returns
+    put-keys-requires
+    enum-told-2
+    same-length
+    returns-2
+    returns-3)

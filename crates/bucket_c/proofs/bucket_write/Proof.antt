@@ -1,0 +1,24 @@
+-- `bucket_write` meets its contract: the answer's number.
+use borrow.Author.Needs.{needs}
+use Rattle.bucket_c.proofs.bucket_write.Statement.{statement}
+use Rattle.bucket_c.proofs.bucket_write.Tie as tie
+
+table-from-requires : tie.Need-table-from-requires
+table-from-requires c κs = search needs
+
+write-requires : tie.Need-write-requires
+write-requires c κs = search needs
+
+written-number-requires : tie.Need-written-number-requires
+written-number-requires c κs = search needs
+
+same-length : tie.Need-same-length
+same-length c = search needs
+
+returns : tie.Need-returns
+returns c = rw (c .written-number .ensures, ← c .before .before .before .before .before .table-from .ensures) (c .before .before .before .write .ensures)
+
+pub bucket-write-spec : {M : Type 1} → statement M
+bucket-write-spec =
+    tie.close
+    (tie.spec table-from-requires write-requires written-number-requires same-length returns)

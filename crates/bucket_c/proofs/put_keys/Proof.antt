@@ -1,0 +1,93 @@
+-- `put_keys` meets its contract: key by key.
+use native.Mathlib.Omega.{arith}
+use Prim.Native.Nat.{_-_}
+use borrow.Author.Needs.{needs}
+use Rattle.bucket_c.proofs.Exporting.{KeysPutting, listing-whole, keys-starts, keys-goes-on, keys-ends}
+use lib.ListN.{length-map, length-set}
+use Rattle.bucket_c.proofs.put_keys.Statement.{statement}
+use Rattle.bucket_c.proofs.put_keys.Tie as tie
+
+abbrev Inv-loop : tie.InvT-loop
+Inv-loop out₀ n keys at₀ i₀ out at i = KeysPutting out₀ n keys out at i
+
+abbrev μ-loop : tie.MeasureT-loop
+μ-loop out₀ n keys at₀ i₀ out at i = n - i
+
+at-most-requires : tie.Need-at-most-requires Inv-loop μ-loop
+at-most-requires c κs = search needs
+
+loop-holds : tie.Need-loop-holds Inv-loop μ-loop
+loop-holds c = keys-starts _ _ _ (search needs) (simp length-map at (c .before .before .before .good .1 .0 .1 .1 .1 .1 .0 .1 .0 .1)) (c .before .before .before .pre)
+
+mul-k : tie.Need-mul-k Inv-loop μ-loop
+mul-k c = search needs
+
+array-copy-out-k : tie.Need-array-copy-out-k Inv-loop μ-loop
+array-copy-out-k c = search needs
+
+key-length-requires : tie.Need-key-length-requires Inv-loop μ-loop
+key-length-requires c κs = search needs
+
+cast-out : tie.Need-cast-out Inv-loop μ-loop
+cast-out c = search needs
+
+slice-write-out : tie.Need-slice-write-out Inv-loop μ-loop
+slice-write-out c = search needs
+
+add-put-key : tie.Need-add-put-key Inv-loop μ-loop
+add-put-key c = search needs
+
+put-key-requires : tie.Need-put-key-requires Inv-loop μ-loop
+put-key-requires c κs = simp length-set (omega (arith, c .before .key-length .ensures .is, c .before .key-length .ensures .low))
+
+add-at : tie.Need-add-at Inv-loop μ-loop
+add-at c = search needs
+
+add-at-2 : tie.Need-add-at-2 Inv-loop μ-loop
+add-at-2 c = search needs
+
+add-i : tie.Need-add-i Inv-loop μ-loop
+add-i c = search needs
+
+loop-less : tie.Need-loop-less Inv-loop μ-loop
+loop-less c = search needs
+
+loop-again : tie.Need-loop-again Inv-loop μ-loop
+loop-again c =
+    let k = c .before .before .before .before .key-length .ensures in
+    keys-goes-on (c .before .before .before .before .before .before .before .loop .inv) (c .before .before .put-key .last .0) (c .before .before .before .before .before .before .loop-test .taken) (k .low) (k .is) (c .before .before .put-key .ensures)
+
+cast-result : tie.Need-cast-result Inv-loop μ-loop
+cast-result c = search needs
+
+same-length : tie.Need-same-length Inv-loop μ-loop
+same-length c = search needs
+
+returns : tie.Need-returns Inv-loop μ-loop
+returns c =
+    rw (listing-whole (c .before .before .before .before .before .args .l) (c .before .loop .inv .four) (c .before .before .before .at-most .result) (c .before .before .before .at-most .ensures)) at
+    (keys-ends (c .before .loop .inv) (c .loop-test .left))
+
+pub put-keys-spec : {M : Type 1} → statement M
+put-keys-spec =
+    tie.close
+    (tie.spec
+    Inv-loop
+    μ-loop
+    at-most-requires
+    loop-holds
+    mul-k
+    array-copy-out-k
+    key-length-requires
+    cast-out
+    slice-write-out
+    add-put-key
+    put-key-requires
+    add-at
+    add-at-2
+    add-i
+    loop-less
+    loop-again
+    cast-result
+    same-length
+    returns)

@@ -1,0 +1,75 @@
+-- What the exported calls say, over the definitions of the calls on lent bytes.
+use mathlib.Core.Path.{_≡_}
+use mathlib.Core.List.{List, [], _∷_, _++_}
+use mathlib.Core.Bool.{true, false}
+use mathlib.Core.Option.{none, some}
+use Prim.Native.Nat.{ℕ, zero, suc, _+_, _*_}
+use lib.Dec.{leb}
+use lib.ListN.{length, getD, drop}
+use Rattle.entries.specs.declared.Key.{Key}
+use Rattle.entries.specs.declared.Value.{Value}
+use Rattle.entries.specs.declared.Slot.{Slot}
+use Rattle.entries.specs.declared.Decoded.{Decoded}
+use Rattle.entries.specs.Entries.{valueOf, keysOf}
+use Rattle.table.specs.Form.{readBucket}
+use Rattle.bucket.specs.Answers.{Answer, answer}
+
+-- ---- a table in two slices
+
+-- n bytes from `at` on, zeros where there are none
+unfoldable pub window : ℕ → ℕ → List ℕ → List ℕ
+window zero at l = []
+window (suc n) at l = getD l at 0 ∷ window n (suc at) l
+
+abbrev pub keyFrom : List ℕ → ℕ → ℕ → Key
+keyFrom l at n = record { bytes = window 8 at l; len = n }
+
+abbrev pub valueFrom : List ℕ → ℕ → ℕ → Value
+valueFrom l at n = record { bytes = window 16 at l; len = n }
+
+-- entry i: its lengths at 2i and 2i + 1, its key at 24i and its value at 24i + 8
+abbrev pub slotFrom : List ℕ → List ℕ → ℕ → Slot
+slotFrom h l i = record { key = keyFrom l (24 * i) (getD h (2 * i) 0); value = valueFrom l (24 * i + 8) (getD h (2 * i + 1) 0) }
+
+unfoldable pub tableFrom : ℕ → List ℕ → List ℕ → Decoded
+tableFrom n h l = record { count = n; slots = slotFrom h l 0 ∷ (slotFrom h l 1 ∷ (slotFrom h l 2 ∷ (slotFrom h l 3 ∷ []))) }
+
+-- ---- a value, written out
+
+-- the value's length and the value before what stood behind it; 113 where the bucket is refused, 115 where there is no room
+unfoldable pub getOf : List ℕ → List ℕ → List ℕ → Answer
+getOf b k out =
+    elim (readBucket 4 16 b) [
+      | none ↦ answer 113 out
+      | some t ↦
+          elim (leb (length (valueOf k t)) (length out)) [
+            | false ↦ answer 115 out
+            | true ↦
+                answer (length (valueOf k t)) (valueOf k t ++ drop (length (valueOf k t)) out)
+          ]
+    ]
+
+-- ---- the keys, written out
+
+-- each key behind its length
+unfoldable pub keysBytes : List (List ℕ) → List ℕ
+keysBytes [] = []
+keysBytes (k ∷ l) = length k ∷ (k ++ keysBytes l)
+
+-- the keys before what stood behind them, and how many they are; four keys of eight bytes take 36
+unfoldable pub keysOut : List ℕ → List ℕ → Answer
+keysOut b out =
+    elim (readBucket 4 16 b) [
+      | none ↦ answer 113 out
+      | some t ↦
+          elim (leb 36 (length out)) [
+            | false ↦ answer 115 out
+            | true ↦
+                answer (length t) (keysBytes (keysOf t) ++ drop (length (keysBytes (keysOf t))) out)
+          ]
+    ]
+
+-- what the pass over the keys leaves
+pub record KeysPut (k : List (List ℕ)) (before after : List ℕ) (r : ℕ) : Type 0 where
+  pub is : after ≡ keysBytes k ++ drop (length (keysBytes k)) before
+  pub number : r ≡ length k

@@ -1,0 +1,224 @@
+// The calls on bucket bytes for programs in other languages: numbers and slices only.
+use bucket::Change;
+use bucket::Listing;
+use bucket::Outcome;
+use bucket::Written;
+use bucket::list_keys;
+use bucket::look_up;
+use bucket::put;
+use bucket::read;
+use bucket::remove;
+use bucket::write;
+use entries::Decoded;
+use entries::Key;
+use entries::Slot;
+use entries::Value;
+use entries::keys::at_most;
+use entries::keys::key_length;
+use entries::keys::value_length;
+use table::encoding::put_key;
+use table::encoding::put_value;
+ghost use mathlib.Core.Path.{_≡_};
+ghost use Prim.Native.Nat.{_≤_, _<_, _+_, _*_};
+ghost use lib.ListN.{length, getD};
+ghost use Rattle.entries.specs.Decoded.{keyBytes, valueBytes};
+ghost use Rattle.bucket.specs.Answers.{answer, outcomeNumber, writtenNumber, changeNumber, readNumber, writeOf, putOf, removeOf, keysIn};
+ghost use Rattle.bucket_c.specs.Exports.{keyFrom, valueFrom, slotFrom, tableFrom, getOf, KeysPut, keysOut};
+
+// The numbers of the answers.
+fn outcome_number(o: Outcome) -> u32
+    ensures { λ r. ⌜ r ≡ outcomeNumber o ⌝ }
+{
+    match o {
+        Outcome::Accepted => 0,
+        Outcome::Malformed => 13,
+    }
+}
+
+fn written_number(w: Written) -> u32
+    ensures { λ r. ⌜ r ≡ writtenNumber w ⌝ }
+{
+    match w {
+        Written::Accepted => 0,
+        Written::Malformed => 13,
+        Written::Short => 15,
+    }
+}
+
+fn change_number(c: Change) -> u32
+    ensures { λ r. ⌜ r ≡ changeNumber c ⌝ }
+{
+    match c {
+        Change::Done => 0,
+        Change::Full => 16,
+        Change::Malformed => 13,
+    }
+}
+
+// 0 where the bytes are a bucket, 13 else.
+#[no_mangle]
+pub extern "C" fn bucket_read(bucket: &[u8]) -> u32
+    ensures { λ r. ⌜ r ≡ readNumber (now (bucket .entry)) ⌝ }
+{
+    let r = read(bucket);
+    let o = r.outcome;
+    outcome_number(o)
+}
+
+// The byte at i, 0 where there is none.
+fn byte_at(s: &[u8], i: usize) -> u8
+    ensures { λ r. ⌜ r ≡ getD (now (s .entry)) i 0 ⌝ }
+{
+    if i < s.len() {
+        return s[i];
+    }
+    0
+}
+
+// A byte as a number to count with.
+fn wide(x: u8) -> usize
+    ensures { λ r. ⌜ r ≡ x ⌝ }
+{
+    x as usize
+}
+
+// Eight bytes from `at` on, with a length that may be any.
+fn key_from(s: &[u8], at: usize, len: usize) -> Key
+    requires { ⌜ at ≤ 96 ⌝ }
+    ensures { λ r. ⌜ r ≡ keyFrom (now (s .entry)) at len ⌝ }
+{
+    let mut b = [0u8; 8];
+    let mut i = 0;
+    while i < 8 {
+        b[i] = byte_at(s, at + i);
+        i += 1;
+    }
+    Key { bytes: b, len }
+}
+
+// Sixteen bytes from `at` on, with a length that may be any.
+fn value_from(s: &[u8], at: usize, len: usize) -> Value
+    requires { ⌜ at ≤ 96 ⌝ }
+    ensures { λ r. ⌜ r ≡ valueFrom (now (s .entry)) at len ⌝ }
+{
+    let mut b = [0u8; 16];
+    let mut i = 0;
+    while i < 16 {
+        b[i] = byte_at(s, at + i);
+        i += 1;
+    }
+    Value { bytes: b, len }
+}
+
+// Entry i of two slices.
+fn slot_from(lengths: &[u8], bytes: &[u8], i: usize) -> Slot
+    requires { ⌜ i < 4 ⌝ }
+    ensures { λ r. ⌜ r ≡ slotFrom (now (lengths .entry)) (now (bytes .entry)) i ⌝ }
+{
+    let k = wide(byte_at(lengths, 2 * i));
+    let v = wide(byte_at(lengths, 2 * i + 1));
+    let key = key_from(bytes, 24 * i, k);
+    let value = value_from(bytes, 24 * i + 8, v);
+    Slot { key, value }
+}
+
+// The table of two slices, whatever its count.
+fn table_from(count: usize, lengths: &[u8], bytes: &[u8]) -> Decoded
+    ensures { λ r. ⌜ r ≡ tableFrom count (now (lengths .entry)) (now (bytes .entry)) ⌝ }
+{
+    let a = slot_from(lengths, bytes, 0);
+    let b = slot_from(lengths, bytes, 1);
+    let c = slot_from(lengths, bytes, 2);
+    let d = slot_from(lengths, bytes, 3);
+    let slots = [a, b, c, d];
+    Decoded { count, slots }
+}
+
+// The form of a table of `count` entries. Entry i has its key's length at 2i of `lengths` and its value's at 2i + 1, its key
+// at 24i of `bytes` and its value at 24i + 8; missing bytes are 0.
+#[no_mangle]
+pub extern "C" fn bucket_write(count: usize, lengths: &[u8], bytes: &[u8], out: &mut [u8]) -> u32
+    ensures { λ r. ⌜ answer r (now (out .exit)) ≡ writeOf (tableFrom count (now (lengths .entry)) (now (bytes .entry))) (now (out .entry)) ⌝ }
+{
+    let t = table_from(count, lengths, bytes);
+    let w = write(t, out);
+    written_number(w)
+}
+
+// The value of a key, written to `out`: its length, 113 where the bucket is refused, 115 where `out` is too short.
+#[no_mangle]
+pub extern "C" fn bucket_get(bucket: &[u8], key: &[u8], out: &mut [u8]) -> u32
+    ensures { λ r. ⌜ answer r (now (out .exit)) ≡ getOf (now (bucket .entry)) (now (key .entry)) (now (out .entry)) ⌝ }
+{
+    let f = look_up(bucket, key);
+    let v = f.value;
+    let o = f.outcome;
+    match o {
+        Outcome::Accepted => {
+            let n = value_length(v);
+            if out.len() < n {
+                return 115;
+            }
+            put_value(out, 0, v);
+            n as u32
+        }
+        Outcome::Malformed => 113,
+    }
+}
+
+// A key's new value: 0, or 16 where there is no room, or 13.
+#[no_mangle]
+pub extern "C" fn bucket_put(bucket: &mut [u8], key: &[u8], value: &[u8]) -> u32
+    ensures { λ r. ⌜ answer r (now (bucket .exit)) ≡ putOf (now (bucket .entry)) (now (key .entry)) (now (value .entry)) ⌝ }
+{
+    let c = put(bucket, key, value);
+    change_number(c)
+}
+
+// The bucket without a key: 0 or 13.
+#[no_mangle]
+pub extern "C" fn bucket_remove(bucket: &mut [u8], key: &[u8]) -> u32
+    ensures { λ r. ⌜ answer r (now (bucket .exit)) ≡ removeOf (now (bucket .entry)) (now (key .entry)) ⌝ }
+{
+    let o = remove(bucket, key);
+    outcome_number(o)
+}
+
+// The keys, each behind its length, written to `out`. The answer is how many they are.
+fn put_keys(out: &mut [u8], l: Listing) -> u32
+    requires { ⌜ 36 ≤ length (now out) ⌝ }
+    ensures { λ r. ⌜ KeysPut (keysIn l) (now (out .entry)) (now (out .exit)) r ⌝ }
+{
+    let n = at_most(l.count, 4);
+    let keys = l.keys;
+    let mut at = 0;
+    let mut i = 0;
+    while i < n {
+        let k = keys[i];
+        let m = key_length(k);
+        out[at] = m as u8;
+        put_key(out, at + 1, k);
+        at = at + 1 + m;
+        i += 1;
+    }
+    n as u32
+}
+
+// All keys, rising, each behind its length, written to `out`: how many they are, 113 where the bucket is refused, 115 where
+// `out` has less than the 36 bytes that four keys of eight bytes take.
+#[no_mangle]
+pub extern "C" fn bucket_keys(bucket: &[u8], out: &mut [u8]) -> u32
+    ensures { λ r. ⌜ answer r (now (out .exit)) ≡ keysOut (now (bucket .entry)) (now (out .entry)) ⌝ }
+{
+    let l = list_keys(bucket);
+    let o = l.outcome;
+    match o {
+        Outcome::Accepted => {
+            if out.len() < 36 {
+                return 115;
+            }
+            put_keys(out, l)
+        }
+        Outcome::Malformed => 113,
+    }
+}

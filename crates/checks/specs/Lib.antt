@@ -1,0 +1,2 @@
+-- The tests on decoded tables.
+pub mod Tests
