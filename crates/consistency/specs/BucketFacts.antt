@@ -141,7 +141,7 @@ module _ (n now taken : ℕ) (half : n < 2 * majority n) {log : Log} (ok : LogOk
   own-of m e = let o = ok .writes .origin _ m in own-by (o .holds) (o .makes) e
 
   -- a version holds one table
-  one-table : {k : ℕ} {x : Version} {t u : List Entry} → Claims.Holds log k x t → Claims.Holds log k x u → t ≡ u
+  pub one-table : {k : ℕ} {x : Version} {t u : List Entry} → Claims.Holds log k x t → Claims.Holds log k x u → t ≡ u
   one-table (Claims.Holds.first e f) (Claims.Holds.first i j) = cc
   one-table (Claims.Holds.first e f) (Claims.Holds.later w m i j l) =
       absurd (omega (arith, ok .writes .positive w m, ap (λ v. v .counter) (j ∙ e)))

@@ -86,7 +86,7 @@ ends-of-calls now (some c ∷ l) x (List·Memᴰ·head e) = (0, c, refl, ap (λ 
 ends-of-calls now (some c ∷ l) x (List·Memᴰ·tail m) = let h = ends-of-calls now l x m in (suc (h .0), h .1, h .2, h .3)
 
 -- two calls of one number that are open at p are open on one bucket
-one-bucket : {n now taken : ℕ} {log : Log} → LogOk n now taken log → {p b d : ℕ} {c k : Call} → OpenOk log p b c → OpenOk log p d k → c .number ≡ k .number → b ≡ d
+pub one-bucket : {n now taken : ℕ} {log : Log} → LogOk n now taken log → {p b d : ℕ} {c k : Call} → OpenOk log p b c → OpenOk log p d k → c .number ≡ k .number → b ≡ d
 one-bucket ok x y e = ap (λ z. z .bucket) (ok .calls .begun-once _ _ (x .call .begun) (y .call .begun) e)
 
 end-ok : (n now : ℕ) (log : Log) (c : Call) → (c .sent ≡ false → Unwritten log (c .number)) → EndOk n log (record { number = c .number; result = ended c .result; line = now })

@@ -17,6 +17,9 @@ pub mod Ceasing
 pub mod Replying
 pub mod Voting
 pub mod Storing
+pub mod Onward
+pub mod Reached
+pub mod Once
 pub mod Requests
 pub mod Electing
 pub mod Ready
@@ -35,4 +38,10 @@ pub mod OneBucket
 pub mod BucketMembers
 pub mod BucketFacts
 pub mod BucketOrder
+pub mod PlainAgrees
 pub mod Theorem
+pub mod Agreed
+pub mod Named
+pub mod Faithful
+pub mod Fresh
+pub mod Example

@@ -1,18 +1,21 @@
--- Demand 3: for every script, broken off after any line, each bucket has one order of its calls that one plain table answers as
--- printed. This file is the whole statement, `OneOrder`; its proof is `one-order-for-every-script` in Theorem.antt.
--- A script is any list of lines, and a line any list of bytes. Of the machine it names only `parse`, which reads a line, and
--- `outcomes`, which gives for each line the number it was refused with or the answers it printed.
+-- Demand 3: for every script, broken off after any line, each bucket has one order of its calls that one plain table
+-- answers as printed. This file is the whole statement, `OneOrder`; its proof is `one-order-for-every-script` in
+-- Theorem.antt. A script is any list of lines, and a line any list of bytes. Of the machine it uses `parse`, which reads
+-- a line; `bucketFor`, the bucket of a call; `outcomes` from the state with nothing in it, which gives for each line the
+-- number it was refused with or the answers it printed; and the types of lines, words, results and outcomes. Of its
+-- tables only `Entry`, a key with its value: no function on them.
 use mathlib.Core.Path.{_≡_}
 use mathlib.Core.List.{List, [], _∷_, _++_, map, List·Memᴰ}
-use mathlib.Core.Bool.{true, false}
+use mathlib.Core.Bool.{Bool, true, false, _&&_, _||_}
 use mathlib.Core.Option.{Option, none, some}
 use Prim.Native.Nat.{ℕ, _+_, _<_}
-use lib.Dec.{ltb}
+use lib.Dec.{eqb, ltb}
 use lib.ListN.{length}
-use Rattle.entries.specs.Entries.{Entry, valueOf, holds, put, remove, keysOf}
-use Rattle.table.specs.Form.{sameBytes}
-use Rattle.model.specs.Calls.{Words, get, set, setif, del, keys, bucketFor, Result, value, listed, done, mismatch, full, notdone, unknown}
-use Rattle.model.specs.Lines.{Line, cluster, elect, call, deliver, copy, lose, timeout, stop, Outcome, refusal, printed, nothing}
+use Rattle.entries.specs.Entries.{Entry, entry}
+use Rattle.model.specs.Calls.{Words, get, set, setif, del, keys, bucketFor}
+use Rattle.model.specs.Calls.{Result, value, listed, done, mismatch, full, notdone, unknown}
+use Rattle.model.specs.Lines.{Line, cluster, elect, call, deliver, copy, lose, timeout, stop}
+use Rattle.model.specs.Lines.{Outcome, refusal, printed, nothing}
 use Rattle.model.specs.Parse.{parse}
 use Rattle.model.specs.Run.{outcomes}
 
@@ -20,7 +23,44 @@ infix 4 _∈_
 abbrev pub _∈_ : {A : Type 0} → A → List A → Type 0
 a ∈ l = List·Memᴰ a l
 
--- ---- the plain table (document 01, 'The plain table of demand 3'): keys with their values, rising, at first none
+-- ---- the plain table (document 01, 'The plain table of demand 3'): entries in any order, one for each key, at first none
+
+-- whether two lists have the same bytes
+unfoldable pub same : List ℕ → List ℕ → Bool
+same [] [] = true
+same [] (b ∷ m) = false
+same (a ∷ l) [] = false
+same (a ∷ l) (b ∷ m) = eqb a b && same l m
+
+-- K's value, no bytes where K is absent
+unfoldable pub lookup : List ℕ → List Entry → List ℕ
+lookup k [] = []
+lookup k (e ∷ t) = elim (same k (e .key)) [ true ↦ e .value | false ↦ lookup k t ]
+
+-- whether K stands there
+unfoldable pub stands : List ℕ → List Entry → Bool
+stands k [] = false
+stands k (e ∷ t) = same k (e .key) || stands k t
+
+-- all entries but K's
+unfoldable pub without : List ℕ → List Entry → List Entry
+without k [] = []
+without k (e ∷ t) = elim (same k (e .key)) [ true ↦ without k t | false ↦ e ∷ without k t ]
+
+-- whether one list stands after another: its first byte that differs is greater, or it is an extension
+unfoldable pub after : List ℕ → List ℕ → Bool
+after [] m = false
+after (a ∷ l) [] = true
+after (a ∷ l) (b ∷ m) = ltb b a || (eqb a b && after l m)
+
+-- all keys, rising: each is placed in front of the first that it does not stand after
+unfoldable pub place : List ℕ → List (List ℕ) → List (List ℕ)
+place k [] = k ∷ []
+place k (j ∷ l) = elim (after k j) [ true ↦ j ∷ place k l | false ↦ k ∷ (j ∷ l) ]
+
+unfoldable pub allKeys : List Entry → List (List ℕ)
+allKeys [] = []
+allKeys (e ∷ t) = place (e .key) (allKeys t)
 
 -- what the table holds after a call, and what it answers
 pub record Reply : Type 0 where
@@ -32,19 +72,18 @@ reply t r = record { table = t; result = r }
 
 -- `set K V`: no bytes take K away; K has the value if K stands there or fewer than four keys do; else the table stays
 unfoldable pub plainSet : List ℕ → List ℕ → List Entry → Reply
-plainSet k [] t = reply (remove k t) done
+plainSet k [] t = reply (without k t) done
 plainSet k (b ∷ v) t =
-    elim (holds k t) [
-      | true ↦ reply (put k (b ∷ v) t) done
-      | false ↦
-          elim (ltb (length t) 4) [ true ↦ reply (put k (b ∷ v) t) done | false ↦ reply t full ]
+    elim (stands k t || ltb (length t) 4) [
+      | true ↦ reply (entry k (b ∷ v) ∷ without k t) done
+      | false ↦ reply t full
     ]
 
 unfoldable pub plain : Words → List Entry → Reply
-plain (get k) t = reply t (value (valueOf k t))
-plain (keys b) t = reply t (listed (keysOf t))
+plain (get k) t = reply t (value (lookup k t))
+plain (keys b) t = reply t (listed (allKeys t))
 plain (set k v) t = plainSet k v t
-plain (setif k e v) t = elim (sameBytes (valueOf k t) e) [ true ↦ plainSet k v t | false ↦ reply t mismatch ]
+plain (setif k e v) t = elim (same (lookup k t) e) [ true ↦ plainSet k v t | false ↦ reply t mismatch ]
 plain (del k) t = plainSet k [] t
 
 -- ---- what is read off a script
@@ -79,8 +118,8 @@ meaning (some (lose i)) = other
 meaning (some (timeout s b)) = other
 meaning (some (stop s)) = other
 
--- the accepted calls, numbered from 1 in the order of their lines: `line` is the number of the first line, `count` the calls
--- before it, `b` the buckets of the cluster
+-- the accepted calls, numbered from 1 in the order of their lines: `line` is the number of the first line, `count` the
+-- calls before it, `b` the buckets of the cluster
 unfoldable pub beginsFrom : ℕ → ℕ → ℕ → List (List ℕ) → List Outcome → List Begin
 beginsFrom line count b [] os = []
 beginsFrom line count b (l ∷ ls) [] = []
@@ -88,7 +127,9 @@ beginsFrom line count b (l ∷ ls) (refusal r ∷ os) = beginsFrom (line + 1) co
 beginsFrom line count b (l ∷ ls) (printed out ∷ os) =
     elim (meaning (parse l)) [
       | buckets k ↦ beginsFrom (line + 1) count k ls os
-      | calling w ↦ record { number = count + 1; words = w; bucket = bucketFor b w; line = line } ∷ beginsFrom (line + 1) (count + 1) b ls os
+      | calling w ↦
+          record { number = count + 1; words = w; bucket = bucketFor b w; line = line }
+          ∷ beginsFrom (line + 1) (count + 1) b ls os
       | other ↦ beginsFrom (line + 1) count b ls os
     ]
 
@@ -96,7 +137,9 @@ beginsFrom line count b (l ∷ ls) (printed out ∷ os) =
 unfoldable pub endsFrom : ℕ → List Outcome → List End
 endsFrom line [] = []
 endsFrom line (refusal r ∷ os) = endsFrom (line + 1) os
-endsFrom line (printed out ∷ os) = map (λ a. record { number = a .call; result = a .result; line = line }) out ++ endsFrom (line + 1) os
+endsFrom line (printed out ∷ os) =
+    map (λ a. record { number = a .call; result = a .result; line = line }) out
+    ++ endsFrom (line + 1) os
 
 -- lines are counted from 1
 abbrev pub begins : List (List ℕ) → List Begin
@@ -116,8 +159,9 @@ Distinct (i ∷ l) = (i ∈ l → ⊥) × Distinct l
 abbrev pub Before : ℕ → ℕ → List ℕ → Type 0
 Before i j l = (k : List ℕ) × (m : List ℕ) × (k ++ (i ∷ m) ≡ l) × (j ∈ m)
 
--- a plain table that holds t is fed the calls one after another: each that ended, but as `unknown`, ended with the very result
--- that the table gives; calls that ended as `unknown` or never ended have their effect, and their result is not compared
+-- a plain table that holds t is fed the calls one after another: each that ended, but as `unknown`, ended with the very
+-- result that the table gives; calls that ended as `unknown` or never ended have their effect, and their result is not
+-- compared
 abbrev pub Fed : List Begin → List End → List Entry → List ℕ → Type 0
 Fed bs es t [] = Unit {0}
 Fed bs es t (i ∷ l) =
@@ -133,7 +177,7 @@ pub record OneOrder (bs : List Begin) (es : List End) (b : ℕ) : Type 0 where
   -- no call stands twice; each is a call of that bucket, and none ended as `notdone`
   pub once : Distinct order
   pub calls : (i : ℕ) → i ∈ order → (x : Begin) × (x ∈ bs) × (x .number ≡ i) × (x .bucket ≡ b)
-  pub none-undone : (i : ℕ) → i ∈ order → (y : End) → y ∈ es → y .number ≡ i → y .result ≡ notdone → ⊥
+  pub no-notdone : (i : ℕ) → i ∈ order → (y : End) → y ∈ es → y .number ≡ i → y .result ≡ notdone → ⊥
   -- every call of that bucket that ended with another result than `unknown` and `notdone` stands in it
   pub complete :
       (x : Begin) → x ∈ bs → x .bucket ≡ b → (y : End) → y ∈ es → y .number ≡ x .number →

@@ -17,9 +17,10 @@ use Rattle.history.specs.Members.{_∈_, none-in, each-append}
 use Rattle.limits.specs.Lists.{All, nil, cons, all-at}
 use Rattle.limits.specs.Tally.{message-there}
 use Rattle.limits.specs.Always.{Stands, either-false, server-there, bucket-less}
-use Rattle.consistency.specs.Log.{Begun, Ended, Log, _⊆_}
+use Rattle.consistency.specs.Statement.{Distinct}
+use Rattle.consistency.specs.Log.{Begun, Ended, Log, Grows, _⊆_}
 use Rattle.consistency.specs.Invariant.{ServerOk}
-use Rattle.consistency.specs.Growth.{adds-refl}
+use Rattle.consistency.specs.Growth.{grows-refl, adds-refl, adds-trans}
 use Rattle.consistency.specs.Acts.{endsOf, Kept}
 use Rattle.consistency.specs.Added.{adds-begun}
 use Rattle.consistency.specs.Chaining.{unmoved}
@@ -28,6 +29,8 @@ use Rattle.consistency.specs.Electing.{elect-kept}
 use Rattle.consistency.specs.Beginning.{begin-kept}
 use Rattle.consistency.specs.Handling.{handle-kept}
 use Rattle.consistency.specs.Good.{Good, stepped-good}
+use Rattle.consistency.specs.Onward.{going, cease-goes, elect-goes, beginCall-moves, handle-goes}
+use Rattle.consistency.specs.Once.{numbersOf, answers-once}
 
 -- the call that a line begins
 unfoldable pub begunBy : ℕ → Cluster → Line → List Begun
@@ -43,6 +46,8 @@ begunBy now c (stop s) = []
 pub record LineGood (now : ℕ) (c : Cluster) (log : Log) (l : Line) : Type 0 where
   pub next : Log
   pub good : Good now (work c l .cluster) next
+  pub grows : Grows log next
+  pub once : Distinct (numbersOf (work c l .answers))
   pub begins : next .begins ≡ begunBy now c l ++ log .begins
   pub ends : (x : Ended) → (x ∈ next .ends → x ∈ (endsOf now (work c l .answers) ++ log .ends)) × (x ∈ (endsOf now (work c l .answers) ++ log .ends) → x ∈ next .ends)
 
@@ -115,13 +120,14 @@ module _ {now : ℕ} {c : Cluster} {log : Log} {t : Tally} (stands : Stands c t)
   unfolding work begunBy
   elect-good s h =
       let k = elect-kept (length (c .servers)) (c .buckets) now (c .calls) half s log (good .facts) (serverAt c s) (good .servers s h) in
-      record { next = k .next; good = by-line s h k; begins = k .begins; ends = k .ends }
+      let g = elect-goes (length (c .servers)) s (serverAt c s) in
+      record { next = k .next; good = by-line s h k; grows = k .adds .grows; once = answers-once (good .facts) (good .servers s h) g; begins = k .begins; ends = k .ends }
 
   timeout-good : (s b : ℕ) → s < length (c .servers) → LineGood now c log (timeout s b)
   unfolding work begunBy
   timeout-good s b h =
       let k = cease-kept (length (c .servers)) (c .buckets) now (c .calls) s log (good .facts) (serverAt c s) (as-unsettled (good .servers s h)) in
-      record { next = k .next; good = by-line s h k; begins = k .begins; ends = k .ends }
+      record { next = k .next; good = by-line s h k; grows = k .adds .grows; once = answers-once (good .facts) (good .servers s h) (cease-goes (serverAt c s)); begins = k .begins; ends = k .ends }
 
   stop-good : (s : ℕ) → s < length (c .servers) → LineGood now c log (stop s)
   unfolding work begunBy
@@ -135,7 +141,7 @@ module _ {now : ℕ} {c : Cluster} {log : Log} {t : Tally} (stands : Stands c t)
         role = old .role;
       } in
       let k : Kept (length (c .servers)) (c .buckets) now (c .calls) s log _ = unmoved (good .facts) same [] (λ x i. none-in i) in
-      record { next = k .next; good = by-line s h k; begins = k .begins; ends = k .ends }
+      record { next = k .next; good = by-line s h k; grows = k .adds .grows; once = tt; begins = k .begins; ends = k .ends }
 
   call-good : (s : ℕ) (w : Words) → s < length (c .servers) → bucketFor (c .buckets) w < c .buckets
       → serverAt c s .volatile .role ≡ leading → callAt (serverAt c s .volatile) (bucketFor (c .buckets) w) ≡ none → LineGood now c log (call s w)
@@ -143,9 +149,12 @@ module _ {now : ℕ} {c : Cluster} {log : Log} {t : Tally} (stands : Stands c t)
   call-good s w h inside leads free =
       let b = bucketFor (c .buckets) w in
       let k = begin-kept (length (c .servers)) (c .buckets) now (c .calls) s b half (good .facts) (good .servers s h) leads inside free (c .calls + 1) (add-one (c .calls)) w in
+      let g = going (beginCall-moves (length (c .servers)) s b (c .calls + 1) w (serverAt c s)) in
       record {
         next = k .next;
         good = stepped-good half good s h (adds-begun log s _) k (c .messages) (λ m i. i);
+        grows = adds-trans (adds-begun log s _) (k .adds) .grows;
+        once = answers-once (good .facts) (good .servers s h) g;
         begins = k .begins;
         ends = k .ends;
       }
@@ -158,6 +167,8 @@ module _ {now : ℕ} {c : Cluster} {log : Log} {t : Tally} (stands : Stands c t)
         good =
             rw e
             (record { facts = good .facts; servers = good .servers; messages = λ m i. good .messages m (sub m i) });
+        grows = grows-refl log;
+        once = rw e tt;
         begins = rw f;
         ends = λ x. rw e (λ m. m, λ m. m);
       }
@@ -172,9 +183,12 @@ module _ {now : ℕ} {c : Cluster} {log : Log} {t : Tally} (stands : Stands c t)
       go false i =
           let k = handle-kept (length (c .servers)) (c .buckets) now (c .calls) half (good .facts) m (good .servers (m .receiver) h) (good .messages m there) in
           let g : work c l ≡ handed c m still copied _ = e ∙ handing-live c m still copied i in
+          let moves = handle-goes (length (c .servers)) (m .receiver) m (serverAt c (m .receiver)) in
           record {
             next = k .next;
             good = rw g (stepped-good half good (m .receiver) h (adds-refl (m .receiver) log) k still sub);
+            grows = k .adds .grows;
+            once = rw g (answers-once (good .facts) (good .servers (m .receiver) h) moves);
             begins = rw f (k .begins);
             ends = rw g (k .ends);
           }

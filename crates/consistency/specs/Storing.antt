@@ -31,7 +31,7 @@ each-set P l b x d h new others k = go (ℕ-discrete k b)
 
 module _ (b : ℕ) (v : Version) (t : List Entry) (st : Stored) where
   -- an accepted write is stored if its version is above the copy's, and otherwise changes nothing
-  storing-cases : (P : Stored → Type 0) → (v ≼ copyAt st b .version → P st)
+  pub storing-cases : (P : Stored → Type 0) → (v ≼ copyAt st b .version → P st)
       → (copyAt st b .version ≺ v → P (record { number = st .number; vote = st .vote; leader = st .leader; copies = set (st .copies) b (record { version = v; table = t }) }))
       → P (storing b v t st)
   unfolding storing

@@ -1,56 +1,24 @@
 -- Demand 3: every script has, for each bucket, one order of its calls (the statement is in Statement.antt).
 use mathlib.Core.Path.{_≡_, refl, sym, _∙_, ap, subst}
-use mathlib.Core.List.{List, [], _∷_, List·Memᴰ·head, List·Memᴰ·tail, Memᴰ·map, Memᴰ·of-map, append-nil}
-use mathlib.Core.Bool.{Bool, true, false}
+use mathlib.Core.List.{List, [], _∷_, List·Memᴰ·head, List·Memᴰ·tail, Memᴰ·map, Memᴰ·of-map}
+use mathlib.Core.Option.{Option}
 use Prim.Native.Nat.{ℕ}
-use lib.Dec.{ltb}
-use lib.ListN.{length}
-use Rattle.entries.specs.Entries.{Entry, valueOf, holds, stored}
-use Rattle.table.specs.Form.{sameBytes}
-use Rattle.model.specs.Calls.{Words, get, set, setif, del, keys, Result, value, listed, done, mismatch, full, notdone, unknown, setting, effect}
-use Rattle.model.specs.Lines.{nothing}
+use Rattle.entries.specs.Entries.{Entry}
+use Rattle.model.specs.Calls.{Result, value, listed, done, mismatch, full, notdone, unknown}
+use Rattle.model.specs.Cluster.{Cluster}
 use Rattle.history.specs.Members.{_∈_, none-in}
 use Rattle.history.specs.History.{Call, answered}
 use Rattle.history.specs.History as H
 use Rattle.history.specs.Ordering.{Ordering, by-unknown, by-notdone, by-answer, EndedIn}
 use Rattle.history.specs.Ordering as O
-use Rattle.consistency.specs.Statement.{Begin, End, plainSet, plain, reply, begins, ends, Distinct, Fed, OneOrder}
-use Rattle.consistency.specs.Log.{Begun, Log, emptyLog}
-use Rattle.consistency.specs.OneBucket.{left, said, historyOf, callOf, endBy}
+use Rattle.consistency.specs.Statement.{Begin, End, begins, ends, Distinct, Fed, OneOrder}
+use Rattle.consistency.specs.Log.{Begun, Log}
+use Rattle.consistency.specs.OneBucket.{historyOf, callOf, endBy}
 use Rattle.consistency.specs.OneBucket
 use Rattle.consistency.specs.BucketMembers.{part-has, part-each, entry-found}
 use Rattle.consistency.specs.BucketOrder.{ordering-of}
-use Rattle.consistency.specs.Runs.{beginOf, endOf, Match, Ran, run-goes}
-
--- ---- the machine's effect of a call is the plain table's
-
-agree-set : (k v : List ℕ) (t : List Entry) → reply (left (setting k v t) t) (said (setting k v t)) ≡ plainSet k v t
-unfolding setting plainSet stored left said
-agree-set k [] t = refl
-agree-set k (b ∷ v) t = go (holds k t) refl (ltb (length t) 4) refl
-  where
-    go : (p : Bool) → holds k t ≡ p → (q : Bool) → ltb (length t) 4 ≡ q → reply (left (setting k (b ∷ v) t) t) (said (setting k (b ∷ v) t)) ≡ plainSet k (b ∷ v) t
-    go true e q f = rw (setting, stored, plainSet, e)
-    go false e true f = rw (setting, stored, plainSet, e, f)
-    go false e false f = rw (setting, stored, plainSet, e, f)
-
-agree : (w : Words) (t : List Entry) → reply (left (effect w t) t) (said (effect w t)) ≡ plain w t
-unfolding effect plain left said
-agree (get k) t = refl
-agree (set k v) t = agree-set k v t
-agree (setif k e v) t = go (sameBytes (valueOf k t) e) refl
-  where
-    go : (p : Bool) → sameBytes (valueOf k t) e ≡ p → reply (left (effect (setif k e v) t) t) (said (effect (setif k e v) t)) ≡ plain (setif k e v) t
-    go true i = rw (effect, plain, i) (agree-set k v t)
-    go false i = rw (effect, plain, i)
-agree (del k) t = agree-set k [] t
-agree (keys b) t = refl
-
-after-agrees : (w : Words) (t : List Entry) → left (effect w t) t ≡ plain w t .table
-after-agrees w t = ap (λ r. r .table) (agree w t)
-
-answer-agrees : (w : Words) (t : List Entry) → said (effect w t) ≡ plain w t .result
-answer-agrees w t = ap (λ r. r .result) (agree w t)
+use Rattle.consistency.specs.PlainAgrees.{Alike, nothing-alike, plain-agrees}
+use Rattle.consistency.specs.Runs.{beginOf, endOf, Ran, ran-of, script-leaves}
 
 -- ---- how a call ended
 
@@ -84,10 +52,7 @@ distinct-too (i ∷ l) h = (h .0, distinct-too l (h .1))
 
 -- ---- from the log's order to the script's
 
-module _ {bs : List Begin} {es : List End} (ran : Ran bs es) (b : ℕ) where
-  abbrev log : Log
-  log = ran .log
-
+module _ {cluster : Option Cluster} {log : Log} {bs : List Begin} {es : List End} (ran : Ran cluster log bs es) (b : ℕ) where
   abbrev calls : List (Call OneBucket.plain)
   calls = historyOf log b .calls
 
@@ -144,20 +109,22 @@ module _ {bs : List Begin} {es : List End} (ran : Ran bs es) (b : ℕ) where
   not-undone : (c : Call OneBucket.plain) → c ∈ calls → c .number ∈ order .order → (y : End) → y ∈ es → y .number ≡ c .number → y .result ≡ notdone → ⊥
   not-undone c m in-it y k e r = order .none-undone c m in-it (y .line) (call-end c m y k e ∙ ap (endBy (y .line)) r ∙ undone-by (y .line))
 
-  fed-too : (t : List Entry) (l : List ℕ) → ((i : ℕ) → i ∈ l → i ∈ order .order) → O.Fed OneBucket.plain calls t l → Fed bs es t l
-  fed-too t [] sub h = tt
-  fed-too t (i ∷ l) sub h =
+  -- the plain table and the machine's go alike through the calls
+  fed-too : (p t : List Entry) (l : List ℕ) → Alike p t → ((i : ℕ) → i ∈ l → i ∈ order .order) → O.Fed OneBucket.plain calls t l → Fed bs es p l
+  fed-too p t [] alike sub h = tt
+  fed-too p t (i ∷ l) alike sub h =
       let c = h .0 in
       let (x, m, e, f, g) = begin-of c (h .1) in
-      let next : Fed bs es (plain (c .words) t .table) l = rw (after-agrees (c .words) t) at (fed-too _ l (λ j k. sub j (List·Memᴰ·tail k)) (h .4)) in (
+      let (agrees, next) = plain-agrees (c .words) p t alike in
+      let rest = fed-too _ _ l next (λ j k. sub j (List·Memᴰ·tail k)) (h .4) in (
         x,
         m,
         e ∙ h .2,
         λ y k n u.
             let j : y .number ≡ c .number = n ∙ sym (h .2) in
             let d = not-undone c (h .1) (rw (h .2) (sub i (List·Memᴰ·head refl))) y k j in
-            rw g (sym (answer-agrees (c .words) t) ∙ h .3 (y .line) (y .result) (call-end c (h .1) y k j ∙ answered-by (y .line) (y .result) u d)),
-        rw g next,
+            rw g (agrees ∙ h .3 (y .line) (y .result) (call-end c (h .1) y k j ∙ answered-by (y .line) (y .result) u d)),
+        rw g rest,
       )
 
   pub one-order-of : OneOrder bs es b
@@ -169,7 +136,7 @@ module _ {bs : List Begin} {es : List End} (ran : Ran bs es) (b : ℕ) where
             let (c, k, e) = in-order i m in
             let (x, n, f, g, w) = begin-of c k in
             (x, n, f ∙ e, g);
-        none-undone = λ i m y k n r.
+        no-notdone = λ i m y k n r.
             let (c, j, e) = in-order i m in
             not-undone c j (rw e m) y k (n ∙ sym e) r;
         complete = λ x m e y k n u d.
@@ -182,17 +149,11 @@ module _ {bs : List Begin} {es : List End} (ran : Ran bs es) (b : ℕ) where
             let ended : EndedIn (c .end) (y .line) = rw (call-end c p y k (e ∙ sym g)) (ended-in (y .line) (y .result)) in
             let first = order .in-real-time c d p q (rw g m) (rw (r, f) n) (y .line) ended (rw t before) in
             rw (← g, ← f, ← r) first;
-        answered = fed-too [] (order .order) (λ i m. m) (order .fed);
+        answered = fed-too [] [] (order .order) nothing-alike (λ i m. m) (order .fed);
       }
 
 -- ---- the theorem
 
-no-match : Match [] [] emptyLog
-no-match = record { begun = λ x m. none-in m; begins = λ x m. none-in m; ended = λ x m. none-in m; ends = λ x m. none-in m }
-
-ran-script : (ls : List (List ℕ)) → Ran (begins ls) (ends ls)
-ran-script ls = rw (← append-nil (begins ls), ← append-nil (ends ls)) (run-goes ls 0 0 0 nothing emptyLog [] [] refl (refl, refl) no-match)
-
 -- for every list of lines, whatever stands in it, and for every bucket
 pub one-order-for-every-script : (ls : List (List ℕ)) (b : ℕ) → OneOrder (begins ls) (ends ls) b
-one-order-for-every-script ls b = one-order-of (ran-script ls) b
+one-order-for-every-script ls b = one-order-of (ran-of (script-leaves ls)) b

@@ -32,3 +32,44 @@ three-servers : run (bytes "cluster 3 1\nelect 0\ndeliver 0\ndeliver 1\nset 0 61
     ≡ bytes "1 done 4\nmessages 15 0 10 0 5\n"
 unfolding computing
 three-servers = refl
+
+-- ---- runs that tell document 01's rules from the mistakes near at hand
+
+-- two halves of four servers elect nobody: neither server 0 nor server 2 leads under number 1
+half-is-no-majority : run (bytes "cluster 4 1\nelect 0\ndeliver 0\ndeliver 2\nelect 2\ndeliver 4\ndeliver 4\nget 0 61\nget 2 61\n")
+    ≡ bytes "line 8 refused 8\nline 9 refused 8\nmessages 8 0 4 0 4\n"
+unfolding computing
+half-is-no-majority = refl
+
+-- of five servers two accepted the own write of call 1, one of them acknowledged it twice: no majority, and after the timeout the
+-- result is `unknown`, since the write was sent
+replies-of-one-server : run (bytes "cluster 5 1\nelect 0\ndeliver 0\ndeliver 0\ndeliver 2\ndeliver 2\nset 0 61 01\ndeliver 2\ndeliver 2\ndeliver 4\ndeliver 4\ndeliver 4\ndeliver 4\ndeliver 6\ndeliver 6\ndeliver 6\ndeliver 6\ndeliver 8\ndeliver 8\ndeliver 8\ncopy 11\ndeliver 11\ntimeout 0 0\n")
+    ≡ bytes "1 unknown 4\nmessages 29 1 19 0 11\n"
+unfolding computing
+replies-of-one-server = refl
+
+-- server 1 has stored (1, 3) when a copy of the write of (1, 2) reaches it; server 2, elected by it, reads what (1, 3) wrote
+late-write : run (bytes "cluster 3 1\nelect 0\ndeliver 0\ndeliver 1\nset 0 61 01\ndeliver 1\ndeliver 2\ndeliver 2\ndeliver 3\ndeliver 3\ndeliver 4\ncopy 4\ndeliver 6\nset 0 61 02\ndeliver 6\ndeliver 7\ndeliver 7\ndeliver 8\ndeliver 4\nelect 2\nelect 2\ndeliver 11\ndeliver 11\nget 2 61\ndeliver 12\ndeliver 12\ndeliver 13\ndeliver 13\ndeliver 14\ndeliver 14\n")
+    ≡ bytes "1 done 4\n2 done 2\n3 value 3 02\nmessages 36 1 23 0 14\n"
+unfolding computing
+late-write = refl
+
+-- server 0 ceases to lead; two late votes under its number do not bring it back, and the next call is refused
+late-votes : run (bytes "cluster 3 1\nelect 0\ndeliver 0\ndeliver 0\ncopy 0\nget 0 61\ntimeout 0 0\ndeliver 0\ndeliver 0\nget 0 61\n")
+    ≡ bytes "1 notdone 1\nline 10 refused 8\nmessages 6 1 5 0 2\n"
+unfolding computing
+late-votes = refl
+
+-- server 0 still leads under 1 and stores 01 when server 1 leads under 2 and has written 02: its checking round is refused, so it
+-- does not answer from its copy
+old-leader-does-not-answer : run (bytes "cluster 3 1\nelect 0\ndeliver 0\ndeliver 1\nset 0 61 01\ndeliver 2\ndeliver 2\ndeliver 3\ndeliver 3\ndeliver 4\ndeliver 4\ndeliver 5\ndeliver 5\nelect 1\nelect 1\ndeliver 8\ndeliver 8\nset 1 61 02\ndeliver 9\ndeliver 9\ndeliver 10\ndeliver 10\ndeliver 11\ndeliver 11\ndeliver 12\ndeliver 12\nget 0 61\ndeliver 12\ndeliver 12\ndeliver 12\ndeliver 12\n")
+    ≡ bytes "1 done 4\n2 done 4\n3 notdone 1\nmessages 36 0 24 0 12\n"
+unfolding computing
+old-leader-does-not-answer = refl
+
+-- servers 0 and 2 accepted the own write of call 2 before server 4 was elected under 2; server 1 reported to server 4 and then
+-- refuses that write, so call 2 is not `done` though server 4, which did not see its write, answers with the old value
+read-raises-the-vote : run (bytes "cluster 5 1\nelect 0\ndeliver 0\ndeliver 0\ndeliver 2\ndeliver 2\nset 0 61 01\ndeliver 2\ndeliver 2\ndeliver 4\ndeliver 4\ndeliver 4\ndeliver 4\ndeliver 6\ndeliver 6\ndeliver 6\ndeliver 6\ndeliver 8\ndeliver 8\ndeliver 8\ndeliver 8\ndeliver 10\ndeliver 10\nset 0 61 02\ndeliver 10\ndeliver 10\ndeliver 12\ndeliver 12\ndeliver 13\ndeliver 15\nelect 4\nelect 4\ndeliver 21\ndeliver 21\ndeliver 21\ndeliver 21\nget 4 61\ndeliver 22\ndeliver 23\ndeliver 23\ndeliver 23\ndeliver 12\ndeliver 26\ndeliver 24\ndeliver 24\ndeliver 24\ndeliver 24\ndeliver 26\ndeliver 26\ndeliver 26\ndeliver 26\ntimeout 0 0\n")
+    ≡ bytes "1 done 4\n3 value 3 01\n2 unknown 2\nmessages 70 0 44 0 26\n"
+unfolding computing
+read-raises-the-vote = refl

@@ -54,7 +54,7 @@ rising-put-after e k v (f ∷ t) b r =
     (λ o. rw (put, o) (rising-from e (entry k v) t b (rising-key (entry k v) f t (order-same k (f .key) o) ∙ rf)))
     (λ o. rw (put, o) (rising-from e f (put k v t) ef (ih (after-before k (f .key) o))))
 
-rising-put : (k v : List ℕ) (t : List Entry) → rising t ≡ true → rising (put k v t) ≡ true
+pub rising-put : (k v : List ℕ) (t : List Entry) → rising t ≡ true → rising (put k v t) ≡ true
 unfolding put rising
 rising-put k v [] r = refl
 rising-put k v (e ∷ t) r =
@@ -64,7 +64,7 @@ rising-put k v (e ∷ t) r =
     (λ o. rw (put, o) (rising-put-after e k v t (after-before k (e .key) o) r))
 
 -- an entry out of the middle leaves its neighbours in order
-rising-skip : (e f : Entry) (t : List Entry) → order (e .key) (f .key) ≡ Before → rising (f ∷ t) ≡ true → rising (e ∷ t) ≡ true
+pub rising-skip : (e f : Entry) (t : List Entry) → order (e .key) (f .key) ≡ Before → rising (f ∷ t) ≡ true → rising (e ∷ t) ≡ true
 unfolding rising
 rising-skip e f [] b r = refl
 rising-skip e f (g ∷ t) b r =
@@ -80,7 +80,7 @@ rising-remove-after e k (f ∷ t) r =
     by-order k (f .key) (λ o. rw (remove, o) r) (λ o. rw (remove, o) (rising-skip e f t ef rf))
     (λ o. rw (remove, o) (rising-from e f (remove k t) ef ih))
 
-rising-remove : (k : List ℕ) (t : List Entry) → rising t ≡ true → rising (remove k t) ≡ true
+pub rising-remove : (k : List ℕ) (t : List Entry) → rising t ≡ true → rising (remove k t) ≡ true
 unfolding remove
 rising-remove k [] r = r
 rising-remove k (e ∷ t) r =

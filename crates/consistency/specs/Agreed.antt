@@ -1,0 +1,57 @@
+-- What the log says of the servers of the states that a script reaches.
+use mathlib.Core.Path.{_≡_, refl, ap, subst}
+use mathlib.Core.List.{List}
+use mathlib.Core.Option.{Option, none, some}
+use Prim.Native.Nat.{ℕ, _≤_, _<_}
+use native.Mathlib.Omega.{arith}
+use native.Mathlib.Decide.{decLt}
+use lib.ListN.{length, List·getD-eq-default}
+use Rattle.model.specs.Cluster.{copyAt, Role, follower, leading, Cluster, freshServer}
+use Rattle.model.specs.Lines.{State, nothing, serverAt}
+use Rattle.model.specs.Run.{stateAfter}
+use Rattle.consistency.specs.Statement.{Begin, End, begins, ends}
+use Rattle.consistency.specs.Log.{Log}
+use Rattle.consistency.specs.Claims.{Won, Holds}
+use Rattle.consistency.specs.Claims
+use Rattle.consistency.specs.Invariant.{RoleOk}
+use Rattle.consistency.specs.Reached.{serverOf}
+use Rattle.consistency.specs.Runs.{RunOk, Leaves, run-goes, script-leaves}
+
+no-leader : {r : Role} → r ≡ follower → r ≡ leading → {P : Type 0} → P
+no-leader e f = let z : _≡_ {A = ℕ} 0 1 = cc in absurd (omega arith)
+
+beyond : (c : Cluster) (p : ℕ) → length (c .servers) ≤ p → serverAt c p ≡ freshServer 0 0
+beyond c p h = List·getD-eq-default (c .servers) (freshServer 0 0) h
+
+-- a leader won its election, and its vote is its number
+pub leader-facts : (now count b : ℕ) (o : Option Cluster) (log : Log) → RunOk now o count b log → (p : ℕ) → serverOf o p .volatile .role ≡ leading
+    → Won log (serverOf o p .stored .number) p × (serverOf o p .stored .vote ≡ serverOf o p .stored .number)
+unfolding freshServer
+leader-facts now count b none log h p e = no-leader refl e
+leader-facts now count b (some c) log h p e = go (decLt p (length (c .servers)))
+  where
+    go : Dec (p < length (c .servers)) → Won log (serverAt c p .stored .number) p × (serverAt c p .stored .vote ≡ serverAt c p .stored .number)
+    go (yes l) =
+        let r = subst (λ r. RoleOk (length (c .servers)) log p (serverAt c p .stored) (serverAt c p .volatile) r) e (h .0 .servers p l .role) in
+        (r .0, r .1)
+    go (no l) = no-leader (ap (λ s. s .volatile .role) (beyond c p (omega arith))) e
+
+-- what is stored is what the log says that was written
+pub copy-held : (now count b : ℕ) (o : Option Cluster) (log : Log) → RunOk now o count b log → (p k : ℕ)
+    → Holds log k (copyAt (serverOf o p .stored) k .version) (copyAt (serverOf o p .stored) k .table)
+unfolding freshServer
+copy-held now count b none log h p k = Claims.Holds.first refl refl
+copy-held now count b (some c) log h p k = go (decLt p (length (c .servers)))
+  where
+    go : Dec (p < length (c .servers)) → Holds log k (copyAt (serverAt c p .stored) k .version) (copyAt (serverAt c p .stored) k .table)
+    go (yes l) = h .0 .servers p l .stored .copies k .0
+    go (no l) = rw (beyond c p (omega arith)) (Claims.Holds.first refl refl)
+
+abbrev pub reached : List (List ℕ) → State
+reached ls = stateAfter nothing ls
+
+-- the log of a longer script has what that of the shorter one has
+pub goes-on : (ls ms : List (List ℕ)) → (bs : List Begin) × (es : List End) × Leaves (script-leaves ls .log) (script-leaves ls .now) (reached ls) ms bs es
+goes-on ls ms =
+    let h = script-leaves ls in
+    (_, _, run-goes ms (h .now) (h .count) (h .buckets) (reached ls) (h .log) (begins ls) (ends ls) (h .measured) (h .agrees) (h .same))

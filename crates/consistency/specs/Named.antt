@@ -1,0 +1,109 @@
+-- Theorems about every script, each by itself. A script is any list of lines `ls`; `stateAfter nothing ls` is the state that it
+-- reaches, run from nothing, and `ls ++ ms` is a script that goes on after `ls`. What is said of a server holds of a stopped one too.
+-- Freshness, and what a call that ended as `notdone` leaves, are in Fresh.antt.
+use mathlib.Core.Path.{_≡_, refl, sym, _∙_, ap, subst, subst⁻¹}
+use mathlib.Core.List.{List, [], _∷_, _++_, map, append-nil}
+use mathlib.Core.Bool.{true, false}
+use lib.Dec.{ltb}
+use Prim.Native.Nat.{ℕ, _≤_}
+use native.Mathlib.Omega.{arith}
+use Rattle.entries.specs.Entries.{Entry}
+use Rattle.model.specs.Cluster.{Version, Stored, copyAt, Role, follower, candidate, leading, Server, Message, ackWrite}
+use Rattle.model.specs.Replica.{voting, writing, heeds, storing, accepting, acknowledging}
+use Rattle.model.specs.Leader.{Reaction, quiet, cease, withStored, replyTo, settle, onRequest}
+use Rattle.model.specs.Lines.{nothing}
+use Rattle.model.specs.Run.{stateAfter}
+use Rattle.history.specs.Version.{_≼_, lt-not-le}
+use Rattle.consistency.specs.Statement.{Distinct, ends}
+use Rattle.consistency.specs.Claims.{Holds}
+use Rattle.consistency.specs.Growth.{won-grows, holds-grows, one-winner}
+use Rattle.consistency.specs.Storing.{storing-cases}
+use Rattle.consistency.specs.BucketFacts.{one-table}
+use Rattle.consistency.specs.Onward.{Onward}
+use Rattle.consistency.specs.Reached.{serverIn, LeadsIn, lines-onward, after-both}
+use Rattle.consistency.specs.Agreed.{leader-facts, copy-held, reached, goes-on}
+use Rattle.consistency.specs.Runs.{ran-of, script-leaves}
+
+-- ---- at most one leader under an election number
+
+-- over the whole run: whoever leads under a number, then or later, is the same server
+pub one-leader-ever : (ls ms : List (List ℕ)) (p q e : ℕ) → LeadsIn (stateAfter nothing ls) p e → LeadsIn (stateAfter nothing (ls ++ ms)) q e → p ≡ q
+one-leader-ever ls ms p q e (r, i) then =
+    let h = script-leaves ls in
+    let (bs, es, k) = goes-on ls ms in
+    let (t, j) = subst (λ s. LeadsIn s q e) (after-both nothing ls ms) then in
+    let a = leader-facts (h .now) (h .count) (h .buckets) (reached ls .cluster) (h .log) (h .agrees) p r .0 in
+    let b = leader-facts (k .now) (k .count) (k .buckets) (stateAfter (reached ls) ms .cluster) (k .log) (k .agrees) q t .0 in
+    let ran = ran-of k in
+    one-winner (ran .servers) (ran .half) (ran .facts .votes) (won-grows (k .grows) (rw i at a)) (rw j at b)
+
+-- in one state
+pub one-leader : (ls : List (List ℕ)) (p q e : ℕ) → LeadsIn (stateAfter nothing ls) p e → LeadsIn (stateAfter nothing ls) q e → p ≡ q
+one-leader ls p q e a b = one-leader-ever ls [] p q e a (rw (append-nil ls) b)
+
+-- ---- a server that ceased to lead under a number never leads under it again
+
+past : (s t u : Server) (e : ℕ) → Onward s t → Onward t u → s .volatile .role ≡ leading → s .stored .number ≡ e
+    → ((t .volatile .role ≡ leading) × (t .stored .number ≡ e) → ⊥) → (u .volatile .role ≡ leading) × (u .stored .number ≡ e) → ⊥
+past s t u e f g i j not-then (k, l) = go (t .volatile .role) refl
+  where
+    same : t .stored .number ≡ e
+    same = omega (arith, f .number, g .number)
+
+    go : (r : Role) → t .volatile .role ≡ r → ⊥
+    go leading x = not-then (x, same)
+    go candidate x = let m : 1 ≤ 0 = rw (i, x) at (f .role (same ∙ sym j)) in omega arith
+    go follower x = let m : 2 ≤ 1 = rw (x, k) at (g .role (l ∙ sym same)) in omega arith
+
+pub never-leads-again : (ls ms ks : List (List ℕ)) (p e : ℕ) → LeadsIn (stateAfter nothing ls) p e
+    → (LeadsIn (stateAfter nothing (ls ++ ms)) p e → ⊥) → LeadsIn (stateAfter nothing ((ls ++ ms) ++ ks)) p e → ⊥
+never-leads-again ls ms ks p e (i, j) =
+    let f : Onward (serverIn (reached ls) p) (serverIn (reached (ls ++ ms)) p) = rw (after-both nothing ls ms) (lines-onward (reached ls) ms p) in
+    let g : Onward (serverIn (reached (ls ++ ms)) p) (serverIn (reached ((ls ++ ms) ++ ks)) p) = rw (after-both nothing (ls ++ ms) ks) (lines-onward (reached (ls ++ ms)) ks p) in
+    past _ _ _ e f g i j
+
+-- ---- a late copy of an old write never replaces a newer one
+
+-- the rule: an accepted write whose version is not above the stored one changes nothing
+pub late-write-changes-nothing : (b : ℕ) (v : Version) (t : List Entry) (st : Stored) → v ≼ copyAt st b .version → storing b v t st ≡ st
+late-write-changes-nothing b v t st h = storing-cases b v t st (λ x. x ≡ st) (λ l. refl) (λ l. absurd (lt-not-le l h))
+
+settle-stored : (s : Server) → settle s .server .stored ≡ s .stored
+unfolding settle cease
+settle-stored s = elim (ltb (s .stored .number) (s .stored .vote)) as (λ t. let r : Reaction = elim t [ true ↦ cease s | false ↦ quiet s ] in r .server .stored ≡ s .stored) [ true ↦ refl | false ↦ refl ]
+
+-- a server that heeds such a write acknowledges it and keeps its copies
+pub late-write-acknowledged : (me : ℕ) (m : Message) (v : Version) (t : List Entry) (s : Server) → heeds (m .election) (s .stored) ≡ true → v ≼ copyAt (s .stored) (m .bucket) .version
+    → (onRequest me m (writing v t) s .sends ≡ replyTo me m ackWrite ∷ []) × (onRequest me m (writing v t) s .server .stored .copies ≡ s .stored .copies)
+unfolding onRequest accepting acknowledging
+late-write-acknowledged me m v t s e h =
+    let st = voting (m .election) (m .sender) (s .stored) in
+    rw (onRequest, e)
+    (refl, ap (λ x. x .copies) (settle-stored (withStored s (storing (m .bucket) v t st)) ∙ late-write-changes-nothing (m .bucket) v t st h))
+
+-- the machine: whatever lines follow, no server's copy of a bucket is older than it was
+pub copies-never-older : (ls ms : List (List ℕ)) (p b : ℕ)
+    → copyAt (serverIn (stateAfter nothing ls) p .stored) b .version ≼ copyAt (serverIn (stateAfter nothing (ls ++ ms)) p .stored) b .version
+copies-never-older ls ms p b = rw (after-both nothing ls ms) (lines-onward (reached ls) ms p .copies b)
+
+-- and a copy of the same version, at that server or another, then or later, has the same table
+pub same-version-same-table : (ls ms : List (List ℕ)) (p q b : ℕ)
+    → copyAt (serverIn (stateAfter nothing ls) p .stored) b .version ≡ copyAt (serverIn (stateAfter nothing (ls ++ ms)) q .stored) b .version
+    → copyAt (serverIn (stateAfter nothing ls) p .stored) b .table ≡ copyAt (serverIn (stateAfter nothing (ls ++ ms)) q .stored) b .table
+same-version-same-table ls ms p q b = rw (after-both nothing ls ms) go
+  where
+    go : copyAt (serverIn (reached ls) p .stored) b .version ≡ copyAt (serverIn (stateAfter (reached ls) ms) q .stored) b .version
+        → copyAt (serverIn (reached ls) p .stored) b .table ≡ copyAt (serverIn (stateAfter (reached ls) ms) q .stored) b .table
+    go e =
+        let h = script-leaves ls in
+        let (bs, es, k) = goes-on ls ms in
+        let x = copy-held (h .now) (h .count) (h .buckets) (reached ls .cluster) (h .log) (h .agrees) p b in
+        let y = copy-held (k .now) (k .count) (k .buckets) (stateAfter (reached ls) ms .cluster) (k .log) (k .agrees) q b in
+        let ran = ran-of k in
+        one-table (ran .servers) (ran .now) (ran .taken) (ran .half) (ran .facts) b (holds-grows (k .grows) x)
+        (subst⁻¹ (λ v. Holds (k .log) b v (copyAt (serverIn (stateAfter (reached ls) ms) q .stored) b .table)) e y)
+
+-- ---- every answer given was given once
+
+pub answered-once : (ls : List (List ℕ)) → Distinct (map (λ y. y .number) (ends ls))
+answered-once ls = script-leaves ls .same .once
