@@ -18,6 +18,7 @@ use Rattle.consistency.specs.Log
 use Rattle.consistency.specs.Claims
 use Rattle.consistency.specs.Invariant.{LogOk}
 use Rattle.consistency.specs.Invariant
+use Rattle.consistency.specs.OneTable.{one-table}
 use Rattle.consistency.specs.OneBucket.{left, said, plain, writeOf, acceptOf, reportOf, winOf, checkOf, endBy, endOf, callOf, historyOf}
 use Rattle.consistency.specs.BucketMembers.{map-each, part-has, part-each, part-two, end-says, entry-of}
 
@@ -140,16 +141,6 @@ module _ (n now taken : ℕ) (half : n < 2 * majority n) {log : Log} (ok : LogOk
   own-of : {w : Log.Write} {i : ℕ} → w ∈ log .writes → w .call ≡ some i → Own log w i
   own-of m e = let o = ok .writes .origin _ m in own-by (o .holds) (o .makes) e
 
-  -- a version holds one table
-  pub one-table : {k : ℕ} {x : Version} {t u : List Entry} → Claims.Holds log k x t → Claims.Holds log k x u → t ≡ u
-  one-table (Claims.Holds.first e f) (Claims.Holds.first i j) = cc
-  one-table (Claims.Holds.first e f) (Claims.Holds.later w m i j l) =
-      absurd (omega (arith, ok .writes .positive w m, ap (λ v. v .counter) (j ∙ e)))
-  one-table (Claims.Holds.later w m i j l) (Claims.Holds.first e f) =
-      absurd (omega (arith, ok .writes .positive w m, ap (λ v. v .counter) (j ∙ e)))
-  one-table (Claims.Holds.later w m i j l) (Claims.Holds.later x k e f g) =
-      sym l ∙ ap (λ z. z .table) (ok .writes .unique w x m k (i ∙ sym e) (j ∙ sym f)) ∙ g
-
   -- a call's own write is made in no later line than its end
   in-time : (x : Log.Begun) (line : ℕ) → endOf (log .ends) (x .number) ≡ End.unknown line
       → (w : Log.Write) → w ∈ log .writes → w .bucket ≡ b → w .call ≡ some (x .number) → w .line ≤ line
@@ -180,7 +171,7 @@ module _ (n now taken : ℕ) (half : n < 2 * majority n) {log : Log} (ok : LogOk
           own = e;
           chosen = chosen-part log b half here c;
           before = l;
-          right = λ t held. let one : t ≡ o .table = one-table (holds-whole log b here held) (o .holds) in cc (o .makes);
+          right = λ t held. let one : t ≡ o .table = one-table ok (holds-whole log b here held) (o .holds) in cc (o .makes);
         }
 
     by-check : {c : Log.Check} {line : ℕ} {r : Result} → c ∈ log .checks → c .call ≡ x .number → c .line ≤ line → Claims.Chosen n log (c .bucket) (c .at)

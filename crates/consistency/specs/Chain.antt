@@ -24,6 +24,7 @@ use Rattle.consistency.specs.Log.{Write, Opened, Check, Log}
 use Rattle.consistency.specs.Claims.{Holds, first, later, Chosen, Reported, MessageOk}
 use Rattle.consistency.specs.Claims
 use Rattle.consistency.specs.Invariant.{Unwritten, LogOk, kept, changed, recovers, follows, by-write, by-check, RoundOk, PhaseOk, MarksAccepted}
+use Rattle.consistency.specs.OneTable.{one-table}
 use Rattle.consistency.specs.Growth.{chosen-grows, holds-grows, won-grows}
 use Rattle.consistency.specs.Acts.{Kept, addCheck}
 use Rattle.consistency.specs.Buckets.{bucket-grows}
@@ -175,13 +176,6 @@ module _ (n buckets now taken p b : ℕ) (half : n < 2 * majority n) where
 
   -- ---- what follows READ
 
-  -- a version holds one table
-  holds-unique : {log : Log} → LogOk n now taken log → {x : Version} {t u : List Entry} → Holds log b x t → Holds log b x u → t ≡ u
-  holds-unique ok (Claims.Holds.first e f) (Claims.Holds.first g k) = f ∙ sym k
-  holds-unique ok (Claims.Holds.first e f) (later w m i g k) = absurd (omega (arith, ap (λ v. v .election) (g ∙ e), ok .writes .positive w m .0))
-  holds-unique ok (later w m i e f) (Claims.Holds.first g k) = absurd (omega (arith, ap (λ v. v .election) (e ∙ g), ok .writes .positive w m .0))
-  holds-unique ok (later w m i e f) (later y o j g k) = sym f ∙ ap (λ z. z .table) (ok .writes .unique w y m o (i ∙ sym j) (e ∙ sym g)) ∙ k
-
   -- a checking round for call c at version x that a majority confirmed, opened no earlier than the call began
   pub record Checked (log : Log) (c : Call) (x : Version) : Type 0 where
     pub line : ℕ
@@ -230,7 +224,7 @@ module _ (n buckets now taken p b : ℕ) (half : n < 2 * majority n) where
         kept-after sent
         (finish-kept checked-facts checked-ready r (λ e. chosen)
         (by-check checkOf first-in refl (ok .time .rounds _ (k .had)) chosen _ (k .begun) refl refl (k .after)
-        (λ t held. ap (effect (c .words)) (holds-unique checked-facts held (holds-grows g (h .ready .leads .stored .copies b .0))) ∙ made)
+        (λ t held. ap (effect (c .words)) (one-table checked-facts held (holds-grows g (h .ready .leads .stored .copies b .0))) ∙ made)
         (h .unwritten)))
 
     applying-kept : (f : Effect) → effect (c .words) (copyAt (s .stored) b .table) ≡ f → Kept n buckets now taken p log (applying n p b f s)

@@ -2,6 +2,7 @@ pub mod Statement
 pub mod Log
 pub mod Claims
 pub mod Invariant
+pub mod OneTable
 pub mod Growth
 pub mod Buckets
 pub mod Others

@@ -18,7 +18,7 @@ use Rattle.consistency.specs.Statement.{Distinct, ends}
 use Rattle.consistency.specs.Claims.{Holds}
 use Rattle.consistency.specs.Growth.{won-grows, holds-grows, one-winner}
 use Rattle.consistency.specs.Storing.{storing-cases}
-use Rattle.consistency.specs.BucketFacts.{one-table}
+use Rattle.consistency.specs.OneTable.{one-table}
 use Rattle.consistency.specs.Onward.{Onward}
 use Rattle.consistency.specs.Reached.{serverIn, LeadsIn, lines-onward, after-both}
 use Rattle.consistency.specs.Agreed.{leader-facts, copy-held, reached, goes-on}
@@ -100,7 +100,7 @@ same-version-same-table ls ms p q b = rw (after-both nothing ls ms) go
         let x = copy-held (h .now) (h .count) (h .buckets) (reached ls .cluster) (h .log) (h .agrees) p b in
         let y = copy-held (k .now) (k .count) (k .buckets) (stateAfter (reached ls) ms .cluster) (k .log) (k .agrees) q b in
         let ran = ran-of k in
-        one-table (ran .servers) (ran .now) (ran .taken) (ran .half) (ran .facts) b (holds-grows (k .grows) x)
+        one-table (ran .facts) (holds-grows (k .grows) x)
         (subst⁻¹ (λ v. Holds (k .log) b v (copyAt (serverIn (stateAfter (reached ls) ms) q .stored) b .table)) e y)
 
 -- ---- every answer given was given once
