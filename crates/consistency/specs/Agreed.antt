@@ -7,7 +7,7 @@ use native.Mathlib.Omega.{arith}
 use native.Mathlib.Decide.{decLt}
 use lib.ListN.{length, List·getD-eq-default}
 use Rattle.model.specs.Cluster.{copyAt, Role, follower, leading, Cluster, freshServer}
-use Rattle.model.specs.Lines.{State, nothing, serverAt}
+use Rattle.model.specs.Lines.{State, initialState, serverAt}
 use Rattle.model.specs.Run.{stateAfter}
 use Rattle.consistency.specs.Statement.{Begin, End, begins, ends}
 use Rattle.consistency.specs.Log.{Log}
@@ -48,7 +48,7 @@ copy-held now count b (some c) log h p k = go (decLt p (length (c .servers)))
     go (no l) = rw (beyond c p (omega arith)) (Claims.Holds.first refl refl)
 
 abbrev pub reached : List (List ℕ) → State
-reached ls = stateAfter nothing ls
+reached ls = stateAfter initialState ls
 
 -- the log of a longer script has what that of the shorter one has
 pub goes-on : (ls ms : List (List ℕ)) → (bs : List Begin) × (es : List End) × Leaves (script-leaves ls .log) (script-leaves ls .now) (reached ls) ms bs es

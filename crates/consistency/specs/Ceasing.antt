@@ -11,7 +11,7 @@ use lib.ListN.{getD, length-map, List·getD-map}
 use borrow.Author.Tests.{ltb-false}
 use Rattle.model.specs.Calls.{notdone, unknown}
 use Rattle.model.specs.Cluster.{Stored, copyAt, Role, follower, candidate, leading, Purpose, recoveryRead, recoveryWrite, check, ownWrite, Round, Call, Volatile, roundAt, callAt, Copy, Version, Server}
-use Rattle.model.specs.Leader.{quiet, ended, endings, ceased, cease, settle}
+use Rattle.model.specs.Leader.{noReaction, ended, endings, ceased, cease, stepDown}
 use Rattle.history.specs.Members.{_∈_, none-in}
 use Rattle.consistency.specs.Log.{Opened, Ended, Log, Grows, _⊆_}
 use Rattle.consistency.specs.Invariant.{Unwritten, LogOk, EndOk, undone, unsure, StoredOk, CallOk, PhaseOk, BucketOk, Idle, RoleOk, Shape, ServerOk}
@@ -188,11 +188,11 @@ module _ (n buckets now taken p : ℕ) (log : Log) (ok : LogOk n now taken log) 
       }
 
   -- a server whose vote rose above its number ceases; any other is as it was
-  pub settle-kept : Kept n buckets now taken p log (settle s)
-  unfolding settle
-  settle-kept = go (ltb (s .stored .number) (s .stored .vote)) refl
+  pub step-down-kept : Kept n buckets now taken p log (stepDown s)
+  unfolding stepDown
+  step-down-kept = go (ltb (s .stored .number) (s .stored .vote)) refl
     where
-      go : (t : Bool) → ltb (s .stored .number) (s .stored .vote) ≡ t → Kept n buckets now taken p log (elim t [ true ↦ cease s | false ↦ quiet s ])
+      go : (t : Bool) → ltb (s .stored .number) (s .stored .vote) ≡ t → Kept n buckets now taken p log (elim t [ true ↦ cease s | false ↦ noReaction s ])
       go true e = cease-kept
       go false e =
           unmoved ok (record { shape = agrees .shape; stored = agrees .stored; numbered = agrees .numbered; role = agrees .role (ltb-false _ _ e) })

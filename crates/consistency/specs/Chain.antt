@@ -16,7 +16,7 @@ use Rattle.model.specs.Measures.{majority}
 use Rattle.model.specs.Calls.{Result, done, Effect, answers, writes, effect}
 use Rattle.model.specs.Cluster.{Version, version, above, Copy, copyAt, Purpose, recoveryRead, recoveryWrite, check, ownWrite, Round, Call, roundAt, callAt, Server}
 use Rattle.model.specs.Replica.{reading, writing, requestBody, accepting}
-use Rattle.model.specs.Leader.{Reaction, isOwn, reportTo, newRound, closes, opening, openRound, broadcast, finish, nextVersion, applying, afterRead, checking, recovering, readBucket, closed}
+use Rattle.model.specs.Leader.{Reaction, isOwn, reportTo, newRound, closes, opening, openRound, broadcast, finish, nextVersion, applying, afterRead, checking, recovering, startRead, closed}
 use Rattle.history.specs.Members.{_∈_, first-in, none-in, each-cons}
 use Rattle.history.specs.Version.{_≼_, _≺_, lt-of-le-lt}
 use Rattle.history.specs.Quorum.{Majority}
@@ -436,8 +436,8 @@ module _ (n buckets now taken p b : ℕ) (half : n < 2 * majority n) where
   pub read-kept : {log : Log} → LogOk n now taken log → {c : Call} {s : Server} → Ready n buckets log p b c s
       → (copyAt (s .stored) b .version .election ≡ s .stored .number → Chosen n log b (copyAt (s .stored) b .version))
       → c .sent ≡ false → Unwritten log (c .number)
-      → Kept n buckets now taken p log (readBucket n p b s)
-  unfolding readBucket
+      → Kept n buckets now taken p log (startRead n p b s)
+  unfolding startRead
   read-kept {log} ok {c} {s} h rest unsent unwritten = go (eqb (copyAt (s .stored) b .version .election) (s .stored .number)) refl
     where
       go : (t : Bool) → eqb (copyAt (s .stored) b .version .election) (s .stored .number) ≡ t

@@ -13,7 +13,7 @@ use Rattle.entries.specs.Entries.{Entry}
 use Rattle.model.specs.Measures.{majority}
 use Rattle.model.specs.Cluster.{Version, Copy, Stored, copyAt, Role, follower, candidate, leading, Round, Call, Volatile, Server, pleaseVote, ackVote, Message}
 use Rattle.model.specs.Replica.{voting, grants, afterVote}
-use Rattle.model.specs.Leader.{reaction, quiet, withStored, withVolatile, broadcast, ceased, cease, votesFor, standing, stands, raised, elect, onAckVote}
+use Rattle.model.specs.Leader.{reaction, noReaction, withStored, withVolatile, broadcast, ceased, cease, votesFor, standing, standForElection, raised, elect, onAckVote}
 use Rattle.history.specs.Members.{_∈_, first-in, none-in, each-cons}
 use Rattle.history.specs.Quorum.{count, marked, quorum-of, quorum-marked}
 use Rattle.consistency.specs.Log.{Win, Write, Opened, Log}
@@ -114,11 +114,11 @@ module _ (n buckets now taken : ℕ) (half : n < 2 * majority n) (p : ℕ) (log 
   )
 
   -- leader with a majority of votes, candidate with fewer
-  pub stands-kept : Kept n buckets now taken p log (quiet (withVolatile s (standing n votes (s .volatile))))
+  pub stands-kept : Kept n buckets now taken p log (noReaction (withVolatile s (standing n votes (s .volatile))))
   unfolding standing
   stands-kept = go (leb (majority n) (votesFor votes)) refl
     where
-      go : (t : Bool) → leb (majority n) (votesFor votes) ≡ t → Kept n buckets now taken p log (quiet (withVolatile s (record {
+      go : (t : Bool) → leb (majority n) (votesFor votes) ≡ t → Kept n buckets now taken p log (noReaction (withVolatile s (record {
         role = elim t [ true ↦ leading | false ↦ candidate ];
         votes = votes;
         lastRound = s .volatile .lastRound;
@@ -173,23 +173,23 @@ module _ (n buckets now taken : ℕ) (half : n < 2 * majority n) (p : ℕ) (log 
   unfolding onAckVote
   ackvote-kept body = go (s .volatile .role) refl
     where
-      same : Kept n buckets now taken p log (quiet s)
+      same : Kept n buckets now taken p log (noReaction s)
       same = unmoved ok agrees [] (λ x i. none-in i)
 
       counts : s .volatile .role ≡ candidate → (t : Bool) → eqb (m .election) (s .stored .number) ≡ t → Kept n buckets now taken p log (elim t [
-        | false ↦ quiet s
-        | true ↦ quiet (withVolatile s (standing n (set (s .volatile .votes) (m .sender) true) (s .volatile)))
+        | false ↦ noReaction s
+        | true ↦ noReaction (withVolatile s (standing n (set (s .volatile .votes) (m .sender) true) (s .volatile)))
       ])
       counts e false f = same
       counts e true f = stands-kept n buckets now taken half p log ok s _ (noted e body (eqb-true _ _ f))
 
       go : (r : Role) → s .volatile .role ≡ r → Kept n buckets now taken p log (elim r [
-        | follower ↦ quiet s
-        | leading ↦ quiet s
+        | follower ↦ noReaction s
+        | leading ↦ noReaction s
         | candidate ↦
             elim (eqb (m .election) (s .stored .number)) [
-              | false ↦ quiet s
-              | true ↦ quiet (withVolatile s (standing n (set (s .volatile .votes) (m .sender) true) (s .volatile)))
+              | false ↦ noReaction s
+              | true ↦ noReaction (withVolatile s (standing n (set (s .volatile .votes) (m .sender) true) (s .volatile)))
             ]
       ])
       go follower e = same
@@ -221,7 +221,7 @@ module _ (n buckets now taken : ℕ) (half : n < 2 * majority n) (p : ℕ) (log 
         reports = h .reports;
       }
 
-  raise-kept : s .stored .number + 1 < s .stored .vote → Kept n buckets now taken p log (quiet (withStored s (raised (s .stored))))
+  raise-kept : s .stored .number + 1 < s .stored .vote → Kept n buckets now taken p log (noReaction (withStored s (raised (s .stored))))
   raise-kept l =
       unmoved ok (record {
         shape = record { copies = agrees .shape .copies; votes = agrees .shape .votes; rounds = agrees .shape .rounds; calls = agrees .shape .calls };
@@ -259,21 +259,21 @@ module _ (n buckets now taken : ℕ) (half : n < 2 * majority n) (p : ℕ) (log 
   requests-ok next = each-of-broadcast (MessageOk buckets next) n p 0 (s .stored .number + 1) 0 pleaseVote
       (λ q d. record { apart = λ e. d (sym e); positive = omega arith; claim = tt })
 
-  stand-kept : s .stored .vote ≤ s .stored .number + 1 → Kept n buckets now taken p log (stands n p (s .stored .number + 1) (withStored s (raised (s .stored))))
-  unfolding stands
+  stand-kept : s .stored .vote ≤ s .stored .number + 1 → Kept n buckets now taken p log (standForElection n p (s .stored .number + 1) (withStored s (raised (s .stored))))
+  unfolding standForElection
   stand-kept l = sending votes-for-itself _ (requests-ok _)
     where
       e : ℕ
       e = s .stored .number + 1
 
-      votes-for-itself : Kept n buckets now taken p log (quiet (record {
+      votes-for-itself : Kept n buckets now taken p log (noReaction (record {
         stored = afterVote e p (raised (s .stored));
         volatile = standing n (set (s .volatile .votes) p (grants e p (raised (s .stored)))) (s .volatile);
         stopped = s .stopped;
       }))
       votes-for-itself =
           vote-cases e p (raised (s .stored))
-          (λ st g. Kept n buckets now taken p log (quiet (record { stored = st; volatile = standing n (set (s .volatile .votes) p g) (s .volatile); stopped = s .stopped })))
+          (λ st g. Kept n buckets now taken p log (noReaction (record { stored = st; volatile = standing n (set (s .volatile .votes) p g) (s .volatile); stopped = s .stopped })))
           (λ k.
           let next = addVote (freshVote p e p) log in
           grown-before (adds-vote log (freshVote p e p)) refl refl
@@ -290,7 +290,7 @@ ceased-unset w q e = let z : _≡_ {A = ℕ} 0 1 = cc (List·getD-map (λ x. fal
 module _ (n buckets now taken : ℕ) (half : n < 2 * majority n) (p : ℕ) (log : Log) (ok : LogOk n now taken log) (s : Server) (agrees : ServerOk n buckets log p s) where
   -- the server ceases to lead or to stand, and then does the above
   pub elect-kept : Kept n buckets now taken p log (elect n p s)
-  unfolding elect cease ceased stands
+  unfolding elect cease ceased standForElection
   elect-kept = go (ltb (s .stored .number + 1) (s .stored .vote)) refl
     where
       k : Kept n buckets now taken p log (cease s)
@@ -307,7 +307,7 @@ module _ (n buckets now taken : ℕ) (half : n < 2 * majority n) (p : ℕ) (log 
           let r = withStored (f .server) (raised (s .stored)) in
           elim t [
             | true ↦ reaction r [] (f .answers)
-            | false ↦ let g = stands n p (s .stored .number + 1) r in reaction (g .server) (g .sends) (f .answers)
+            | false ↦ let g = standForElection n p (s .stored .number + 1) r in reaction (g .server) (g .sends) (f .answers)
           ])
       go true e = followed k (raise-kept n buckets now taken half p (k .next) (k .facts) (cease s .server) (k .server) refl idle unset (ltb-true _ _ e))
       go false e = followed k (stand-kept n buckets now taken half p (k .next) (k .facts) (cease s .server) (k .server) refl idle unset (ltb-false _ _ e))

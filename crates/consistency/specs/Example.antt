@@ -11,7 +11,7 @@ use lib.ListN.{take}
 use Rattle.entries.specs.Entries.{Entry, entry}
 use Rattle.model.specs.Calls.{get, set, Result, value, listed, done, mismatch, full, notdone, unknown}
 use Rattle.model.specs.Cluster.{version, copyAt}
-use Rattle.model.specs.Lines.{nothing}
+use Rattle.model.specs.Lines.{initialState}
 use Rattle.model.specs.Text.{bytes}
 use Rattle.model.specs.Run.{stateAfter, linesOf, run}
 use Rattle.model.specs.Compute.{computing}
@@ -31,20 +31,20 @@ unfolding computing
 prints = refl
 
 -- after line 12 server 2 has stored call 1's write, and after line 17 that of call 2; line 18 hands it the former again
-first-write : copyAt (serverIn (stateAfter nothing (take 12 script)) 2 .stored) 0 .version ≡ version 1 2
+first-write : copyAt (serverIn (stateAfter initialState (take 12 script)) 2 .stored) 0 .version ≡ version 1 2
 unfolding computing
 first-write = refl
 
-second-write : copyAt (serverIn (stateAfter nothing (take 17 script)) 2 .stored) 0 .version ≡ version 1 3
+second-write : copyAt (serverIn (stateAfter initialState (take 17 script)) 2 .stored) 0 .version ≡ version 1 3
 unfolding computing
 second-write = refl
 
-late-copy-replaces-nothing : copyAt (serverIn (stateAfter nothing (take 18 script)) 2 .stored) 0 .version ≡ version 1 3
+late-copy-replaces-nothing : copyAt (serverIn (stateAfter initialState (take 18 script)) 2 .stored) 0 .version ≡ version 1 3
 unfolding computing
 late-copy-replaces-nothing = refl
 
 -- two leaders at once, under two numbers
-two-leaders : LeadsIn (stateAfter nothing (take 22 script)) 0 1 × LeadsIn (stateAfter nothing (take 22 script)) 1 2
+two-leaders : LeadsIn (stateAfter initialState (take 22 script)) 0 1 × LeadsIn (stateAfter initialState (take 22 script)) 1 2
 unfolding computing
 two-leaders = ((refl, refl), (refl, refl))
 

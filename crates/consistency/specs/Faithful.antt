@@ -1,21 +1,21 @@
 -- The definitions set the mark of a round's own leader without asking it. That is what asking would give: a leader's vote is its
--- number, so it heeds its own request.
+-- number, so it accepts its own request.
 use mathlib.Core.Path.{_≡_, refl, sym, _∙_, ap}
 use mathlib.Core.List.{List, [], _∷_}
 use Prim.Native.Nat.{ℕ, _+_, _≤_}
 use native.Mathlib.Omega.{arith}
 use borrow.Author.Tests.{le-ltb}
 use Rattle.model.specs.Cluster.{Stored, Purpose, Server, Message}
-use Rattle.model.specs.Replica.{Request, reading, writing, requestBody, heeds, accepting, acknowledging}
-use Rattle.model.specs.Leader.{reaction, quiet, withStored, replyTo, replying, settle, opening, onRequest, handle}
-use Rattle.model.specs.Lines.{nothing}
+use Rattle.model.specs.Replica.{Request, reading, writing, requestBody, mayAccept, accepting, acknowledging}
+use Rattle.model.specs.Leader.{reaction, noReaction, withStored, replyTo, replying, stepDown, opening, onRequest, handle}
+use Rattle.model.specs.Lines.{initialState}
 use Rattle.model.specs.Run.{stateAfter}
 use Rattle.consistency.specs.Storing.{storing-keeps}
 use Rattle.consistency.specs.Reached.{serverIn, LeadsIn}
 use Rattle.consistency.specs.Agreed.{leader-facts, reached}
 use Rattle.consistency.specs.Runs.{script-leaves}
 
-pub leader-votes-for-its-number : (ls : List (List ℕ)) (p e : ℕ) → LeadsIn (stateAfter nothing ls) p e → serverIn (stateAfter nothing ls) p .stored .vote ≡ e
+pub leader-votes-for-its-number : (ls : List (List ℕ)) (p e : ℕ) → LeadsIn (stateAfter initialState ls) p e → serverIn (stateAfter initialState ls) p .stored .vote ≡ e
 leader-votes-for-its-number ls p e (r, i) =
     let h = script-leaves ls in
     leader-facts (h .now) (h .count) (h .buckets) (reached ls .cluster) (h .log) (h .agrees) p r .1 ∙ i
@@ -30,39 +30,39 @@ abbrev pub toItself : ℕ → ℕ → Request → Server → Message
 toItself p b request s =
     record { sender = p; receiver = p; bucket = b; election = s .stored .number; round = s .volatile .lastRound + 1; body = requestBody request }
 
-settled : (s : Server) → s .stored .vote ≤ s .stored .number → settle s ≡ quiet s
-unfolding settle
-settled s h = rw (settle, le-ltb _ _ h)
+settled : (s : Server) → s .stored .vote ≤ s .stored .number → stepDown s ≡ noReaction s
+unfolding stepDown
+settled s h = rw (stepDown, le-ltb _ _ h)
 
 requested : (p b : ℕ) (request : Request) (s : Server) → s .stored .vote ≡ s .stored .number
     → let st = accepting b (s .stored .number) p request (s .stored) in
     let m = toItself p b request s in
     onRequest p m request s ≡ reaction (withStored s st) (replyTo p m (acknowledging b request st) ∷ []) []
-unfolding onRequest heeds
+unfolding onRequest mayAccept
 requested p b request s v =
     let st = accepting b (s .stored .number) p request (s .stored) in
     let m = toItself p b request s in
     let (x, y) = accepting-votes b (s .stored .number) p request (s .stored) in
-    rw (onRequest, heeds, le-ltb (s .stored .number) (s .stored .vote) (omega arith))
+    rw (onRequest, mayAccept, le-ltb (s .stored .number) (s .stored .vote) (omega arith))
     (ap (λ r. replying r (replyTo p m (acknowledging b request st))) (settled (withStored s st) (omega arith)))
 
 -- a server whose vote is its number would acknowledge the request of its own round if it were sent to it, store what the opening of
 -- the round stores, and lead on
-pub heeds-itself : (n p b : ℕ) (purpose : Purpose) (request : Request) (s : Server) → s .stored .vote ≡ s .stored .number
+pub accepts-own-request : (n p b : ℕ) (purpose : Purpose) (request : Request) (s : Server) → s .stored .vote ≡ s .stored .number
     → let st = opening n p b purpose request s .stored in
     let m = toItself p b request s in
     handle n p m s ≡ reaction (withStored s st) (replyTo p m (acknowledging b request st) ∷ []) []
 unfolding handle opening requestBody
-heeds-itself n p b purpose reading s v = requested p b reading s v
-heeds-itself n p b purpose (writing x t) s v = requested p b (writing x t) s v
+accepts-own-request n p b purpose reading s v = requested p b reading s v
+accepts-own-request n p b purpose (writing x t) s v = requested p b (writing x t) s v
 
 -- every leader that a script reaches is such a server
-pub leader-heeds-itself : (ls : List (List ℕ)) (n p e b : ℕ) (purpose : Purpose) (request : Request) → LeadsIn (stateAfter nothing ls) p e
-    → let s = serverIn (stateAfter nothing ls) p in
+pub leader-accepts-its-own-requests : (ls : List (List ℕ)) (n p e b : ℕ) (purpose : Purpose) (request : Request) → LeadsIn (stateAfter initialState ls) p e
+    → let s = serverIn (stateAfter initialState ls) p in
     let st = opening n p b purpose request s .stored in
     let m = toItself p b request s in
     handle n p m s ≡ reaction (withStored s st) (replyTo p m (acknowledging b request st) ∷ []) []
-leader-heeds-itself ls n p e b purpose request l = heeds-itself n p b purpose request (serverIn (reached ls) p) (leader-votes-for-its-number ls p e l ∙ sym (l .1))
+leader-accepts-its-own-requests ls n p e b purpose request l = accepts-own-request n p b purpose request (serverIn (reached ls) p) (leader-votes-for-its-number ls p e l ∙ sym (l .1))
 
 -- and its vote is still its number afterwards, where a line opens more than one round
 pub opening-keeps-vote : (n p b : ℕ) (purpose : Purpose) (request : Request) (s : Server) → opening n p b purpose request s .stored .vote ≡ opening n p b purpose request s .stored .number

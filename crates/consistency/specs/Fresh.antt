@@ -11,7 +11,7 @@ use Rattle.entries.specs.Entries.{Entry}
 use Rattle.model.specs.Measures.{majority}
 use Rattle.model.specs.Calls.{done, notdone, unknown, answers, effect}
 use Rattle.model.specs.Cluster.{Version, copyAt, Cluster}
-use Rattle.model.specs.Lines.{nothing}
+use Rattle.model.specs.Lines.{initialState}
 use Rattle.model.specs.Run.{stateAfter}
 use Rattle.history.specs.Members.{_∈_, none-in, clash}
 use Rattle.history.specs.Version.{_≼_}
@@ -99,7 +99,7 @@ module _ {o : Option Cluster} {log : Log} {bs : List Begin} {es : List End} (ran
 -- ---- a leader that has lost its majority gives no answer from its own copy
 
 -- every answer `value`, `keys`, `mismatch` or `full` is fresh
-pub answers-are-fresh : (ls : List (List ℕ)) (c : Cluster) → stateAfter nothing ls .cluster ≡ some c
+pub answers-are-fresh : (ls : List (List ℕ)) (c : Cluster) → stateAfter initialState ls .cluster ≡ some c
     → (y : End) → y ∈ ends ls → (y .result ≡ done → ⊥) → (y .result ≡ unknown → ⊥) → (y .result ≡ notdone → ⊥) → Fresh (length (c .servers)) (logOf ls) (begins ls) y
 answers-are-fresh ls c stands y m =
     let ran = ran-of (script-leaves ls) in
@@ -116,16 +116,16 @@ written-by-then now count b (some c) log h w m = h .0 .facts .time .writes w m
 -- no server, in any state before the line in which the checking round opened (no earlier than the call's own line), stored a newer
 -- version than the one that the call was answered at
 pub no-newer-copy : (ls : List (List ℕ)) {n : ℕ} {y : End} (f : Fresh n (logOf ls) (begins ls) y) (k : ℕ) → k < f .check .line
-    → (p : ℕ) → copyAt (serverIn (stateAfter nothing (take k ls)) p .stored) (f .call .bucket) .version ≼ f .check .at
-no-newer-copy ls f k before p = go (copy-held (h .now) (h .count) (h .buckets) (stateAfter nothing (take k ls) .cluster) (h .log) (h .agrees) p (f .call .bucket))
+    → (p : ℕ) → copyAt (serverIn (stateAfter initialState (take k ls)) p .stored) (f .call .bucket) .version ≼ f .check .at
+no-newer-copy ls f k before p = go (copy-held (h .now) (h .count) (h .buckets) (stateAfter initialState (take k ls) .cluster) (h .log) (h .agrees) p (f .call .bucket))
   where
-    h : Passed (0 + k) (stateAfter nothing (take k ls)) (logOf ls)
+    h : Passed (0 + k) (stateAfter initialState (take k ls)) (logOf ls)
     h = script-leaves ls .passed k
 
     go : {x : Version} {t : List Entry} → Holds (h .log) (f .call .bucket) x t → x ≼ f .check .at
     go (first e i) = rw e (record { elections = omega arith; counters = λ l. omega arith })
     go (later w m i j l) =
-        let then = written-by-then (h .now) (h .count) (h .buckets) (stateAfter nothing (take k ls) .cluster) (h .log) (h .agrees) w m in
+        let then = written-by-then (h .now) (h .count) (h .buckets) (stateAfter initialState (take k ls) .cluster) (h .log) (h .agrees) w m in
         rw (← j) (f .newest w (h .grows .writes w m) i (omega (arith, h .early)))
 
 -- ---- a call that ended as `notdone` has no effect

@@ -8,7 +8,7 @@ use lib.Seq.{getD-set-same, getD-set-other}
 use Rattle.model.specs.Measures.{majority}
 use Rattle.model.specs.Cluster.{Server, Message, Cluster, freshServer}
 use Rattle.model.specs.Leader.{Reaction}
-use Rattle.model.specs.Lines.{serverAt, stepped}
+use Rattle.model.specs.Lines.{serverAt, afterStep}
 use Rattle.history.specs.Members.{_∈_, each-append}
 use Rattle.consistency.specs.Log.{Log, _⊆_}
 use Rattle.consistency.specs.Claims.{MessageOk}
@@ -40,7 +40,7 @@ module _ {now taken : ℕ} {c : Cluster} {log base : Log} (half : length (c .ser
       ]
 
   -- server p's step, with the messages that stay
-  pub stepped-good : (still : List Message) → still ⊆ c .messages → Good now (stepped c p still taken r) (kept .next)
+  pub stepped-good : (still : List Message) → still ⊆ c .messages → Good now (afterStep c p still taken r) (kept .next)
   stepped-good still sub =
       record {
         facts = rw length-set (kept .facts);

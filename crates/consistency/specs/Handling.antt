@@ -5,7 +5,7 @@ use Prim.Native.Nat.{ℕ, _*_, _<_}
 use Rattle.model.specs.Measures.{majority}
 use Rattle.model.specs.Cluster.{Server, Body, pleaseVote, ackVote, nackVote, replicaWrite, ackWrite, nackWrite, replicaRead, ackRead, nackRead, Message, freshCopy, acknowledged, refused}
 use Rattle.model.specs.Replica.{reading, writing}
-use Rattle.model.specs.Leader.{Reaction, quiet, onAckVote, onPleaseVote, onRequest, onReply, handle}
+use Rattle.model.specs.Leader.{Reaction, noReaction, onAckVote, onPleaseVote, onRequest, onReply, handle}
 use Rattle.history.specs.Members.{none-in}
 use Rattle.consistency.specs.Log.{Log}
 use Rattle.consistency.specs.Claims.{MessageOk}
@@ -24,7 +24,7 @@ module _ (n buckets now taken : ℕ) (half : n < 2 * majority n) {log : Log} (ok
       (elim body as (λ _. Reaction) [
         | pleaseVote ↦ onPleaseVote (m .receiver) m s
         | ackVote ↦ onAckVote n (m .sender) (m .election) s
-        | nackVote ↦ quiet s
+        | nackVote ↦ noReaction s
         | replicaWrite v t ↦ onRequest (m .receiver) m (writing v t) s
         | ackWrite ↦ onReply n (m .receiver) m acknowledged freshCopy s
         | nackWrite ↦ onReply n (m .receiver) m refused freshCopy s

@@ -9,9 +9,9 @@ use Prim.Native.Nat.{ℕ, _≤_}
 use native.Mathlib.Omega.{arith}
 use Rattle.entries.specs.Entries.{Entry}
 use Rattle.model.specs.Cluster.{Version, Stored, copyAt, Role, follower, candidate, leading, Server, Message, ackWrite}
-use Rattle.model.specs.Replica.{voting, writing, heeds, storing, accepting, acknowledging}
-use Rattle.model.specs.Leader.{Reaction, quiet, cease, withStored, replyTo, settle, onRequest}
-use Rattle.model.specs.Lines.{nothing}
+use Rattle.model.specs.Replica.{voting, writing, mayAccept, storing, accepting, acknowledging}
+use Rattle.model.specs.Leader.{Reaction, noReaction, cease, withStored, replyTo, stepDown, onRequest}
+use Rattle.model.specs.Lines.{initialState}
 use Rattle.model.specs.Run.{stateAfter}
 use Rattle.history.specs.Version.{_≼_, lt-not-le}
 use Rattle.consistency.specs.Statement.{Distinct, ends}
@@ -27,18 +27,18 @@ use Rattle.consistency.specs.Runs.{ran-of, script-leaves}
 -- ---- at most one leader under an election number
 
 -- over the whole run: whoever leads under a number, then or later, is the same server
-pub one-leader-ever : (ls ms : List (List ℕ)) (p q e : ℕ) → LeadsIn (stateAfter nothing ls) p e → LeadsIn (stateAfter nothing (ls ++ ms)) q e → p ≡ q
+pub one-leader-ever : (ls ms : List (List ℕ)) (p q e : ℕ) → LeadsIn (stateAfter initialState ls) p e → LeadsIn (stateAfter initialState (ls ++ ms)) q e → p ≡ q
 one-leader-ever ls ms p q e (r, i) then =
     let h = script-leaves ls in
     let (bs, es, k) = goes-on ls ms in
-    let (t, j) = subst (λ s. LeadsIn s q e) (after-both nothing ls ms) then in
+    let (t, j) = subst (λ s. LeadsIn s q e) (after-both initialState ls ms) then in
     let a = leader-facts (h .now) (h .count) (h .buckets) (reached ls .cluster) (h .log) (h .agrees) p r .0 in
     let b = leader-facts (k .now) (k .count) (k .buckets) (stateAfter (reached ls) ms .cluster) (k .log) (k .agrees) q t .0 in
     let ran = ran-of k in
     one-winner (ran .servers) (ran .half) (ran .facts .votes) (won-grows (k .grows) (rw i at a)) (rw j at b)
 
 -- in one state
-pub one-leader : (ls : List (List ℕ)) (p q e : ℕ) → LeadsIn (stateAfter nothing ls) p e → LeadsIn (stateAfter nothing ls) q e → p ≡ q
+pub one-leader : (ls : List (List ℕ)) (p q e : ℕ) → LeadsIn (stateAfter initialState ls) p e → LeadsIn (stateAfter initialState ls) q e → p ≡ q
 one-leader ls p q e a b = one-leader-ever ls [] p q e a (rw (append-nil ls) b)
 
 -- ---- a server that ceased to lead under a number never leads under it again
@@ -55,11 +55,11 @@ past s t u e f g i j not-then (k, l) = go (t .volatile .role) refl
     go candidate x = let m : 1 ≤ 0 = rw (i, x) at (f .role (same ∙ sym j)) in omega arith
     go follower x = let m : 2 ≤ 1 = rw (x, k) at (g .role (l ∙ sym same)) in omega arith
 
-pub never-leads-again : (ls ms ks : List (List ℕ)) (p e : ℕ) → LeadsIn (stateAfter nothing ls) p e
-    → (LeadsIn (stateAfter nothing (ls ++ ms)) p e → ⊥) → LeadsIn (stateAfter nothing ((ls ++ ms) ++ ks)) p e → ⊥
+pub never-leads-again : (ls ms ks : List (List ℕ)) (p e : ℕ) → LeadsIn (stateAfter initialState ls) p e
+    → (LeadsIn (stateAfter initialState (ls ++ ms)) p e → ⊥) → LeadsIn (stateAfter initialState ((ls ++ ms) ++ ks)) p e → ⊥
 never-leads-again ls ms ks p e (i, j) =
-    let f : Onward (serverIn (reached ls) p) (serverIn (reached (ls ++ ms)) p) = rw (after-both nothing ls ms) (lines-onward (reached ls) ms p) in
-    let g : Onward (serverIn (reached (ls ++ ms)) p) (serverIn (reached ((ls ++ ms) ++ ks)) p) = rw (after-both nothing (ls ++ ms) ks) (lines-onward (reached (ls ++ ms)) ks p) in
+    let f : Onward (serverIn (reached ls) p) (serverIn (reached (ls ++ ms)) p) = rw (after-both initialState ls ms) (lines-onward (reached ls) ms p) in
+    let g : Onward (serverIn (reached (ls ++ ms)) p) (serverIn (reached ((ls ++ ms) ++ ks)) p) = rw (after-both initialState (ls ++ ms) ks) (lines-onward (reached (ls ++ ms)) ks p) in
     past _ _ _ e f g i j
 
 -- ---- a late copy of an old write never replaces a newer one
@@ -68,29 +68,29 @@ never-leads-again ls ms ks p e (i, j) =
 pub late-write-changes-nothing : (b : ℕ) (v : Version) (t : List Entry) (st : Stored) → v ≼ copyAt st b .version → storing b v t st ≡ st
 late-write-changes-nothing b v t st h = storing-cases b v t st (λ x. x ≡ st) (λ l. refl) (λ l. absurd (lt-not-le l h))
 
-settle-stored : (s : Server) → settle s .server .stored ≡ s .stored
-unfolding settle cease
-settle-stored s = elim (ltb (s .stored .number) (s .stored .vote)) as (λ t. let r : Reaction = elim t [ true ↦ cease s | false ↦ quiet s ] in r .server .stored ≡ s .stored) [ true ↦ refl | false ↦ refl ]
+step-down-stored : (s : Server) → stepDown s .server .stored ≡ s .stored
+unfolding stepDown cease
+step-down-stored s = elim (ltb (s .stored .number) (s .stored .vote)) as (λ t. let r : Reaction = elim t [ true ↦ cease s | false ↦ noReaction s ] in r .server .stored ≡ s .stored) [ true ↦ refl | false ↦ refl ]
 
--- a server that heeds such a write acknowledges it and keeps its copies
-pub late-write-acknowledged : (me : ℕ) (m : Message) (v : Version) (t : List Entry) (s : Server) → heeds (m .election) (s .stored) ≡ true → v ≼ copyAt (s .stored) (m .bucket) .version
+-- a server that accepts such a write acknowledges it and keeps its copies
+pub late-write-acknowledged : (me : ℕ) (m : Message) (v : Version) (t : List Entry) (s : Server) → mayAccept (m .election) (s .stored) ≡ true → v ≼ copyAt (s .stored) (m .bucket) .version
     → (onRequest me m (writing v t) s .sends ≡ replyTo me m ackWrite ∷ []) × (onRequest me m (writing v t) s .server .stored .copies ≡ s .stored .copies)
 unfolding onRequest accepting acknowledging
 late-write-acknowledged me m v t s e h =
     let st = voting (m .election) (m .sender) (s .stored) in
     rw (onRequest, e)
-    (refl, ap (λ x. x .copies) (settle-stored (withStored s (storing (m .bucket) v t st)) ∙ late-write-changes-nothing (m .bucket) v t st h))
+    (refl, ap (λ x. x .copies) (step-down-stored (withStored s (storing (m .bucket) v t st)) ∙ late-write-changes-nothing (m .bucket) v t st h))
 
 -- the machine: whatever lines follow, no server's copy of a bucket is older than it was
 pub copies-never-older : (ls ms : List (List ℕ)) (p b : ℕ)
-    → copyAt (serverIn (stateAfter nothing ls) p .stored) b .version ≼ copyAt (serverIn (stateAfter nothing (ls ++ ms)) p .stored) b .version
-copies-never-older ls ms p b = rw (after-both nothing ls ms) (lines-onward (reached ls) ms p .copies b)
+    → copyAt (serverIn (stateAfter initialState ls) p .stored) b .version ≼ copyAt (serverIn (stateAfter initialState (ls ++ ms)) p .stored) b .version
+copies-never-older ls ms p b = rw (after-both initialState ls ms) (lines-onward (reached ls) ms p .copies b)
 
 -- and a copy of the same version, at that server or another, then or later, has the same table
 pub same-version-same-table : (ls ms : List (List ℕ)) (p q b : ℕ)
-    → copyAt (serverIn (stateAfter nothing ls) p .stored) b .version ≡ copyAt (serverIn (stateAfter nothing (ls ++ ms)) q .stored) b .version
-    → copyAt (serverIn (stateAfter nothing ls) p .stored) b .table ≡ copyAt (serverIn (stateAfter nothing (ls ++ ms)) q .stored) b .table
-same-version-same-table ls ms p q b = rw (after-both nothing ls ms) go
+    → copyAt (serverIn (stateAfter initialState ls) p .stored) b .version ≡ copyAt (serverIn (stateAfter initialState (ls ++ ms)) q .stored) b .version
+    → copyAt (serverIn (stateAfter initialState ls) p .stored) b .table ≡ copyAt (serverIn (stateAfter initialState (ls ++ ms)) q .stored) b .table
+same-version-same-table ls ms p q b = rw (after-both initialState ls ms) go
   where
     go : copyAt (serverIn (reached ls) p .stored) b .version ≡ copyAt (serverIn (stateAfter (reached ls) ms) q .stored) b .version
         → copyAt (serverIn (reached ls) p .stored) b .table ≡ copyAt (serverIn (stateAfter (reached ls) ms) q .stored) b .table

@@ -13,8 +13,8 @@ use lib.ListN.{length, getD, set}
 use Rattle.entries.specs.Entries.{Entry}
 use Rattle.model.specs.Calls.{Words, Result, done, Effect, answers, writes, effect}
 use Rattle.model.specs.Cluster.{Version, version, Copy, freshCopy, Stored, copyAt, Role, follower, candidate, leading, Purpose, recoveryRead, recoveryWrite, check, ownWrite, Mark, acknowledged, refused, Round, Volatile, roundAt, callAt, Server, Body, pleaseVote, ackVote, nackVote, replicaWrite, ackWrite, nackWrite, replicaRead, ackRead, nackRead, Message}
-use Rattle.model.specs.Replica.{afterVote, Request, reading, writing, heeds, storing, accepting, acknowledging, refusing}
-use Rattle.model.specs.Leader.{Reaction, reaction, quiet, after, withStored, withRound, endings, cease, settle, standing, stands, elect, onAckVote, closes, fails, newRound, opening, openRound, answerOf, finish, applying, afterRead, checking, recovering, readBucket, beginCall, closed, counted, counting, onReply, onPleaseVote, onRequest, handle}
+use Rattle.model.specs.Replica.{afterVote, Request, reading, writing, mayAccept, storing, accepting, acknowledging, refusing}
+use Rattle.model.specs.Leader.{Reaction, reaction, noReaction, after, withStored, withRound, endings, cease, stepDown, standing, standForElection, elect, onAckVote, closes, fails, newRound, opening, openRound, answerOf, finish, applying, afterRead, checking, recovering, startRead, beginCall, closed, counted, counting, onReply, onPleaseVote, onRequest, handle}
 use Rattle.model.specs.Leader
 use Rattle.history.specs.Version.{_≼_, le-refl, le-trans, le-of-lt}
 use Rattle.consistency.specs.Storing.{storing-cases}
@@ -118,7 +118,7 @@ module _ (n me b : ℕ) where
   unfolding afterRead
   afterRead-moves s =
       elim (callAt (s .volatile) b) as
-      (λ c. Moves s (elim c [ none ↦ quiet s | some c ↦ applying n me b (effect (c .words) (copyAt (s .stored) b .table)) s ]))
+      (λ c. Moves s (elim c [ none ↦ noReaction s | some c ↦ applying n me b (effect (c .words) (copyAt (s .stored) b .table)) s ]))
       [ none ↦ still s [] | some c ↦ applying-moves _ s ]
 
   checking-moves : (s : Server) → Moves s (checking n me b s)
@@ -129,9 +129,9 @@ module _ (n me b : ℕ) where
   unfolding recovering
   recovering-moves t s = open-moves recoveryWrite _ (checking n me b) checking-moves s
 
-  readBucket-moves : (s : Server) → Moves s (readBucket n me b s)
-  unfolding readBucket
-  readBucket-moves s =
+  start-read-moves : (s : Server) → Moves s (startRead n me b s)
+  unfolding startRead
+  start-read-moves s =
       elim (eqb (copyAt (s .stored) b .version .election) (s .stored .number)) as
       (λ t. Moves s (elim t [ true ↦ checking n me b s | false ↦ openRound n me b recoveryRead reading (recovering n me b (copyAt (s .stored) b .table)) s ])) [
         | true ↦ checking-moves s
@@ -144,7 +144,7 @@ module _ (n me b : ℕ) where
       let w = s .volatile in
       let t : Server = record { stored = s .stored; volatile = record { role = w .role; votes = w .votes; lastRound = w .lastRound; rounds = w .rounds; calls = set (w .calls) b (some (record { number = i; words = words; rounds = 0; sent = false })) }; stopped = s .stopped } in
       let on : Onward s t = record { number = omega arith; role = λ e. omega arith; copies = λ k. le-refl _ } in
-      let g = readBucket-moves t in
+      let g = start-read-moves t in
       record { onward = onward-trans on (g .onward); one = g .one }
 
   closed-moves : (r : Round) (s : Server) → Moves s (closed n me b r s)
@@ -177,25 +177,25 @@ cease-goes s =
     }
 
 -- what is stored is renewed, then the server may cease
-settle-goes : (s : Server) (st : Stored) → Renewed (s .stored) st → (ms : List Message) → Goes s (reaction (settle (withStored s st) .server) ms (settle (withStored s st) .answers))
-unfolding settle
-settle-goes s st h ms =
+step-down-goes : (s : Server) (st : Stored) → Renewed (s .stored) st → (ms : List Message) → Goes s (reaction (stepDown (withStored s st) .server) ms (stepDown (withStored s st) .answers))
+unfolding stepDown
+step-down-goes s st h ms =
     let on : Onward s (withStored s st) = renewed s h refl in
     elim (ltb (st .number) (st .vote)) as
-    (λ t. let r : Reaction = elim t [ true ↦ cease (withStored s st) | false ↦ quiet (withStored s st) ] in Goes s (reaction (r .server) ms (r .answers))) [
+    (λ t. let r : Reaction = elim t [ true ↦ cease (withStored s st) | false ↦ noReaction (withStored s st) ] in Goes s (reaction (r .server) ms (r .answers))) [
       | true ↦ let g = cease-goes (withStored s st) in record { onward = onward-trans on (g .onward); answers = g .answers }
       | false ↦ record { onward = on; answers = inl (omega arith) }
     ]
 
 pub elect-goes : (n me : ℕ) (s : Server) → Goes s (elect n me s)
-unfolding elect stands cease
+unfolding elect standForElection cease
 elect-goes n me s = go (ltb (s .stored .number + 1) (s .stored .vote))
   where
     go : (t : Bool) → Goes s (elim t [
       | true ↦ reaction (withStored (cease s .server) (Leader.raised (s .stored))) [] (endings (s .volatile .calls))
       | false ↦
-          reaction (stands n me (s .stored .number + 1) (withStored (cease s .server) (Leader.raised (s .stored))) .server)
-          (stands n me (s .stored .number + 1) (withStored (cease s .server) (Leader.raised (s .stored))) .sends) (endings (s .volatile .calls))
+          reaction (standForElection n me (s .stored .number + 1) (withStored (cease s .server) (Leader.raised (s .stored))) .server)
+          (standForElection n me (s .stored .number + 1) (withStored (cease s .server) (Leader.raised (s .stored))) .sends) (endings (s .volatile .calls))
     ])
     go true = record { onward = record { number = omega arith; role = λ e. absurd (omega arith); copies = λ k. le-refl _ }; answers = inr refl }
     go false =
@@ -207,9 +207,9 @@ unfolding onAckVote
 ackvote-goes n q e s = go (s .volatile .role) refl (eqb e (s .stored .number))
   where
     go : (r : Role) → s .volatile .role ≡ r → (t : Bool) → Goes s (elim r [
-      | follower ↦ quiet s
-      | leading ↦ quiet s
-      | candidate ↦ elim t [ false ↦ quiet s | true ↦ quiet (Leader.withVolatile s (standing n (set (s .volatile .votes) q true) (s .volatile))) ]
+      | follower ↦ noReaction s
+      | leading ↦ noReaction s
+      | candidate ↦ elim t [ false ↦ noReaction s | true ↦ noReaction (Leader.withVolatile s (standing n (set (s .volatile .votes) q true) (s .volatile))) ]
     ])
     go follower i t = going (still s [])
     go leading i t = going (still s [])
@@ -224,7 +224,7 @@ module _ (n me : ℕ) (m : Message) where
       with-round : Onward s (withRound s b r)
       with-round = record { number = omega arith; role = λ e. omega arith; copies = λ k. le-refl _ }
 
-      go : (t u : Bool) → Goes s (elim t [ true ↦ closed n me b r (withRound s b r) | false ↦ elim u [ true ↦ cease s | false ↦ quiet (withRound s b r) ] ])
+      go : (t u : Bool) → Goes s (elim t [ true ↦ closed n me b r (withRound s b r) | false ↦ elim u [ true ↦ cease s | false ↦ noReaction (withRound s b r) ] ])
       go true u = let g = closed-moves n me b r (withRound s b r) in record { onward = onward-trans with-round (g .onward); answers = inl (g .one) }
       go false true = cease-goes s
       go false false = record { onward = with-round; answers = inl (omega arith) }
@@ -234,16 +234,16 @@ module _ (n me : ℕ) (m : Message) where
   reply-goes mark report s = by-round (roundAt (s .volatile) (m .bucket))
     where
       by-number : (r : Round) (t u : Bool)
-          → Goes s (elim t [ false ↦ quiet s | true ↦ elim u [ false ↦ quiet s | true ↦ counting n me (m .bucket) (counted (m .sender) mark report r) s ] ])
+          → Goes s (elim t [ false ↦ noReaction s | true ↦ elim u [ false ↦ noReaction s | true ↦ counting n me (m .bucket) (counted (m .sender) mark report r) s ] ])
       by-number r false u = going (still s [])
       by-number r true false = going (still s [])
       by-number r true true = counting-goes (m .bucket) (counted (m .sender) mark report r) s
 
       by-round : (o : Option Round) → Goes s (elim o [
-        | none ↦ quiet s
+        | none ↦ noReaction s
         | some r ↦ elim (eqb (m .election) (r .election)) [
-          | false ↦ quiet s
-          | true ↦ elim (eqb (m .round) (r .number)) [ false ↦ quiet s | true ↦ counting n me (m .bucket) (counted (m .sender) mark report r) s ]
+          | false ↦ noReaction s
+          | true ↦ elim (eqb (m .round) (r .number)) [ false ↦ noReaction s | true ↦ counting n me (m .bucket) (counted (m .sender) mark report r) s ]
         ]
       ])
       by-round none = going (still s [])
@@ -251,18 +251,18 @@ module _ (n me : ℕ) (m : Message) where
 
   request-goes : (request : Request) (s : Server) → Goes s (onRequest me m request s)
   unfolding onRequest
-  request-goes request s = go (heeds (m .election) (s .stored)) _ (accepting-renews (m .bucket) (m .election) (m .sender) request (s .stored))
+  request-goes request s = go (mayAccept (m .election) (s .stored)) _ (accepting-renews (m .bucket) (m .election) (m .sender) request (s .stored))
     where
       go : (t : Bool) (st : Stored) → Renewed (s .stored) st → Goes s (elim t [
         | false ↦ reaction s (Leader.replyTo me m (refusing request) ∷ []) []
-        | true ↦ Leader.replying (settle (withStored s st)) (Leader.replyTo me m (acknowledging (m .bucket) request st))
+        | true ↦ Leader.replying (stepDown (withStored s st)) (Leader.replyTo me m (acknowledging (m .bucket) request st))
       ])
       go false st h = going (still s _)
-      go true st h = settle-goes s st h _
+      go true st h = step-down-goes s st h _
 
   vote-goes : (s : Server) → Goes s (onPleaseVote me m s)
   unfolding onPleaseVote
-  vote-goes s = settle-goes s _ (vote-renews (m .election) (m .sender) (s .stored)) _
+  vote-goes s = step-down-goes s _ (vote-renews (m .election) (m .sender) (s .stored)) _
 
   pub handle-goes : (s : Server) → Goes s (handle n me m s)
   unfolding handle
@@ -271,7 +271,7 @@ module _ (n me : ℕ) (m : Message) where
       go : (body : Body) → Goes s (elim body as (λ _. Reaction) [
         | pleaseVote ↦ onPleaseVote me m s
         | ackVote ↦ onAckVote n (m .sender) (m .election) s
-        | nackVote ↦ quiet s
+        | nackVote ↦ noReaction s
         | replicaWrite v t ↦ onRequest me m (writing v t) s
         | ackWrite ↦ onReply n me m acknowledged freshCopy s
         | nackWrite ↦ onReply n me m refused freshCopy s

@@ -9,11 +9,11 @@ use lib.ListN.{length, getD, set, replicate}
 use Rattle.model.specs.Calls.{bucketFor}
 use Rattle.model.specs.Cluster.{Copy, freshCopy, copyAt, leading, Server, Message, Cluster, freshServer, freshCluster}
 use Rattle.model.specs.Leader.{handle}
-use Rattle.model.specs.Lines.{Line, cluster, elect, call, deliver, copy, lose, timeout, stop, State, Stepped, Work, serverAt, messageAt, dropAt, stoppedAt, wasted, handed, handing, work}
+use Rattle.model.specs.Lines.{Line, cluster, elect, call, deliver, copy, lose, timeout, stop, State, LineResult, Work, serverAt, messageAt, dropAt, stoppedAt, lostMessage, deliveredTo, delivery, work}
 use Rattle.model.specs.Parse.{parse}
 use Rattle.model.specs.Run.{step, stateAfter}
 use Rattle.history.specs.Version.{_≼_, le-refl}
-use Rattle.limits.specs.Refusals.{ComesOut, turned, founded, took, comes-out}
+use Rattle.limits.specs.Refusals.{ComesOut, refused-by, founded, took, comes-out}
 use Rattle.consistency.specs.Onward.{Onward, onward-refl, onward-trans, set-either, beginCall-moves, cease-goes, elect-goes, handle-goes}
 
 -- server p of the cluster that stands; where there is none a server that has done nothing
@@ -35,11 +35,11 @@ module _ (c : Cluster) (p : ℕ) where
   one-moves : (s : ℕ) (t : Server) → Onward (serverAt c s) t → Onward (serverAt c p) (getD (set (c .servers) s t) p (freshServer 0 0))
   one-moves s t h = set-either (Onward (serverAt c p)) (c .servers) s p t (freshServer 0 0) (onward-refl _) (λ e. rw e h)
 
-  handing-onward : (m : Message) (kept : List Message) (copied : ℕ) → Onward (serverAt c p) (serverAt (handing c m kept copied .cluster) p)
-  unfolding handing
-  handing-onward m kept copied =
+  delivery-onward : (m : Message) (kept : List Message) (copied : ℕ) → Onward (serverAt c p) (serverAt (delivery c m kept copied .cluster) p)
+  unfolding delivery
+  delivery-onward m kept copied =
       elim (stoppedAt c (m .receiver)) as
-      (λ t. let w : Work = elim t [ true ↦ wasted c kept copied | false ↦ handed c m kept copied (handle (length (c .servers)) (m .receiver) m (serverAt c (m .receiver))) ] in
+      (λ t. let w : Work = elim t [ true ↦ lostMessage c kept copied | false ↦ deliveredTo c m kept copied (handle (length (c .servers)) (m .receiver) m (serverAt c (m .receiver))) ] in
       Onward (serverAt c p) (serverAt (w .cluster) p)) [
         | true ↦ onward-refl _
         | false ↦ one-moves (m .receiver) _ (handle-goes (length (c .servers)) (m .receiver) m (serverAt c (m .receiver)) .onward)
@@ -50,8 +50,8 @@ module _ (c : Cluster) (p : ℕ) where
   work-onward (cluster n b) = one-moves 0 _ (onward-refl _)
   work-onward (elect s) = one-moves s _ (elect-goes (length (c .servers)) s (serverAt c s) .onward)
   work-onward (call s w) = one-moves s _ (beginCall-moves (length (c .servers)) s (bucketFor (c .buckets) w) (c .calls + 1) w (serverAt c s) .onward)
-  work-onward (deliver i) = handing-onward (messageAt c i) (dropAt i (c .messages)) 0
-  work-onward (copy i) = handing-onward (messageAt c i) (c .messages) 1
+  work-onward (deliver i) = delivery-onward (messageAt c i) (dropAt i (c .messages)) 0
+  work-onward (copy i) = delivery-onward (messageAt c i) (c .messages) 1
   work-onward (lose i) = onward-refl _
   work-onward (timeout s b) = one-moves s _ (cease-goes (serverAt c s) .onward)
   work-onward (stop s) = one-moves s _ (record { number = omega arith; role = λ e. omega arith; copies = λ k. le-refl _ })
@@ -69,8 +69,8 @@ founded-onward n b p =
     (record { number = omega arith; role = λ e. omega arith; copies = λ k. all-fresh (λ (x : Copy). copyAt (freshServer 0 0 .stored) k .version ≼ x .version) freshCopy freshCopy b k (le-refl _) (le-refl _) })
     (onward-refl _)
 
-line-onward : (s : State) (o : Option Line) (x : Stepped) → ComesOut s o x → (p : ℕ) → Onward (serverIn s p) (serverIn (x .state) p)
-line-onward s o x (turned r low high) p = onward-refl _
+line-onward : (s : State) (o : Option Line) (x : LineResult) → ComesOut s o x → (p : ℕ) → Onward (serverIn s p) (serverIn (x .state) p)
+line-onward s o x (refused-by r low high) p = onward-refl _
 line-onward s o x (founded n b i u v e) p = subst⁻¹ (λ k. Onward (serverOf k p) (serverAt (freshCluster n b) p)) e (founded-onward n b p)
 line-onward s o x (took c l i e f room) p = subst⁻¹ (λ k. Onward (serverOf k p) (serverAt (work c l .cluster) p)) e (work-onward c p l)
 

@@ -14,7 +14,7 @@ use borrow.Author.Tests.{eqb-true}
 use Rattle.entries.specs.Entries.{Entry}
 use Rattle.model.specs.Measures.{majority}
 use Rattle.model.specs.Cluster.{Version, version, above, Copy, freshCopy, copyAt, Role, follower, candidate, leading, Purpose, recoveryRead, recoveryWrite, check, ownWrite, Mark, silent, acknowledged, refused, Round, Call, roundAt, callAt, Server, Message, ackWrite, ackRead}
-use Rattle.model.specs.Leader.{Reaction, quiet, closes, fails, cease, closed, better, markedBy, reportTo, counted, withRound, counting, onReply}
+use Rattle.model.specs.Leader.{Reaction, noReaction, closes, fails, cease, closed, better, markedBy, reportTo, counted, withRound, counting, onReply}
 use Rattle.history.specs.Members.{_∈_, none-in}
 use Rattle.history.specs.Version.{_≼_, le-refl, le-trans, le-of-lt}
 use Rattle.consistency.specs.Log.{Opened, Log}
@@ -242,7 +242,7 @@ module _ (n buckets now taken p : ℕ) (half : n < 2 * majority n) {log : Log} (
   unfolding counting
   counting-kept {b} {r} h x ro = go (closes n x) refl
     where
-      failing : (t : Bool) → Kept n buckets now taken p log (elim t as (λ _. Reaction) [ true ↦ cease s | false ↦ quiet (withRound s b x) ])
+      failing : (t : Bool) → Kept n buckets now taken p log (elim t as (λ _. Reaction) [ true ↦ cease s | false ↦ noReaction (withRound s b x) ])
       failing true = cease-kept n buckets now taken p log ok s (as-unsettled agrees)
       failing false = unmoved ok (round-agrees (with-round-ready h x) x (with-round-at h x) ro) [] (λ m i. none-in i)
 
@@ -250,7 +250,7 @@ module _ (n buckets now taken p : ℕ) (half : n < 2 * majority n) {log : Log} (
           → Kept n buckets now taken p log
           (elim t as (λ _. Reaction) [
             | true ↦ closed n p b x (withRound s b x)
-            | false ↦ elim (fails n x) as (λ _. Reaction) [ true ↦ cease s | false ↦ quiet (withRound s b x) ]
+            | false ↦ elim (fails n x) as (λ _. Reaction) [ true ↦ cease s | false ↦ noReaction (withRound s b x) ]
           ])
       go true shut = closed-kept n buckets now taken p b half ok (with-round-ready h x) x ro shut
       go false e = failing (fails n x)
@@ -264,7 +264,7 @@ module _ (n buckets now taken p : ℕ) (half : n < 2 * majority n) {log : Log} (
         let y : ReplyOk log p (m .sender) (m .bucket) (s .stored .number) (r .number) mark report = rw (e, j) at reply in
         counting-kept o (counted (m .sender) mark report r) (counted-ok (o .round) y)
 
-    still : Kept n buckets now taken p log (quiet s)
+    still : Kept n buckets now taken p log (noReaction s)
     still = unmoved ok agrees [] (λ x i. none-in i)
 
     pub reply-kept : Kept n buckets now taken p log (onReply n p m mark report s)
@@ -272,15 +272,15 @@ module _ (n buckets now taken p : ℕ) (half : n < 2 * majority n) {log : Log} (
     reply-kept = go (roundAt (s .volatile) (m .bucket)) refl
       where
         round : (r : Round) → roundAt (s .volatile) (m .bucket) ≡ some r → m .election ≡ r .election → (t : Bool) → eqb (m .round) (r .number) ≡ t
-            → Kept n buckets now taken p log (elim t as (λ _. Reaction) [ false ↦ quiet s | true ↦ counting n p (m .bucket) (counted (m .sender) mark report r) s ])
+            → Kept n buckets now taken p log (elim t as (λ _. Reaction) [ false ↦ noReaction s | true ↦ counting n p (m .bucket) (counted (m .sender) mark report r) s ])
         round r has i true e = matched r has i (eqb-true _ _ e)
         round r has i false e = still
 
         election : (r : Round) → roundAt (s .volatile) (m .bucket) ≡ some r → (t : Bool) → eqb (m .election) (r .election) ≡ t
             → Kept n buckets now taken p log
             (elim t as (λ _. Reaction) [
-              | false ↦ quiet s
-              | true ↦ elim (eqb (m .round) (r .number)) as (λ _. Reaction) [ false ↦ quiet s | true ↦ counting n p (m .bucket) (counted (m .sender) mark report r) s ]
+              | false ↦ noReaction s
+              | true ↦ elim (eqb (m .round) (r .number)) as (λ _. Reaction) [ false ↦ noReaction s | true ↦ counting n p (m .bucket) (counted (m .sender) mark report r) s ]
             ])
         election r has true e = round r has (eqb-true _ _ e) (eqb (m .round) (r .number)) refl
         election r has false e = still
@@ -288,10 +288,10 @@ module _ (n buckets now taken p : ℕ) (half : n < 2 * majority n) {log : Log} (
         go : (o : Option Round) → roundAt (s .volatile) (m .bucket) ≡ o
             → Kept n buckets now taken p log
             (elim o as (λ _. Reaction) [
-              | none ↦ quiet s
+              | none ↦ noReaction s
               | some r ↦ elim (eqb (m .election) (r .election)) as (λ _. Reaction) [
-                | false ↦ quiet s
-                | true ↦ elim (eqb (m .round) (r .number)) as (λ _. Reaction) [ false ↦ quiet s | true ↦ counting n p (m .bucket) (counted (m .sender) mark report r) s ]
+                | false ↦ noReaction s
+                | true ↦ elim (eqb (m .round) (r .number)) as (λ _. Reaction) [ false ↦ noReaction s | true ↦ counting n p (m .bucket) (counted (m .sender) mark report r) s ]
               ]
             ])
         go none e = still

@@ -5,7 +5,7 @@ use Prim.Native.Nat.{ℕ, _≤_}
 use native.Mathlib.Omega.{arith}
 use lib.ListN.{length}
 use Rattle.model.specs.Cluster.{Stored, Role, follower, candidate, leading, Call, Volatile, Server, Message}
-use Rattle.model.specs.Leader.{withStored, settle, replying}
+use Rattle.model.specs.Leader.{withStored, stepDown, replying}
 use Rattle.history.specs.Members.{none-in, each-cons}
 use Rattle.consistency.specs.Log.{Log}
 use Rattle.consistency.specs.Claims.{Won, MessageOk}
@@ -14,7 +14,7 @@ use Rattle.consistency.specs.Growth.{message-grows, Adds}
 use Rattle.consistency.specs.Buckets.{Untouched, call-grows}
 use Rattle.consistency.specs.Acts.{Kept}
 use Rattle.consistency.specs.Chaining.{sending, grown-before}
-use Rattle.consistency.specs.Ceasing.{OpenOk, Unsettled, as-unsettled, settle-kept}
+use Rattle.consistency.specs.Ceasing.{OpenOk, Unsettled, as-unsettled, step-down-kept}
 
 -- nothing was added but what a voter or a replica stores: votes, accepts and reports
 pub record StoredOnly (a b : Log) : Type 0 where
@@ -52,7 +52,7 @@ module _ (n buckets p : ℕ) {a b : Log} (add : Adds p a b) (same : StoredOnly a
       }
 
   pub replied : {now taken : ℕ} → LogOk n now taken b → (s : Server) → Unsettled n buckets b p s → (m : Message) → MessageOk buckets b m
-      → Kept n buckets now taken p a (replying (settle s) m)
+      → Kept n buckets now taken p a (replying (stepDown s) m)
   replied {now} {taken} ok s u m good =
-      let k = settle-kept n buckets now taken p b ok s u in
+      let k = step-down-kept n buckets now taken p b ok s u in
       grown-before add (same .begins) (same .ends) (sending k (m ∷ []) (each-cons (message-grows (k .adds .grows) good) (λ x i. none-in i)))

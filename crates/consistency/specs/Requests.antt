@@ -10,8 +10,8 @@ use borrow.Author.Tests.{ltb-false}
 use Rattle.entries.specs.Entries.{Entry}
 use Rattle.model.specs.Measures.{majority}
 use Rattle.model.specs.Cluster.{Version, copyAt, Server, Body, replicaWrite, replicaRead, Message}
-use Rattle.model.specs.Replica.{voting, Request, reading, writing, heeds, storing, accepting, acknowledging, refusing}
-use Rattle.model.specs.Leader.{reaction, withStored, settle, replyTo, replying, onRequest}
+use Rattle.model.specs.Replica.{voting, Request, reading, writing, mayAccept, storing, accepting, acknowledging, refusing}
+use Rattle.model.specs.Leader.{reaction, withStored, stepDown, replyTo, replying, onRequest}
 use Rattle.history.specs.Members.{first-in, none-in, each-cons}
 use Rattle.consistency.specs.Log.{Log}
 use Rattle.consistency.specs.Claims.{Won, later, BodyOk, MessageOk}
@@ -39,16 +39,16 @@ module _ (n buckets now taken : ℕ) (half : n < 2 * majority n) (p : ℕ) (log 
   heeding : (request : Request)
       → (s .stored .vote ≤ m .election →
       let st = accepting (m .bucket) (m .election) (m .sender) request (s .stored) in
-      Kept n buckets now taken p log (replying (settle (withStored s st)) (replyTo p m (acknowledging (m .bucket) request st))))
+      Kept n buckets now taken p log (replying (stepDown (withStored s st)) (replyTo p m (acknowledging (m .bucket) request st))))
       → Kept n buckets now taken p log (onRequest p m request s)
-  unfolding onRequest heeds
+  unfolding onRequest mayAccept
   heeding request accepted = go (ltb (m .election) (s .stored .vote)) refl
     where
       go : (t : Bool) → ltb (m .election) (s .stored .vote) ≡ t → Kept n buckets now taken p log (elim (elim t as (λ _. Bool) [ true ↦ false | false ↦ true ]) [
         | false ↦ reaction s (replyTo p m (refusing request) ∷ []) []
         | true ↦
             let st = accepting (m .bucket) (m .election) (m .sender) request (s .stored) in
-            replying (settle (withStored s st)) (replyTo p m (acknowledging (m .bucket) request st))
+            replying (stepDown (withStored s st)) (replyTo p m (acknowledging (m .bucket) request st))
       ])
       go true e = unmoved ok agrees _ (each-cons (refused-ok request) (λ x i. none-in i))
       go false e = accepted (ltb-false _ _ e)

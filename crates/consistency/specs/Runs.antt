@@ -10,13 +10,13 @@ use lib.ListN.{length, getD, take, replicate, length-replicate}
 use Rattle.model.specs.Measures.{majority}
 use Rattle.model.specs.Calls.{Answer}
 use Rattle.model.specs.Cluster.{freshCopy, freshServer, freshCluster, Cluster, Round, Call, Message}
-use Rattle.model.specs.Lines.{Line, cluster, elect, call, deliver, copy, lose, timeout, stop, State, Tally, nothing, Outcome, printed, Stepped, Work, serverAt, messageAt, dropAt, stoppedAt, wasted, handed, handing, work, firstOf, conditions}
+use Rattle.model.specs.Lines.{Line, cluster, elect, call, deliver, copy, lose, timeout, stop, State, Tally, initialState, Outcome, printed, LineResult, Work, serverAt, messageAt, dropAt, stoppedAt, lostMessage, deliveredTo, delivery, work, firstOf, conditions}
 use Rattle.model.specs.Leader.{handle}
 use Rattle.model.specs.Parse.{parse}
 use Rattle.model.specs.Run.{step, stateAfter, outcomes}
 use Rattle.history.specs.Members.{_∈_, none-in, each-append}
 use Rattle.limits.specs.Tally.{none-applies}
-use Rattle.limits.specs.Refusals.{ComesOut, turned, founded, took, comes-out}
+use Rattle.limits.specs.Refusals.{ComesOut, refused-by, founded, took, comes-out}
 use Rattle.limits.specs.Always.{Measured, Stands, line-keeps-measures}
 use Rattle.consistency.specs.Statement.{Begin, End, buckets, meaning, beginsFrom, endsFrom, begins, ends, Distinct}
 use Rattle.consistency.specs.Log.{Begun, Ended, Log, emptyLog, Grows, _⊆_}
@@ -221,13 +221,13 @@ line-matches {now} {c} {log} {l} g earlier h =
     }
 
 -- how many calls there are after a line, and of how many buckets
-handing-keeps : (c : Cluster) (m : Message) (kept : List Message) (copied : ℕ)
-    → (handing c m kept copied .cluster .calls ≡ c .calls) × (handing c m kept copied .cluster .buckets ≡ c .buckets)
-unfolding handing
-handing-keeps c m kept copied =
+delivery-keeps : (c : Cluster) (m : Message) (kept : List Message) (copied : ℕ)
+    → (delivery c m kept copied .cluster .calls ≡ c .calls) × (delivery c m kept copied .cluster .buckets ≡ c .buckets)
+unfolding delivery
+delivery-keeps c m kept copied =
     elim (stoppedAt c (m .receiver)) as
     (λ t.
-    let w = elim t as (λ _. Work) [ true ↦ wasted c kept copied | false ↦ handed c m kept copied (handle (length (c .servers)) (m .receiver) m (serverAt c (m .receiver))) ] in
+    let w = elim t as (λ _. Work) [ true ↦ lostMessage c kept copied | false ↦ deliveredTo c m kept copied (handle (length (c .servers)) (m .receiver) m (serverAt c (m .receiver))) ] in
     (w .cluster .calls ≡ c .calls) × (w .cluster .buckets ≡ c .buckets))
     [ true ↦ (refl, refl) | false ↦ (refl, refl) ]
 
@@ -241,8 +241,8 @@ line-read now c l (cluster n b) ls out os e f = let z : _≡_ {A = ℕ} 0 1 = cc
 line-read now c l (elect s) ls out os e f = rw (beginsFrom, e)
 line-read now c l (call s w) ls out os e f = rw (beginsFrom, e)
 line-read now c l (deliver i) ls out os e f =
-    let k = handing-keeps c (messageAt c i) (dropAt i (c .messages)) 0 in rw (beginsFrom, e, k .0, k .1)
-line-read now c l (copy i) ls out os e f = let k = handing-keeps c (messageAt c i) (c .messages) 1 in rw (beginsFrom, e, k .0, k .1)
+    let k = delivery-keeps c (messageAt c i) (dropAt i (c .messages)) 0 in rw (beginsFrom, e, k .0, k .1)
+line-read now c l (copy i) ls out os e f = let k = delivery-keeps c (messageAt c i) (c .messages) 1 in rw (beginsFrom, e, k .0, k .1)
 line-read now c l (lose i) ls out os e f = rw (beginsFrom, e)
 line-read now c l (timeout s b) ls out os e f = rw (beginsFrom, e)
 line-read now c l (stop s) ls out os e f = rw (beginsFrom, e)
@@ -368,7 +368,7 @@ leaves-cons {line = line} count b {s} {l} {ls} h r =
 module _ (ls : List (List ℕ)) (goes : Goes ls) (l : List ℕ) (now count b : ℕ) (s : State) (log : Log) (bs : List Begin) (es : List End)
     (m : Measured (s .cluster) (s .tally)) (h : RunOk now (s .cluster) count b log) (same : Match bs es log) where
   -- what is to be shown, for how the line comes out
-  abbrev After : Stepped → Type 0
+  abbrev After : LineResult → Type 0
   After x =
       Leaves log (now + 1) (x .state) ls (beginsFrom (now + 1) count b (l ∷ ls) (x .outcome ∷ outcomes (x .state) ls) ++ bs)
       (endsFrom (now + 1) (x .outcome ∷ outcomes (x .state) ls) ++ es)
@@ -397,9 +397,9 @@ module _ (ls : List (List ℕ)) (goes : Goes ls) (l : List ℕ) (now count b : �
       rw (beginsFrom, p)
       (goes (now + 1) count k t log bs es w (subst (λ o. RunOk (now + 1) o count k log) (sym i) (rw (f .0) (fresh-good n k (now + 1)), f .1, refl)) same)
 
-  line-goes : (x : Stepped) → ComesOut s (parse l) x → Measured (x .state .cluster) (x .state .tally) → After x
+  line-goes : (x : LineResult) → ComesOut s (parse l) x → Measured (x .state .cluster) (x .state .tally) → After x
   unfolding beginsFrom endsFrom
-  line-goes x (turned r low high) w = goes (now + 1) count b s log bs es m (later-run now count b (s .cluster) log h) same
+  line-goes x (refused-by r low high) w = goes (now + 1) count b s log bs es m (later-run now count b (s .cluster) log h) same
   line-goes x (founded n k p u v e) w = founded-goes n k p e _ refl w
   line-goes x (took c y p e f room) w = took-goes c y p e f _ refl w
 
@@ -420,5 +420,5 @@ run-goes (l ∷ ls) now count b s log bs es m h same =
 no-match : Match [] [] emptyLog
 no-match = record { begun = λ x m. none-in m; begins = λ x m. none-in m; ended = λ x m. none-in m; ends = λ x m. none-in m; once = tt }
 
-pub script-leaves : (ls : List (List ℕ)) → Leaves emptyLog 0 nothing ls (begins ls) (ends ls)
-script-leaves ls = rw (← append-nil (begins ls), ← append-nil (ends ls)) (run-goes ls 0 0 0 nothing emptyLog [] [] refl (refl, refl) no-match)
+pub script-leaves : (ls : List (List ℕ)) → Leaves emptyLog 0 initialState ls (begins ls) (ends ls)
+script-leaves ls = rw (← append-nil (begins ls), ← append-nil (ends ls)) (run-goes ls 0 0 0 initialState emptyLog [] [] refl (refl, refl) no-match)

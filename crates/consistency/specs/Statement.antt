@@ -15,7 +15,7 @@ use Rattle.entries.specs.Entries.{Entry, entry}
 use Rattle.model.specs.Calls.{Words, get, set, setif, del, keys, bucketFor}
 use Rattle.model.specs.Calls.{Result, value, listed, done, mismatch, full, notdone, unknown}
 use Rattle.model.specs.Lines.{Line, cluster, elect, call, deliver, copy, lose, timeout, stop}
-use Rattle.model.specs.Lines.{Outcome, refusal, printed, nothing}
+use Rattle.model.specs.Lines.{Outcome, refusal, printed, initialState}
 use Rattle.model.specs.Parse.{parse}
 use Rattle.model.specs.Run.{outcomes}
 
@@ -143,10 +143,10 @@ endsFrom line (printed out ∷ os) =
 
 -- lines are counted from 1
 abbrev pub begins : List (List ℕ) → List Begin
-begins ls = beginsFrom 1 0 0 ls (outcomes nothing ls)
+begins ls = beginsFrom 1 0 0 ls (outcomes initialState ls)
 
 abbrev pub ends : List (List ℕ) → List End
-ends ls = endsFrom 1 (outcomes nothing ls)
+ends ls = endsFrom 1 (outcomes initialState ls)
 
 -- ---- one order
 

@@ -12,7 +12,7 @@ use Rattle.model.specs.Calls.{Words, bucketFor}
 use Rattle.model.specs.Cluster.{Role, follower, candidate, leading, Message, Cluster, Call, callAt}
 use Rattle.model.specs.Leader.{Reaction, handle}
 use Rattle.model.specs.Leader
-use Rattle.model.specs.Lines.{Line, cluster, elect, call, deliver, copy, lose, timeout, stop, Tally, conditions, serverAt, messageAt, dropAt, stoppedAt, isLeading, present, byLine, wasted, handed, handing, halted, work}
+use Rattle.model.specs.Lines.{Line, cluster, elect, call, deliver, copy, lose, timeout, stop, Tally, conditions, serverAt, messageAt, dropAt, stoppedAt, isLeading, present, byLine, lostMessage, deliveredTo, delivery, halted, work}
 use Rattle.history.specs.Members.{_∈_, none-in, each-append}
 use Rattle.limits.specs.Lists.{All, nil, cons, all-at}
 use Rattle.limits.specs.Tally.{message-there}
@@ -96,14 +96,14 @@ drop-sub (suc n) (x ∷ l) m i = List·Memᴰ·tail (drop-sub n l m i)
 dropped-sub : (i : ℕ) (l : List Message) → dropAt i l ⊆ l
 dropped-sub i l = each-append (take i l) (take-sub i l) (drop-sub (i + 1) l)
 
-handing-live : (c : Cluster) (m : Message) (still : List Message) (copied : ℕ) → stoppedAt c (m .receiver) ≡ false
-    → handing c m still copied ≡ handed c m still copied (handle (length (c .servers)) (m .receiver) m (serverAt c (m .receiver)))
-unfolding handing
-handing-live c m still copied e = rw (handing, e)
+delivery-live : (c : Cluster) (m : Message) (still : List Message) (copied : ℕ) → stoppedAt c (m .receiver) ≡ false
+    → delivery c m still copied ≡ deliveredTo c m still copied (handle (length (c .servers)) (m .receiver) m (serverAt c (m .receiver)))
+unfolding delivery
+delivery-live c m still copied e = rw (delivery, e)
 
-handing-stopped : (c : Cluster) (m : Message) (still : List Message) (copied : ℕ) → stoppedAt c (m .receiver) ≡ true → handing c m still copied ≡ wasted c still copied
-unfolding handing
-handing-stopped c m still copied e = rw (handing, e)
+delivery-stopped : (c : Cluster) (m : Message) (still : List Message) (copied : ℕ) → stoppedAt c (m .receiver) ≡ true → delivery c m still copied ≡ lostMessage c still copied
+unfolding delivery
+delivery-stopped c m still copied e = rw (delivery, e)
 
 -- ---- the lines
 
@@ -160,8 +160,8 @@ module _ {now : ℕ} {c : Cluster} {log : Log} {t : Tally} (stands : Stands c t)
       }
 
   -- a message that goes nowhere
-  wasted-good : (l : Line) (still : List Message) (copied : ℕ) → still ⊆ c .messages → work c l ≡ wasted c still copied → begunBy now c l ≡ [] → LineGood now c log l
-  wasted-good l still copied sub e f =
+  lost-good : (l : Line) (still : List Message) (copied : ℕ) → still ⊆ c .messages → work c l ≡ lostMessage c still copied → begunBy now c l ≡ [] → LineGood now c log l
+  lost-good l still copied sub e f =
       record {
         next = log;
         good =
@@ -173,16 +173,16 @@ module _ {now : ℕ} {c : Cluster} {log : Log} {t : Tally} (stands : Stands c t)
         ends = λ x. rw e (λ m. m, λ m. m);
       }
 
-  -- a message that is handed to its server
-  handed-good : (l : Line) (m : Message) (still : List Message) (copied : ℕ) → m ∈ c .messages → m .receiver < length (c .servers) → still ⊆ c .messages
-      → work c l ≡ handing c m still copied → begunBy now c l ≡ [] → LineGood now c log l
-  handed-good l m still copied there h sub e f = go (stoppedAt c (m .receiver)) refl
+  -- a message that is delivered to its server
+  delivered-good : (l : Line) (m : Message) (still : List Message) (copied : ℕ) → m ∈ c .messages → m .receiver < length (c .servers) → still ⊆ c .messages
+      → work c l ≡ delivery c m still copied → begunBy now c l ≡ [] → LineGood now c log l
+  delivered-good l m still copied there h sub e f = go (stoppedAt c (m .receiver)) refl
     where
       go : (t : Bool) → stoppedAt c (m .receiver) ≡ t → LineGood now c log l
-      go true i = wasted-good l still copied sub (e ∙ handing-stopped c m still copied i) f
+      go true i = lost-good l still copied sub (e ∙ delivery-stopped c m still copied i) f
       go false i =
           let k = handle-kept (length (c .servers)) (c .buckets) now (c .calls) half (good .facts) m (good .servers (m .receiver) h) (good .messages m there) in
-          let g : work c l ≡ handed c m still copied _ = e ∙ handing-live c m still copied i in
+          let g : work c l ≡ deliveredTo c m still copied _ = e ∙ delivery-live c m still copied i in
           let moves = handle-goes (length (c .servers)) (m .receiver) m (serverAt c (m .receiver)) in
           record {
             next = k .next;
@@ -208,10 +208,10 @@ module _ {now : ℕ} {c : Cluster} {log : Log} {t : Tally} (stands : Stands c t)
       call-good s w (server-there c s x) (bucket-less c w (omega (arith, stands .within .buckets, stands .someBuckets)) y) (leads-if _ i) (free-if _ j)
   line-good (deliver i) (cons e (cons f nil)) =
       let (there, h) = at-place i (message-there c i f) in
-      handed-good (deliver i) (messageAt c i) (dropAt i (c .messages)) 0 there h (dropped-sub i (c .messages)) refl refl
+      delivered-good (deliver i) (messageAt c i) (dropAt i (c .messages)) 0 there h (dropped-sub i (c .messages)) refl refl
   line-good (copy i) (cons e (cons f nil)) =
       let (there, h) = at-place i (message-there c i f) in
-      handed-good (copy i) (messageAt c i) (c .messages) 1 there h (λ m k. k) refl refl
-  line-good (lose i) h = wasted-good (lose i) (dropAt i (c .messages)) 0 (dropped-sub i (c .messages)) refl refl
+      delivered-good (copy i) (messageAt c i) (c .messages) 1 there h (λ m k. k) refl refl
+  line-good (lose i) h = lost-good (lose i) (dropAt i (c .messages)) 0 (dropped-sub i (c .messages)) refl refl
   line-good (timeout s b) (cons e h) = timeout-good s b (server-there c s (either-false _ _ e .0))
   line-good (stop s) (cons e h) = stop-good s (server-there c s e)

@@ -49,7 +49,7 @@ module _ (b : ℕ) (v : Version) (t : List Entry) (st : Stored) where
       storing-cases (λ x. (x .number ≡ st .number) × (x .vote ≡ st .vote) × (length (x .copies) ≡ length (st .copies)))
       (λ l. (refl, refl, refl)) (λ l. (refl, refl, length-set (st .copies) b (record { version = v; table = t })))
 
--- the number of a leader that a server heeds becomes its vote
+-- the number of a leader that a server accepts becomes its vote
 pub heeded-stored : {log : Log} {p e q : ℕ} {st : Stored} → StoredOk log p st → st .vote ≤ e → Won log e q → StoredOk log p (voting e q st)
 heeded-stored h l won =
     record {

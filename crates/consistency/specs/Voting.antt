@@ -8,7 +8,7 @@ use lib.Dec.{ltb, eqb}
 use borrow.Author.Tests.{ltb-true, ltb-false, eqb-true}
 use Rattle.model.specs.Cluster.{Stored, Server, ackVote, nackVote, Message}
 use Rattle.model.specs.Replica.{voting, grants, afterVote}
-use Rattle.model.specs.Leader.{withStored, settle, replyTo, replying, onPleaseVote}
+use Rattle.model.specs.Leader.{withStored, stepDown, replyTo, replying, onPleaseVote}
 use Rattle.history.specs.Members.{_∈_, first-in, each-cons}
 use Rattle.consistency.specs.Log.{Vote, Log}
 use Rattle.consistency.specs.Claims.{Won, MessageOk}
@@ -78,7 +78,7 @@ module _ (n buckets now taken p : ℕ) (log : Log) (ok : LogOk n now taken log) 
   unfolding onPleaseVote
   vote-kept =
       vote-cases (m .election) (m .sender) (s .stored)
-      (λ st g. Kept n buckets now taken p log (replying (settle (withStored s st)) (replyTo p m (elim g [ true ↦ ackVote | false ↦ nackVote ]))))
+      (λ st g. Kept n buckets now taken p log (replying (stepDown (withStored s st)) (replyTo p m (elim g [ true ↦ ackVote | false ↦ nackVote ]))))
       (λ l.
       let x = freshVote p (m .election) (m .sender) in
       let next = addVote x log in

@@ -15,11 +15,11 @@ use Rattle.model.specs.Measures.{maxServers, maxBuckets, maxMessages, maxAccept
 use Rattle.model.specs.Calls.{Words, get, set, setif, del, keys, bucketFor}
 use Rattle.model.specs.Cluster.{Role, follower, candidate, leading, Round, Call, Message, Cluster, freshServer, freshCluster, freshCopy}
 use Rattle.model.specs.Leader.{Reaction}
-use Rattle.model.specs.Lines.{Line, cluster, elect, call, deliver, copy, lose, timeout, stop, State, nothing, Tally, firstOf, conditions, either, noServer, noBucket, noBucketFor, badKey, badValue, badWords, spent, stoppedAt, isLeading, lastNumber, serverAt, dropAt, Work, stepped, byLine, wasted, handing, work, tallied, Stepped}
+use Rattle.model.specs.Lines.{Line, cluster, elect, call, deliver, copy, lose, timeout, stop, State, initialState, Tally, firstOf, conditions, either, noServer, noBucket, noBucketFor, badKey, badValue, badWords, limitReached, stoppedAt, isLeading, lastNumber, serverAt, dropAt, Work, afterStep, byLine, lostMessage, delivery, work, tallied, LineResult}
 use Rattle.model.specs.Parse.{parse}
 use Rattle.model.specs.Run.{step, stateAfter}
 use Rattle.limits.specs.Lists.{All, nil, cons, all-head, all-tail, all-imply, all-append, all-take, all-drop, all-set, all-at, all-replicate}
-use Rattle.limits.specs.Refusals.{ComesOut, turned, founded, took, comes-out}
+use Rattle.limits.specs.Refusals.{ComesOut, refused-by, founded, took, comes-out}
 use Rattle.limits.specs.Tally.{none-applies, message-there, work-counts}
 use Rattle.limits.specs.Measures.{limitsAfter, KeySized, WordsSized, idle, RoleWithin, ServerWithin, MessageWithin, AnswersWithin, endings, ReactionWithin, ClusterWithin, Grows, next-line, server-grows, message-grows}
 use Rattle.limits.specs.Tables.{fresh-copy-within}
@@ -111,7 +111,7 @@ module _ (n b k : ℕ) (c : Cluster) (bLow : 1 ≤ b) (w : ClusterWithin n b k c
 
   stepped-within : {calls : ℕ} (s : ℕ) (kept : List Message) (r : Reaction) → CallsAfter calls →
       All (MessageWithin n b (limitsAfter k (c .calls))) kept →
-      ReactionWithin n b (limitsAfter (k + 1) calls) r → ClusterWithin n b (k + 1) (stepped c s kept calls r)
+      ReactionWithin n b (limitsAfter (k + 1) calls) r → ClusterWithin n b (k + 1) (afterStep c s kept calls r)
   stepped-within s kept r x m y =
       record {
         size = rw length-set (w .size);
@@ -127,9 +127,9 @@ module _ (n b k : ℕ) (c : Cluster) (bLow : 1 ≤ b) (w : ClusterWithin n b k c
       Taken n b k (byLine c s calls r)
   byLine-taken s r x y = record { cluster = stepped-within s (c .messages) r x (w .messages) y; answers = y .answers }
 
-  wasted-taken : (kept : List Message) (copied : ℕ) → All (MessageWithin n b (limitsAfter k (c .calls))) kept →
-      Taken n b k (wasted c kept copied)
-  wasted-taken kept copied m =
+  lost-within : (kept : List Message) (copied : ℕ) → All (MessageWithin n b (limitsAfter k (c .calls))) kept →
+      Taken n b k (lostMessage c kept copied)
+  lost-within kept copied m =
       record {
         cluster =
             record {
@@ -144,17 +144,17 @@ module _ (n b k : ℕ) (c : Cluster) (bLow : 1 ≤ b) (w : ClusterWithin n b k c
         answers = endings {out = []} (omega arith) nil;
       }
 
-  handing-taken : (m : Message) (kept : List Message) (copied : ℕ) → MessageWithin n b (limitsAfter k (c .calls)) m →
-      All (MessageWithin n b (limitsAfter k (c .calls))) kept → Taken n b k (handing c m kept copied)
-  unfolding handing
-  handing-taken m kept copied x o = go (stoppedAt c (m .receiver)) refl
+  delivery-within : (m : Message) (kept : List Message) (copied : ℕ) → MessageWithin n b (limitsAfter k (c .calls)) m →
+      All (MessageWithin n b (limitsAfter k (c .calls))) kept → Taken n b k (delivery c m kept copied)
+  unfolding delivery
+  delivery-within m kept copied x o = go (stoppedAt c (m .receiver)) refl
     where
-      go : (t : Bool) → stoppedAt c (m .receiver) ≡ t → Taken n b k (handing c m kept copied)
-      go true e = rw (handing, e) (wasted-taken kept copied o)
+      go : (t : Bool) → stoppedAt c (m .receiver) ≡ t → Taken n b k (delivery c m kept copied)
+      go true e = rw (delivery, e) (lost-within kept copied o)
       go false e =
           let g = message-grows (line-grows 0 (omega arith) same-calls) m x in
           let r = handle-within n b (limitsAfter (k + 1) (c .calls)) m _ g (server-at (m .receiver) same-calls (x .receiver)) in
-          rw (handing, e, w .size) (record { cluster = stepped-within (m .receiver) kept _ same-calls o r; answers = r .answers })
+          rw (delivery, e, w .size) (record { cluster = stepped-within (m .receiver) kept _ same-calls o r; answers = r .answers })
 
   dropped : (i : ℕ) → All (MessageWithin n b (limitsAfter k (c .calls))) (dropAt i (c .messages))
   dropped i = all-append (all-take i (w .messages)) (all-drop (i + 1) (w .messages))
@@ -196,21 +196,21 @@ module _ (n b k : ℕ) (c : Cluster) (bLow : 1 ≤ b) (w : ClusterWithin n b k c
       byLine-taken s _ same-calls
       (record { server = record { stored = y .stored; frame = y .frame; slots = y .slots }; sends = nil; answers = endings {out = []} (omega arith) nil })
 
-  work-taken : (l : Line) → All (λ x. x .applies ≡ false) (conditions c l) → Taken n b k (work c l)
+  work-within : (l : Line) → All (λ x. x .applies ≡ false) (conditions c l) → Taken n b k (work c l)
   unfolding conditions work
-  work-taken (cluster x y) (cons p nil) = let z : _≡_ {A = ℕ} 0 1 = cc in absurd (omega arith)
-  work-taken (elect s) (cons e (cons f (cons g (cons h nil)))) = elect-taken s e h
-  work-taken (call s x) (cons e (cons f (cons g (cons h (cons i (cons j nil)))))) =
+  work-within (cluster x y) (cons p nil) = let z : _≡_ {A = ℕ} 0 1 = cc in absurd (omega arith)
+  work-within (elect s) (cons e (cons f (cons g (cons h nil)))) = elect-taken s e h
+  work-within (call s x) (cons e (cons f (cons g (cons h (cons i (cons j nil)))))) =
       let (y, z) = either-false _ _ e in
       call-taken s x y z f i
-  work-taken (deliver i) (cons e (cons f nil)) = handing-taken _ _ 0 (all-at i _ (message-there c i f) (w .messages)) (dropped i)
-  work-taken (copy i) (cons e (cons f nil)) = handing-taken _ _ 1 (all-at i _ (message-there c i f) (w .messages)) (w .messages)
-  work-taken (lose i) (cons e (cons f nil)) = wasted-taken _ 0 (dropped i)
-  work-taken (timeout s i) (cons e (cons f (cons g (cons h nil)))) = timeout-taken s i (either-false _ _ e .0)
-  work-taken (stop s) (cons e (cons f (cons g nil))) = stop-taken s e
+  work-within (deliver i) (cons e (cons f nil)) = delivery-within _ _ 0 (all-at i _ (message-there c i f) (w .messages)) (dropped i)
+  work-within (copy i) (cons e (cons f nil)) = delivery-within _ _ 1 (all-at i _ (message-there c i f) (w .messages)) (w .messages)
+  work-within (lose i) (cons e (cons f nil)) = lost-within _ 0 (dropped i)
+  work-within (timeout s i) (cons e (cons f (cons g (cons h nil)))) = timeout-taken s i (either-false _ _ e .0)
+  work-within (stop s) (cons e (cons f (cons g nil))) = stop-taken s e
 
 not-spent : (c : Cluster) (l : Line) → All (λ x. x .applies ≡ false) (conditions c l) → c .accepted < maxAccepted
-unfolding conditions spent
+unfolding conditions limitReached
 not-spent c (cluster x y) (cons p nil) = let z : _≡_ {A = ℕ} 0 1 = cc in absurd (omega arith)
 not-spent c (elect s) h = leb-false _ _ (all-head (all-tail h))
 not-spent c (call s x) h = leb-false _ _ (all-head (all-tail (all-tail h)))
@@ -238,11 +238,11 @@ pub record Stands (c : Cluster) (t : Tally) : Type 0 where
   pub accepted : c .accepted ≤ maxAccepted
   pub sent : t .sent ≤ maxMessages * c .accepted
   pub copied : t .copied ≤ c .accepted
-  pub handed : t .delivered + t .lost ≤ c .accepted
+  pub arrived : t .delivered + t .lost ≤ c .accepted
 
 -- before there is a cluster nothing is counted
 abbrev pub Measured : Option Cluster → Tally → Type 0
-Measured none t = t ≡ nothing .tally
+Measured none t = t ≡ initialState .tally
 Measured (some c) t = Stands c t
 
 fresh-server-within : (n b : ℕ) → 1 ≤ n → ServerWithin n b (limitsAfter 0 0) 0 (freshServer n b)
@@ -261,7 +261,7 @@ fresh-cluster-within n b h =
 
 pub line-taken : (c : Cluster) (t : Tally) (l : Line) → (h : Stands c t) → firstOf (conditions c l) ≡ none →
     Taken (h .servers) (h .buckets) (c .accepted) (work c l)
-line-taken c t l h e = work-taken (h .servers) (h .buckets) (c .accepted) c (h .someBuckets) (h .within) l (none-applies (conditions c l) e)
+line-taken c t l h e = work-within (h .servers) (h .buckets) (c .accepted) c (h .someBuckets) (h .within) l (none-applies (conditions c l) e)
 
 stands-on : (c : Cluster) (t : Tally) (l : Line) → Stands c t → firstOf (conditions c l) ≡ none →
     length (work c l .cluster .messages) ≤ maxMessages → Stands (work c l .cluster) (tallied t (work c l))
@@ -281,10 +281,10 @@ stands-on c t l h e room =
       accepted = omega arith;
       sent = omega (arith, h .sent, counts .sent);
       copied = omega (arith, h .copied, counts .copied);
-      handed = omega (arith, h .handed, counts .handed);
+      arrived = omega (arith, h .arrived, counts .arrived);
     }
 
-founded-stands : (n b : ℕ) (t : Tally) → within maxServers n ≡ true → within maxBuckets b ≡ true → t ≡ nothing .tally →
+founded-stands : (n b : ℕ) (t : Tally) → within maxServers n ≡ true → within maxBuckets b ≡ true → t ≡ initialState .tally →
     Stands (freshCluster n b) t
 unfolding freshCluster
 founded-stands n b t p q z =
@@ -301,12 +301,12 @@ founded-stands n b t p q z =
       accepted = omega arith;
       sent = omega (arith, ap (λ x. x .sent) z);
       copied = omega (arith, ap (λ x. x .copied) z);
-      handed = omega (arith, ap (λ x. x .delivered) z, ap (λ x. x .lost) z);
+      arrived = omega (arith, ap (λ x. x .delivered) z, ap (λ x. x .lost) z);
     }
 
-pub line-keeps-measures : (s : State) (o : Option Line) (x : Stepped) → ComesOut s o x → Measured (s .cluster) (s .tally) →
+pub line-keeps-measures : (s : State) (o : Option Line) (x : LineResult) → ComesOut s o x → Measured (s .cluster) (s .tally) →
     Measured (x .state .cluster) (x .state .tally)
-line-keeps-measures s o x (turned r low high) h = h
+line-keeps-measures s o x (refused-by r low high) h = h
 line-keeps-measures s o x (founded n b i p q e) h = founded-stands n b (s .tally) p q (subst (λ o. Measured o (s .tally)) e h)
 line-keeps-measures s o x (took c l i e f room) h = stands-on c (s .tally) l (subst (λ o. Measured o (s .tally)) e h) f room
 
@@ -316,5 +316,5 @@ unfolding stateAfter
 measured-on s [] h = h
 measured-on s (l ∷ ls) h = measured-on (step s l .state) ls (line-keeps-measures s (parse l) (step s l) (comes-out s l) h)
 
-pub within-always : (ls : List (List ℕ)) → Measured (stateAfter nothing ls .cluster) (stateAfter nothing ls .tally)
-within-always ls = measured-on nothing ls refl
+pub within-always : (ls : List (List ℕ)) → Measured (stateAfter initialState ls .cluster) (stateAfter initialState ls .tally)
+within-always ls = measured-on initialState ls refl

@@ -13,13 +13,13 @@ use borrow.Author.Tests.{ltb-false}
 use Rattle.model.specs.Measures.{maxBuckets, maxKeyBytes, maxValueBytes, maxMessages, maxAccepted, maxLines}
 use Rattle.model.specs.Calls.{Result, value, listed, done, mismatch, full, notdone, unknown, Answer}
 use Rattle.model.specs.Cluster.{Cluster}
-use Rattle.model.specs.Lines.{Line, State, nothing, Tally, refusal, Stepped, work}
+use Rattle.model.specs.Lines.{Line, State, initialState, Tally, refusal, LineResult, work}
 use Rattle.model.specs.Text.{bytes}
 use Rattle.model.specs.Print.{decimalInto, decimal, hexPairs, hexadecimal, keyList, keysText, wordOf, dataOf, answerText, answerTexts, outcomeText, tallyText}
 use Rattle.model.specs.Parse.{parse}
 use Rattle.model.specs.Run.{step, stateAfter, linesFrom, linesOf, printedFrom, run}
 use Rattle.limits.specs.Lists.{All, nil, cons}
-use Rattle.limits.specs.Refusals.{ComesOut, turned, founded, took, comes-out}
+use Rattle.limits.specs.Refusals.{ComesOut, refused-by, founded, took, comes-out}
 use Rattle.limits.specs.Tally.{Tallied, line-keeps-tally, tallied-always, tallied-nothing}
 use Rattle.limits.specs.Measures.{Limits, KeySized, ResultWithin, AnswerWithin, Ending, AnswersWithin, single, endings}
 use Rattle.limits.specs.Always.{Measured, room-for-line, line-taken, line-keeps-measures, within-always}
@@ -130,10 +130,10 @@ few-calls : (calls k : ℕ) → k < maxAccepted → (1 ≤ calls → calls < k +
 few-calls zero k h f = omega arith
 few-calls (suc calls) k h f = omega (arith, f (omega arith))
 
-line-length : (number : ℕ) (s : State) (o : Option Line) (x : Stepped) → number ≤ maxLines → Measured (s .cluster) (s .tally) → ComesOut s o x →
+line-length : (number : ℕ) (s : State) (o : Option Line) (x : LineResult) → number ≤ maxLines → Measured (s .cluster) (s .tally) → ComesOut s o x →
     length (outcomeText number (x .outcome)) ≤ maxPrinted
 unfolding outcomeText answerTexts
-line-length number s o x h m (turned r low high) = refusal-length number r h high
+line-length number s o x h m (refused-by r low high) = refusal-length number r h high
 line-length number s o x h m (founded n b i p q e) = omega arith
 line-length number s o x h m (took c l i e f room) =
     let k = subst (λ o. Measured o (s .tally)) e m in
@@ -141,8 +141,8 @@ line-length number s o x h m (took c l i e f room) =
     answers-length (work c l .answers) (k .fewBuckets) (few-calls _ (c .accepted) (room-for-line c l f) (w .cluster .elected)) (w .answers)
 
 pub printed-at-most : (ls : List (List ℕ)) (l : List ℕ) (number : ℕ) → number ≤ maxLines →
-    length (outcomeText number (step (stateAfter nothing ls) l .outcome)) ≤ maxPrinted
-printed-at-most ls l number h = line-length number (stateAfter nothing ls) _ _ h (within-always ls) (comes-out (stateAfter nothing ls) l)
+    length (outcomeText number (step (stateAfter initialState ls) l .outcome)) ≤ maxPrinted
+printed-at-most ls l number h = line-length number (stateAfter initialState ls) _ _ h (within-always ls) (comes-out (stateAfter initialState ls) l)
 
 -- ---- the tally line
 
@@ -175,8 +175,8 @@ measured-tally (some c) t h e f = tally-length t (omega arith) (omega arith) f
 state-tally : (s : State) → Measured (s .cluster) (s .tally) → Tallied s → length (tallyText (s .tally)) ≤ maxTallyBytes
 state-tally s h t = measured-tally (s .cluster) (s .tally) h (t .balance) (omega (arith, t .flight, t .room))
 
-pub tally-at-most : (ls : List (List ℕ)) → length (tallyText (stateAfter nothing ls .tally)) ≤ maxTallyBytes
-tally-at-most ls = state-tally (stateAfter nothing ls) (within-always ls) (tallied-always nothing ls tallied-nothing)
+pub tally-at-most : (ls : List (List ℕ)) → length (tallyText (stateAfter initialState ls .tally)) ≤ maxTallyBytes
+tally-at-most ls = state-tally (stateAfter initialState ls) (within-always ls) (tallied-always initialState ls tallied-nothing)
 
 -- ---- a whole run
 
@@ -199,4 +199,4 @@ printedFrom-length number s (l ∷ ls) h m t =
 
 pub run-at-most : (input : List ℕ) → length (run input) ≤ maxPrinted * length (linesOf input) + maxTallyBytes
 unfolding run
-run-at-most input = printedFrom-length 1 nothing (linesOf input) (omega (arith, few-lines input)) refl tallied-nothing
+run-at-most input = printedFrom-length 1 initialState (linesOf input) (omega (arith, few-lines input)) refl tallied-nothing

@@ -3,7 +3,7 @@
 use mathlib.Core.Path.{_≡_, refl, ap}
 use mathlib.Core.List.{List, [], _∷_, _++_, append-assoc}
 use Prim.Native.Nat.{ℕ, _+_}
-use Rattle.model.specs.Lines.{State, nothing, Outcome}
+use Rattle.model.specs.Lines.{State, initialState, Outcome}
 use Rattle.model.specs.Print.{outcomeText, tallyText}
 use Rattle.model.specs.Run.{step, stateAfter, outcomes, linesOf, printedFrom, run}
 
@@ -18,6 +18,6 @@ printed-outcomes number s [] = refl
 printed-outcomes number s (l ∷ ls) =
     rw append-assoc (ap (λ r. outcomeText number (step s l .outcome) ++ r) (printed-outcomes (number + 1) (step s l .state) ls))
 
-pub run-prints : (input : List ℕ) → run input ≡ outcomeTexts 1 (outcomes nothing (linesOf input)) ++ tallyText (stateAfter nothing (linesOf input) .tally)
+pub run-prints : (input : List ℕ) → run input ≡ outcomeTexts 1 (outcomes initialState (linesOf input)) ++ tallyText (stateAfter initialState (linesOf input) .tally)
 unfolding run
-run-prints input = printed-outcomes 1 nothing (linesOf input)
+run-prints input = printed-outcomes 1 initialState (linesOf input)

@@ -12,7 +12,7 @@ use borrow.Author.Tests.{leb-true}
 use Rattle.table.specs.Form.{within}
 use Rattle.model.specs.Measures.{maxServers, maxBuckets, maxMessages}
 use Rattle.model.specs.Cluster.{Cluster, freshCluster}
-use Rattle.model.specs.Lines.{Line, cluster, elect, call, deliver, copy, lose, timeout, stop, State, refusal, printed, Condition, firstOf, conditions, work, tallied, Stepped, turnedDown, taking, inCluster, founding, perform}
+use Rattle.model.specs.Lines.{Line, cluster, elect, call, deliver, copy, lose, timeout, stop, State, refusal, printed, Condition, firstOf, conditions, work, tallied, LineResult, refuse, acceptLine, inCluster, createCluster, perform}
 use Rattle.model.specs.Parse.{parse}
 use Rattle.model.specs.Run.{step}
 use Rattle.limits.specs.Lists.{All, nil, cons}
@@ -67,38 +67,38 @@ lowest-wins c l r = firstOf-lowest 2 (conditions c l) r (conditions-rise c l)
 
 -- ---- how a line, which reads as o, comes out: refused, as the cluster line, or taken by the cluster that stands
 
-pub data ComesOut (s : State) (o : Option Line) : Stepped → Type 0 where
-  turned : (r : ℕ) → 1 ≤ r → r ≤ 12 → ComesOut s o (turnedDown s r)
+pub data ComesOut (s : State) (o : Option Line) : LineResult → Type 0 where
+  refused-by : (r : ℕ) → 1 ≤ r → r ≤ 12 → ComesOut s o (refuse s r)
   founded : (n b : ℕ) → o ≡ some (cluster n b) → within maxServers n ≡ true → within maxBuckets b ≡ true → s .cluster ≡ none →
       ComesOut s o (record { state = record { cluster = some (freshCluster n b); tally = s .tally }; outcome = printed [] })
   took : (c : Cluster) (l : Line) → o ≡ some l → s .cluster ≡ some c → firstOf (conditions c l) ≡ none →
       length (work c l .cluster .messages) ≤ maxMessages →
       ComesOut s o (record { state = record { cluster = some (work c l .cluster); tally = tallied (s .tally) (work c l) }; outcome = printed (work c l .answers) })
 
-founding-comes-out : (s : State) (l : Line) → s .cluster ≡ none → ComesOut s (some l) (founding s l)
-unfolding founding
-founding-comes-out s (cluster n b) e = go (within maxServers n) refl (within maxBuckets b) refl
+creation-comes-out : (s : State) (l : Line) → s .cluster ≡ none → ComesOut s (some l) (createCluster s l)
+unfolding createCluster
+creation-comes-out s (cluster n b) e = go (within maxServers n) refl (within maxBuckets b) refl
   where
-    go : (p : Bool) → within maxServers n ≡ p → (q : Bool) → within maxBuckets b ≡ q → ComesOut s (some (cluster n b)) (founding s (cluster n b))
-    go false p q c = rw (founding, p) (turned 2 (omega arith) (omega arith))
-    go true p false c = rw (founding, p, c) (turned 2 (omega arith) (omega arith))
-    go true p true c = rw (founding, p, c) (founded n b refl p c e)
-founding-comes-out s (elect x) e = turned 2 (omega arith) (omega arith)
-founding-comes-out s (call x w) e = turned 2 (omega arith) (omega arith)
-founding-comes-out s (deliver i) e = turned 2 (omega arith) (omega arith)
-founding-comes-out s (copy i) e = turned 2 (omega arith) (omega arith)
-founding-comes-out s (lose i) e = turned 2 (omega arith) (omega arith)
-founding-comes-out s (timeout x b) e = turned 2 (omega arith) (omega arith)
-founding-comes-out s (stop x) e = turned 2 (omega arith) (omega arith)
+    go : (p : Bool) → within maxServers n ≡ p → (q : Bool) → within maxBuckets b ≡ q → ComesOut s (some (cluster n b)) (createCluster s (cluster n b))
+    go false p q c = rw (createCluster, p) (refused-by 2 (omega arith) (omega arith))
+    go true p false c = rw (createCluster, p, c) (refused-by 2 (omega arith) (omega arith))
+    go true p true c = rw (createCluster, p, c) (founded n b refl p c e)
+creation-comes-out s (elect x) e = refused-by 2 (omega arith) (omega arith)
+creation-comes-out s (call x w) e = refused-by 2 (omega arith) (omega arith)
+creation-comes-out s (deliver i) e = refused-by 2 (omega arith) (omega arith)
+creation-comes-out s (copy i) e = refused-by 2 (omega arith) (omega arith)
+creation-comes-out s (lose i) e = refused-by 2 (omega arith) (omega arith)
+creation-comes-out s (timeout x b) e = refused-by 2 (omega arith) (omega arith)
+creation-comes-out s (stop x) e = refused-by 2 (omega arith) (omega arith)
 
 taking-comes-out : (s : State) (c : Cluster) (l : Line) → s .cluster ≡ some c → firstOf (conditions c l) ≡ none →
-    ComesOut s (some l) (taking s (work c l))
-unfolding taking
+    ComesOut s (some l) (acceptLine s (work c l))
+unfolding acceptLine
 taking-comes-out s c l e f = go (leb (length (work c l .cluster .messages)) maxMessages) refl
   where
-    go : (p : Bool) → leb (length (work c l .cluster .messages)) maxMessages ≡ p → ComesOut s (some l) (taking s (work c l))
-    go true p = rw (taking, p) (took c l refl e f (leb-true _ _ p))
-    go false p = rw (taking, p) (turned 12 (omega arith) (omega arith))
+    go : (p : Bool) → leb (length (work c l .cluster .messages)) maxMessages ≡ p → ComesOut s (some l) (acceptLine s (work c l))
+    go true p = rw (acceptLine, p) (took c l refl e f (leb-true _ _ p))
+    go false p = rw (acceptLine, p) (refused-by 12 (omega arith) (omega arith))
 
 in-cluster-comes-out : (s : State) (c : Cluster) (l : Line) → s .cluster ≡ some c → ComesOut s (some l) (inCluster s c l)
 unfolding inCluster
@@ -108,12 +108,12 @@ in-cluster-comes-out s c l e = go (firstOf (conditions c l)) refl
     go none f = rw (inCluster, f) (taking-comes-out s c l e f)
     go (some r) f =
         let w = lowest-wins c l r f in
-        rw (inCluster, f) (turned r (omega arith) (w .to))
+        rw (inCluster, f) (refused-by r (omega arith) (w .to))
 
 -- as `perform` decides, with the cluster as a value of its own
 perform-comes-out-at : (s : State) (l : Line) (o : Option Cluster) → s .cluster ≡ o →
-    ComesOut s (some l) (elim o [ none ↦ founding s l | some c ↦ inCluster s c l ])
-perform-comes-out-at s l none e = founding-comes-out s l e
+    ComesOut s (some l) (elim o [ none ↦ createCluster s l | some c ↦ inCluster s c l ])
+perform-comes-out-at s l none e = creation-comes-out s l e
 perform-comes-out-at s l (some c) e = in-cluster-comes-out s c l e
 
 perform-comes-out : (s : State) (l : Line) → ComesOut s (some l) (perform s l)
@@ -125,13 +125,13 @@ unfolding step
 comes-out s l = go (parse l) refl
   where
     go : (o : Option Line) → parse l ≡ o → ComesOut s o (step s l)
-    go none e = rw (step, e) (turned 1 (omega arith) (omega arith))
+    go none e = rw (step, e) (refused-by 1 (omega arith) (omega arith))
     go (some x) e = rw (step, e) (perform-comes-out s x)
 
 -- ---- what a refusal leaves, and its number
 
-refused-line : (s : State) (o : Option Line) (x : Stepped) (r : ℕ) → ComesOut s o x → x .outcome ≡ refusal r → (x .state ≡ s) × (1 ≤ r) × (r ≤ 12)
-refused-line s o x r (turned q low high) e = let same : q ≡ r = cc in (refl, omega arith, omega arith)
+refused-line : (s : State) (o : Option Line) (x : LineResult) (r : ℕ) → ComesOut s o x → x .outcome ≡ refusal r → (x .state ≡ s) × (1 ≤ r) × (r ≤ 12)
+refused-line s o x r (refused-by q low high) e = let same : q ≡ r = cc in (refl, omega arith, omega arith)
 refused-line s o x r (founded n b i p q f) e = let z : _≡_ {A = ℕ} 0 1 = cc in absurd (omega arith)
 refused-line s o x r (took c l i f p q) e = let z : _≡_ {A = ℕ} 0 1 = cc in absurd (omega arith)
 

@@ -16,8 +16,8 @@ use Rattle.entries.specs.Entries.{Entry}
 use Rattle.model.specs.Measures.{majority}
 use Rattle.model.specs.Calls.{Words, bucketFor, Result, done, Effect, answers, writes}
 use Rattle.model.specs.Cluster.{Version, version, above, Copy, freshCopy, Stored, copyAt, Role, follower, candidate, leading, Purpose, recoveryRead, recoveryWrite, check, ownWrite, Mark, silent, acknowledged, refused, Round, Call, Volatile, Server, Body, pleaseVote, ackVote, nackVote, replicaWrite, ackWrite, nackWrite, replicaRead, ackRead, nackRead, Message, roundAt, callAt}
-use Rattle.model.specs.Replica.{voting, grants, afterVote, Request, reading, writing, requestBody, heeds, storing, accepting, acknowledging, refusing}
-use Rattle.model.specs.Leader.{Reaction, quiet, withStored, withVolatile, below, without, broadcast, ended, ceased, cease, settle, votesFor, standing, stands, raised, elect, onAckVote, closes, fails, oneMore, isOwn, reportTo, newRound, opening, openRound, answerOf, finish, nextVersion, applying, afterRead, checking, recovering, readBucket, beginCall, closed, better, markedBy, counted, withRound, counting, onReply, replyTo, onPleaseVote, onRequest, handle}
+use Rattle.model.specs.Replica.{voting, grants, afterVote, Request, reading, writing, requestBody, mayAccept, storing, accepting, acknowledging, refusing}
+use Rattle.model.specs.Leader.{Reaction, noReaction, withStored, withVolatile, below, without, broadcast, ended, ceased, cease, stepDown, votesFor, standing, standForElection, raised, elect, onAckVote, closes, fails, oneMore, isOwn, reportTo, newRound, opening, openRound, answerOf, finish, nextVersion, applying, afterRead, checking, recovering, startRead, beginCall, closed, better, markedBy, counted, withRound, counting, onReply, replyTo, onPleaseVote, onRequest, handle}
 use Rattle.model.specs.Leader
 use Rattle.limits.specs.Lists.{All, nil, cons, all-imply, all-append, all-set, all-at, all-map}
 use Rattle.limits.specs.Tables.{EffectWithin, effect-within, fresh-copy-within}
@@ -130,7 +130,7 @@ module _ (n b : ℕ) (l : Limits) where
   no-answers : AnswersWithin b l []
   no-answers = endings {out = []} (omega arith) nil
 
-  quiet-within : {q : ℕ} {s : Server} → ServerWithin n b l q s → ReactionWithin n b l (quiet s)
+  quiet-within : {q : ℕ} {s : Server} → ServerWithin n b l q s → ReactionWithin n b l (noReaction s)
   quiet-within {q} {s} w = record { server = server-grows (fewer l q 0 (omega arith)) s w; sends = nil; answers = no-answers }
 
   -- a server that ceased, whatever it stores
@@ -173,8 +173,8 @@ module _ (n b : ℕ) (l : Limits) where
   chosen true v w = v
   chosen false v w = w
 
-  settle-within : {q : ℕ} {s : Server} → ServerWithin n b l q s → ReactionWithin n b l (settle s)
-  unfolding settle
+  settle-within : {q : ℕ} {s : Server} → ServerWithin n b l q s → ReactionWithin n b l (stepDown s)
+  unfolding stepDown
   settle-within {q} {s} w = chosen (ltb (s .stored .number) (s .stored .vote)) (cease-within w) (quiet-within w)
 
   -- ---- elections
@@ -189,8 +189,8 @@ module _ (n b : ℕ) (l : Limits) where
       role false = e
 
   stands-within : (me : ℕ) (s : Server) → me < n → 1 ≤ b → 1 ≤ s .stored .number → ServerWithin n b l 0 s →
-      ReactionWithin n b l (stands n me (s .stored .number) s)
-  unfolding stands standing
+      ReactionWithin n b l (standForElection n me (s .stored .number) s)
+  unfolding standForElection standing
   stands-within me s h j e w =
       let k = afterVote-kept (s .stored .number) me (s .stored) (w .stored .number) h (w .stored) in
       let votes = ListN.set (s .volatile .votes) me (grants (s .stored .number) me (s .stored)) in
@@ -218,7 +218,7 @@ module _ (n b : ℕ) (l : Limits) where
       (record { server = g .server; sends = g .sends; answers = endings-of w })
 
   ack-within : {q : ℕ} (p e : ℕ) (s : Server) → ServerWithin n b l q s → (r : Role) → RoleWithin r (s .stored .number) →
-      ReactionWithin n b l (elim r [ follower ↦ quiet s | leading ↦ quiet s | candidate ↦ elim (eqb e (s .stored .number)) [ false ↦ quiet s | true ↦ quiet (withVolatile s (standing n (ListN.set (s .volatile .votes) p true) (s .volatile))) ] ])
+      ReactionWithin n b l (elim r [ follower ↦ noReaction s | leading ↦ noReaction s | candidate ↦ elim (eqb e (s .stored .number)) [ false ↦ noReaction s | true ↦ noReaction (withVolatile s (standing n (ListN.set (s .volatile .votes) p true) (s .volatile))) ] ])
   unfolding standing
   ack-within p e s w follower r = quiet-within w
   ack-within p e s w leading r = quiet-within w
@@ -442,8 +442,8 @@ module _ (n b : ℕ) (l : Limits) where
     recovering-within t w a =
         openRound-within recoveryWrite _ (write-within 1 t (omega arith) (omega (arith, a .frame .lastRound)) w a) a (checking n me i) refl (λ u m. checking-within m)
 
-    readBucket-within : {c : Call} {s : Server} → Amidst i 4 c s → ReactionWithin n b l (readBucket n me i s)
-    unfolding readBucket
+    readBucket-within : {c : Call} {s : Server} → Amidst i 4 c s → ReactionWithin n b l (startRead n me i s)
+    unfolding startRead
     readBucket-within {c} {s} a =
         chosen (eqb (copyAt (s .stored) i .version .election) (s .stored .number))
         (checking-within (amidst-fewer 2 (omega arith) a))
@@ -546,12 +546,12 @@ module _ (n b : ℕ) (l : Limits) where
         SlotWithin n b l (s .stored .number) (s .volatile .lastRound) (m .bucket) o c →
         ReactionWithin n b l
         (elim o [
-          | none ↦ quiet s
+          | none ↦ noReaction s
           | some r ↦
               elim (eqb (m .election) (r .election)) [
-                | false ↦ quiet s
+                | false ↦ noReaction s
                 | true ↦
-                    elim (eqb (m .round) (r .number)) [ false ↦ quiet s | true ↦ counting n me (m .bucket) (counted (m .sender) mark report r) s ]
+                    elim (eqb (m .round) (r .number)) [ false ↦ noReaction s | true ↦ counting n me (m .bucket) (counted (m .sender) mark report r) s ]
               ]
         ])
     unfolding counted
@@ -604,7 +604,7 @@ module _ (n b : ℕ) (l : Limits) where
   onRequest-within m request s w v x k =
       let a = accepting-kept (m .bucket) (m .election) (m .sender) request (s .stored) (w .election) (w .sender) x (k .stored) in
       let r = settle-within (with-stored a k) in
-      chosen (heeds (m .election) (s .stored))
+      chosen (mayAccept (m .election) (s .stored))
       (record { server = r .server; sends = cons (reply-to m _ w (acknowledging-within m request _ w v (a .within))) nil; answers = r .answers })
       (record { server = k; sends = cons (reply-to m _ w (refusing-within m request v)) nil; answers = no-answers })
 
@@ -624,7 +624,7 @@ module _ (n b : ℕ) (l : Limits) where
           (elim x [
             | pleaseVote ↦ onPleaseVote me m s
             | ackVote ↦ onAckVote n (m .sender) (m .election) s
-            | nackVote ↦ quiet s
+            | nackVote ↦ noReaction s
             | replicaWrite v t ↦ onRequest me m (writing v t) s
             | ackWrite ↦ onReply n me m acknowledged freshCopy s
             | nackWrite ↦ onReply n me m refused freshCopy s

@@ -11,11 +11,11 @@ use borrow.Author.Tests.{leb-false}
 use Rattle.model.specs.Measures.{maxMessages}
 use Rattle.model.specs.Cluster.{Cluster, Message, freshCluster}
 use Rattle.model.specs.Leader.{Reaction}
-use Rattle.model.specs.Lines.{Line, cluster, elect, call, deliver, copy, lose, timeout, stop, State, nothing, Condition, when, firstOf, conditions, noMessage, spent, dropAt, stoppedAt, Work, byLine, handing, work, Stepped}
+use Rattle.model.specs.Lines.{Line, cluster, elect, call, deliver, copy, lose, timeout, stop, State, initialState, Condition, when, firstOf, conditions, noMessage, limitReached, dropAt, stoppedAt, Work, byLine, delivery, work, LineResult}
 use Rattle.model.specs.Parse.{parse}
 use Rattle.model.specs.Run.{step, stateAfter}
 use Rattle.limits.specs.Lists.{All, nil, cons, all-head, all-tail}
-use Rattle.limits.specs.Refusals.{ComesOut, turned, founded, took, comes-out}
+use Rattle.limits.specs.Refusals.{ComesOut, refused-by, founded, took, comes-out}
 
 -- ---- one line taken
 
@@ -41,17 +41,17 @@ pub message-there : (c : Cluster) (i : ℕ) → noMessage c i ≡ false → i < 
 unfolding noMessage
 message-there c i e = leb-false _ _ e
 
-place-taken : (c : Cluster) (i : ℕ) → firstOf (when 5 (spent c) ∷ when 7 (noMessage c i) ∷ []) ≡ none → i < length (c .messages)
+place-taken : (c : Cluster) (i : ℕ) → firstOf (when 5 (limitReached c) ∷ when 7 (noMessage c i) ∷ []) ≡ none → i < length (c .messages)
 place-taken c i e = message-there c i (all-head (all-tail (none-applies _ e)))
 
 handing-balances : (c : Cluster) (m : Message) (kept : List Message) (copied : ℕ) →
-    length kept + 1 ≡ length (c .messages) + copied → Balances c (handing c m kept copied)
-unfolding handing
+    length kept + 1 ≡ length (c .messages) + copied → Balances c (delivery c m kept copied)
+unfolding delivery
 handing-balances c m kept copied h = go (stoppedAt c (m .receiver)) refl
   where
-    go : (b : Bool) → stoppedAt c (m .receiver) ≡ b → Balances c (handing c m kept copied)
-    go true p = rw (handing, p) (omega arith)
-    go false p = rw (handing, p) (simp length-append (omega arith))
+    go : (b : Bool) → stoppedAt c (m .receiver) ≡ b → Balances c (delivery c m kept copied)
+    go true p = rw (delivery, p) (omega arith)
+    go false p = rw (delivery, p) (simp length-append (omega arith))
 
 work-balances : (c : Cluster) (l : Line) → firstOf (conditions c l) ≡ none → Balances c (work c l)
 unfolding work conditions
@@ -68,21 +68,21 @@ work-balances c (stop s) e = simp length-append (omega arith)
 pub record Counts (w : Work) : Type 0 where
   pub sent : w .sent ≤ length (w .cluster .messages)
   pub copied : w .copied ≤ 1
-  pub handed : w .delivered + w .lost ≤ 1
+  pub arrived : w .delivered + w .lost ≤ 1
 
 added-count : (kept sends : List Message) → length sends ≤ length (kept ++ sends)
 added-count kept sends = simp length-append (omega arith)
 
-handing-counts : (c : Cluster) (m : Message) (kept : List Message) (copied : ℕ) → copied ≤ 1 → Counts (handing c m kept copied)
-unfolding handing
+handing-counts : (c : Cluster) (m : Message) (kept : List Message) (copied : ℕ) → copied ≤ 1 → Counts (delivery c m kept copied)
+unfolding delivery
 handing-counts c m kept copied h = go (stoppedAt c (m .receiver)) refl
   where
-    go : (b : Bool) → stoppedAt c (m .receiver) ≡ b → Counts (handing c m kept copied)
-    go true p = rw (handing, p) (omega arith)
-    go false p = rw (handing, p) (record { sent = added-count kept _; copied = h; handed = omega arith })
+    go : (b : Bool) → stoppedAt c (m .receiver) ≡ b → Counts (delivery c m kept copied)
+    go true p = rw (delivery, p) (omega arith)
+    go false p = rw (delivery, p) (record { sent = added-count kept _; copied = h; arrived = omega arith })
 
 byLine-counts : (c : Cluster) (s calls : ℕ) (r : Reaction) → Counts (byLine c s calls r)
-byLine-counts c s calls r = record { sent = added-count (c .messages) (r .sends); copied = omega arith; handed = omega arith }
+byLine-counts c s calls r = record { sent = added-count (c .messages) (r .sends); copied = omega arith; arrived = omega arith }
 
 pub work-counts : (c : Cluster) (l : Line) → Counts (work c l)
 unfolding work
@@ -107,9 +107,9 @@ pub record Tallied (s : State) : Type 0 where
   pub flight : s .tally .inFlight ≡ length (messagesOf (s .cluster))
   pub room : length (messagesOf (s .cluster)) ≤ maxMessages
 
-pub line-keeps-tally : (s : State) (o : Option Line) (x : Stepped) → ComesOut s o x → Tallied s → Tallied (x .state)
+pub line-keeps-tally : (s : State) (o : Option Line) (x : LineResult) → ComesOut s o x → Tallied s → Tallied (x .state)
 unfolding freshCluster
-line-keeps-tally s o x (turned r low high) t = t
+line-keeps-tally s o x (refused-by r low high) t = t
 line-keeps-tally s o x (founded n b i p q e) t =
     let empty : length (messagesOf (s .cluster)) ≡ 0 = rw e in
     record { balance = t .balance; flight = t .flight ∙ empty; room = omega arith }
@@ -122,15 +122,15 @@ unfolding stateAfter
 tallied-always s [] t = t
 tallied-always s (l ∷ ls) t = tallied-always (step s l .state) ls (line-keeps-tally s (parse l) (step s l) (comes-out s l) t)
 
-pub tallied-nothing : Tallied nothing
+pub tallied-nothing : Tallied initialState
 tallied-nothing = record { balance = omega arith; flight = refl; room = omega arith }
 
 pub balanced : (ls : List (List ℕ)) →
-    let t = stateAfter nothing ls .tally in t .sent + t .copied ≡ t .delivered + t .lost + t .inFlight
-balanced ls = tallied-always nothing ls tallied-nothing .balance
+    let t = stateAfter initialState ls .tally in t .sent + t .copied ≡ t .delivered + t .lost + t .inFlight
+balanced ls = tallied-always initialState ls tallied-nothing .balance
 
-pub in-flight : (ls : List (List ℕ)) → stateAfter nothing ls .tally .inFlight ≡ length (messagesOf (stateAfter nothing ls .cluster))
-in-flight ls = tallied-always nothing ls tallied-nothing .flight
+pub in-flight : (ls : List (List ℕ)) → stateAfter initialState ls .tally .inFlight ≡ length (messagesOf (stateAfter initialState ls .cluster))
+in-flight ls = tallied-always initialState ls tallied-nothing .flight
 
-pub at-most-64 : (ls : List (List ℕ)) → length (messagesOf (stateAfter nothing ls .cluster)) ≤ maxMessages
-at-most-64 ls = tallied-always nothing ls tallied-nothing .room
+pub at-most-64 : (ls : List (List ℕ)) → length (messagesOf (stateAfter initialState ls .cluster)) ≤ maxMessages
+at-most-64 ls = tallied-always initialState ls tallied-nothing .room

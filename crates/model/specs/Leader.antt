@@ -10,7 +10,7 @@ use Rattle.entries.specs.Entries.{Entry}
 use Rattle.model.specs.Measures.{majority}
 use Rattle.model.specs.Calls.{Words, Result, done, notdone, unknown, Effect, answers, writes, effect, Answer}
 use Rattle.model.specs.Cluster.{Version, version, above, Copy, Stored, follower, candidate, leading, Purpose, recoveryRead, recoveryWrite, check, ownWrite, Mark, silent, acknowledged, refused, Round, Call, Volatile, Server, Body, pleaseVote, ackVote, nackVote, replicaWrite, ackWrite, nackWrite, replicaRead, ackRead, nackRead, Message, freshCopy, copyAt, roundAt, callAt}
-use Rattle.model.specs.Replica.{grants, afterVote, Request, reading, writing, requestBody, heeds, accepting, acknowledging, refusing}
+use Rattle.model.specs.Replica.{grants, afterVote, Request, reading, writing, requestBody, mayAccept, accepting, acknowledging, refusing}
 
 -- what a server's step gives: the server afterwards, the messages it sends, in order, and the answers it prints
 pub record Reaction : Type 0 where
@@ -21,8 +21,8 @@ pub record Reaction : Type 0 where
 abbrev pub reaction : Server → List Message → List Answer → Reaction
 reaction s ms out = record { server = s; sends = ms; answers = out }
 
-abbrev pub quiet : Server → Reaction
-quiet s = reaction s [] []
+abbrev pub noReaction : Server → Reaction
+noReaction s = reaction s [] []
 
 -- a reaction, with messages sent before it
 abbrev pub after : List Message → Reaction → Reaction
@@ -73,8 +73,8 @@ unfoldable pub cease : Server → Reaction
 cease s = reaction (withVolatile s (ceased (s .volatile))) [] (endings (s .volatile .calls))
 
 -- a server whose vote rises above its own number is no longer leader or candidate
-unfoldable pub settle : Server → Reaction
-settle s = elim (ltb (s .stored .number) (s .stored .vote)) [ true ↦ cease s | false ↦ quiet s ]
+unfoldable pub stepDown : Server → Reaction
+stepDown s = elim (ltb (s .stored .number) (s .stored .vote)) [ true ↦ cease s | false ↦ noReaction s ]
 
 -- ---- elections
 
@@ -95,8 +95,8 @@ standing n votes w =
     }
 
 -- Algorithm 1, STARTELECTION, once the number is raised to e: the server's own vote first, then the requests
-unfoldable pub stands : ℕ → ℕ → ℕ → Server → Reaction
-stands n me e s =
+unfoldable pub standForElection : ℕ → ℕ → ℕ → Server → Reaction
+standForElection n me e s =
     let votes = set (s .volatile .votes) me (grants e me (s .stored)) in
     reaction
     (record { stored = afterVote e me (s .stored); volatile = standing n votes (s .volatile); stopped = s .stopped })
@@ -114,7 +114,7 @@ elect n me s =
     elim (ltb (s .stored .number + 1) (s .stored .vote)) [
       | true ↦ reaction r [] (f .answers)
       | false ↦
-          let g = stands n me (s .stored .number + 1) r in
+          let g = standForElection n me (s .stored .number + 1) r in
           reaction (g .server) (g .sends) (f .answers)
     ]
 
@@ -122,13 +122,13 @@ elect n me s =
 unfoldable pub onAckVote : ℕ → ℕ → ℕ → Server → Reaction
 onAckVote n q e s =
     elim (s .volatile .role) [
-      | follower ↦ quiet s
-      | leading ↦ quiet s
+      | follower ↦ noReaction s
+      | leading ↦ noReaction s
       | candidate ↦
           elim (eqb e (s .stored .number)) [
-            | false ↦ quiet s
+            | false ↦ noReaction s
             | true ↦
-                quiet (withVolatile s (standing n (set (s .volatile .votes) q true) (s .volatile)))
+                noReaction (withVolatile s (standing n (set (s .volatile .votes) q true) (s .volatile)))
           ]
     ]
 
@@ -241,7 +241,7 @@ applying n me b (writes t) s = openRound n me b ownWrite (writing (nextVersion b
 unfoldable pub afterRead : ℕ → ℕ → ℕ → Server → Reaction
 afterRead n me b s =
     elim (callAt (s .volatile) b) [
-      | none ↦ quiet s
+      | none ↦ noReaction s
       | some c ↦
           applying n me b (effect (c .words) (copyAt (s .stored) b .table)) s
     ]
@@ -255,8 +255,8 @@ unfoldable pub recovering : ℕ → ℕ → ℕ → List Entry → Server → Re
 recovering n me b t s = openRound n me b recoveryWrite (writing (version (s .stored .number) 1) t) (checking n me b) s
 
 -- READ: recovery where the stored version's number is not the leader's, then the checking round
-unfoldable pub readBucket : ℕ → ℕ → ℕ → Server → Reaction
-readBucket n me b s =
+unfoldable pub startRead : ℕ → ℕ → ℕ → Server → Reaction
+startRead n me b s =
     elim (eqb (copyAt (s .stored) b .version .election) (s .stored .number)) [
       | true ↦ checking n me b s
       | false ↦
@@ -266,7 +266,7 @@ readBucket n me b s =
 -- a call is taken
 unfoldable pub beginCall : ℕ → ℕ → ℕ → ℕ → Words → Server → Reaction
 beginCall n me b i words s =
-    readBucket n me b
+    startRead n me b
     (withVolatile s
     (record {
       role = s .volatile .role;
@@ -329,20 +329,20 @@ counting n me b r s =
     elim (closes n r) [
       | true ↦ closed n me b r (withRound s b r)
       | false ↦
-          elim (fails n r) [ true ↦ cease s | false ↦ quiet (withRound s b r) ]
+          elim (fails n r) [ true ↦ cease s | false ↦ noReaction (withRound s b r) ]
     ]
 
 -- a reply counts only with the round's bucket, election number and round
 unfoldable pub onReply : ℕ → ℕ → Message → Mark → Copy → Server → Reaction
 onReply n me m mark report s =
     elim (roundAt (s .volatile) (m .bucket)) [
-      | none ↦ quiet s
+      | none ↦ noReaction s
       | some r ↦
           elim (eqb (m .election) (r .election)) [
-            | false ↦ quiet s
+            | false ↦ noReaction s
             | true ↦
                 elim (eqb (m .round) (r .number)) [
-                  | false ↦ quiet s
+                  | false ↦ noReaction s
                   | true ↦
                       counting n me (m .bucket) (counted (m .sender) mark report r) s
                 ]
@@ -362,16 +362,16 @@ replying r m = reaction (r .server) (m ∷ []) (r .answers)
 
 unfoldable pub onPleaseVote : ℕ → Message → Server → Reaction
 onPleaseVote me m s =
-    replying (settle (withStored s (afterVote (m .election) (m .sender) (s .stored))))
+    replying (stepDown (withStored s (afterVote (m .election) (m .sender) (s .stored))))
     (replyTo me m (elim (grants (m .election) (m .sender) (s .stored)) [ true ↦ ackVote | false ↦ nackVote ]))
 
 unfoldable pub onRequest : ℕ → Message → Request → Server → Reaction
 onRequest me m request s =
-    elim (heeds (m .election) (s .stored)) [
+    elim (mayAccept (m .election) (s .stored)) [
       | false ↦ reaction s (replyTo me m (refusing request) ∷ []) []
       | true ↦
           let st = accepting (m .bucket) (m .election) (m .sender) request (s .stored) in
-          replying (settle (withStored s st)) (replyTo me m (acknowledging (m .bucket) request st))
+          replying (stepDown (withStored s st)) (replyTo me m (acknowledging (m .bucket) request st))
     ]
 
 unfoldable pub handle : ℕ → ℕ → Message → Server → Reaction
@@ -379,7 +379,7 @@ handle n me m s =
     elim (m .body) [
       | pleaseVote ↦ onPleaseVote me m s
       | ackVote ↦ onAckVote n (m .sender) (m .election) s
-      | nackVote ↦ quiet s
+      | nackVote ↦ noReaction s
       | replicaWrite v t ↦ onRequest me m (writing v t) s
       | ackWrite ↦ onReply n me m acknowledged freshCopy s
       | nackWrite ↦ onReply n me m refused freshCopy s

@@ -37,8 +37,8 @@ pub record State : Type 0 where
   pub cluster : Option Cluster
   pub tally : Tally
 
-abbrev pub nothing : State
-nothing = record { cluster = none; tally = record { sent = 0; copied = 0; delivered = 0; lost = 0; inFlight = 0 } }
+abbrev pub initialState : State
+initialState = record { cluster = none; tally = record { sent = 0; copied = 0; delivered = 0; lost = 0; inFlight = 0 } }
 
 -- what a line gives: the number it is refused with, or the answers it prints
 pub data Outcome : Type 0 where
@@ -103,8 +103,8 @@ badWords (Calls.del k) = badKey k
 badWords (Calls.keys b) = false
 
 -- 5
-unfoldable pub spent : Cluster → Bool
-spent c = leb maxAccepted (c .accepted)
+unfoldable pub limitReached : Cluster → Bool
+limitReached c = leb maxAccepted (c .accepted)
 
 -- 6
 abbrev pub stoppedAt : Cluster → ℕ → Bool
@@ -132,25 +132,25 @@ lastNumber c s = leb maxElection (serverAt c s .stored .number)
 unfoldable pub conditions : Cluster → Line → List Condition
 conditions c (cluster n b) = when 2 true ∷ []
 conditions c (elect s) =
-    when 3 (noServer c s) ∷ when 5 (spent c) ∷ when 6 (stoppedAt c s) ∷ when 11 (lastNumber c s) ∷ []
+    when 3 (noServer c s) ∷ when 5 (limitReached c) ∷ when 6 (stoppedAt c s) ∷ when 11 (lastNumber c s) ∷ []
 conditions c (call s w) =
     when 3 (either (noServer c s) (noBucketFor c w)) ∷
     when 4 (badWords w) ∷
-    when 5 (spent c) ∷
+    when 5 (limitReached c) ∷
     when 6 (stoppedAt c s) ∷
     when 8 (not (isLeading (serverAt c s .volatile .role))) ∷
     when 9 (present (callAt (serverAt c s .volatile) (bucketFor (c .buckets) w))) ∷
     []
-conditions c (deliver i) = when 5 (spent c) ∷ when 7 (noMessage c i) ∷ []
-conditions c (copy i) = when 5 (spent c) ∷ when 7 (noMessage c i) ∷ []
-conditions c (lose i) = when 5 (spent c) ∷ when 7 (noMessage c i) ∷ []
+conditions c (deliver i) = when 5 (limitReached c) ∷ when 7 (noMessage c i) ∷ []
+conditions c (copy i) = when 5 (limitReached c) ∷ when 7 (noMessage c i) ∷ []
+conditions c (lose i) = when 5 (limitReached c) ∷ when 7 (noMessage c i) ∷ []
 conditions c (timeout s b) =
     when 3 (either (noServer c s) (noBucket c b)) ∷
-    when 5 (spent c) ∷
+    when 5 (limitReached c) ∷
     when 6 (stoppedAt c s) ∷
     when 10 (not (present (roundAt (serverAt c s .volatile) b))) ∷
     []
-conditions c (stop s) = when 3 (noServer c s) ∷ when 5 (spent c) ∷ when 6 (stoppedAt c s) ∷ []
+conditions c (stop s) = when 3 (noServer c s) ∷ when 5 (limitReached c) ∷ when 6 (stoppedAt c s) ∷ []
 
 -- ---- what an accepted line does
 
@@ -164,8 +164,8 @@ pub record Work : Type 0 where
   pub answers : List Answer
 
 -- one more accepted line, with server s as its step left it and its messages at the end of the list
-abbrev pub stepped : Cluster → ℕ → List Message → ℕ → Reaction → Cluster
-stepped c s kept calls r =
+abbrev pub afterStep : Cluster → ℕ → List Message → ℕ → Reaction → Cluster
+afterStep c s kept calls r =
     record {
       servers = set (c .servers) s (r .server);
       buckets = c .buckets;
@@ -178,7 +178,7 @@ stepped c s kept calls r =
 abbrev pub byLine : Cluster → ℕ → ℕ → Reaction → Work
 byLine c s calls r =
     record {
-      cluster = stepped c s (c .messages) calls r;
+      cluster = afterStep c s (c .messages) calls r;
       sent = length (r .sends);
       copied = 0;
       delivered = 0;
@@ -187,8 +187,8 @@ byLine c s calls r =
     }
 
 -- a message that goes nowhere
-abbrev pub wasted : Cluster → List Message → ℕ → Work
-wasted c kept copied =
+abbrev pub lostMessage : Cluster → List Message → ℕ → Work
+lostMessage c kept copied =
     record {
       cluster = record { servers = c .servers; buckets = c .buckets; messages = kept; accepted = c .accepted + 1; calls = c .calls };
       sent = 0;
@@ -199,10 +199,10 @@ wasted c kept copied =
     }
 
 -- the step of the server that a message was handed to
-abbrev pub handed : Cluster → Message → List Message → ℕ → Reaction → Work
-handed c m kept copied r =
+abbrev pub deliveredTo : Cluster → Message → List Message → ℕ → Reaction → Work
+deliveredTo c m kept copied r =
     record {
-      cluster = stepped c (m .receiver) kept (c .calls) r;
+      cluster = afterStep c (m .receiver) kept (c .calls) r;
       sent = length (r .sends);
       copied = copied;
       delivered = 1;
@@ -211,11 +211,11 @@ handed c m kept copied r =
     }
 
 -- a message handed to its server, where one to a stopped server counts as lost; `kept` are the messages that stay
-unfoldable pub handing : Cluster → Message → List Message → ℕ → Work
-handing c m kept copied =
+unfoldable pub delivery : Cluster → Message → List Message → ℕ → Work
+delivery c m kept copied =
     elim (stoppedAt c (m .receiver)) [
-      | true ↦ wasted c kept copied
-      | false ↦ handed c m kept copied (handle (length (c .servers)) (m .receiver) m (serverAt c (m .receiver)))
+      | true ↦ lostMessage c kept copied
+      | false ↦ deliveredTo c m kept copied (handle (length (c .servers)) (m .receiver) m (serverAt c (m .receiver)))
     ]
 
 abbrev pub halted : Server → Server
@@ -227,9 +227,9 @@ work c (cluster n b) = byLine c 0 (c .calls) (reaction (serverAt c 0) [] [])
 work c (elect s) = byLine c s (c .calls) (Leader.elect (length (c .servers)) s (serverAt c s))
 work c (call s w) =
     byLine c s (c .calls + 1) (beginCall (length (c .servers)) s (bucketFor (c .buckets) w) (c .calls + 1) w (serverAt c s))
-work c (deliver i) = handing c (messageAt c i) (dropAt i (c .messages)) 0
-work c (copy i) = handing c (messageAt c i) (c .messages) 1
-work c (lose i) = wasted c (dropAt i (c .messages)) 0
+work c (deliver i) = delivery c (messageAt c i) (dropAt i (c .messages)) 0
+work c (copy i) = delivery c (messageAt c i) (c .messages) 1
+work c (lose i) = lostMessage c (dropAt i (c .messages)) 0
 work c (timeout s b) = byLine c s (c .calls) (cease (serverAt c s))
 work c (stop s) = byLine c s (c .calls) (reaction (halted (serverAt c s)) [] [])
 
@@ -245,44 +245,44 @@ tallied t w =
       inFlight = length (w .cluster .messages);
     }
 
-pub record Stepped : Type 0 where
+pub record LineResult : Type 0 where
   pub state : State
   pub outcome : Outcome
 
-abbrev pub turnedDown : State → ℕ → Stepped
-turnedDown s r = record { state = s; outcome = refusal r }
+abbrev pub refuse : State → ℕ → LineResult
+refuse s r = record { state = s; outcome = refusal r }
 
 -- 12: the line as a whole would send more than there are places
-unfoldable pub taking : State → Work → Stepped
-taking s w =
+unfoldable pub acceptLine : State → Work → LineResult
+acceptLine s w =
     elim (leb (length (w .cluster .messages)) maxMessages) [
-      | false ↦ turnedDown s 12
+      | false ↦ refuse s 12
       | true ↦
           record { state = record { cluster = some (w .cluster); tally = tallied (s .tally) w }; outcome = printed (w .answers) }
     ]
 
-unfoldable pub inCluster : State → Cluster → Line → Stepped
-inCluster s c l = elim (firstOf (conditions c l)) [ some r ↦ turnedDown s r | none ↦ taking s (work c l) ]
+unfoldable pub inCluster : State → Cluster → Line → LineResult
+inCluster s c l = elim (firstOf (conditions c l)) [ some r ↦ refuse s r | none ↦ acceptLine s (work c l) ]
 
 -- 2: the first cluster line makes the cluster, if its numbers are in range; nothing else is taken before it
-unfoldable pub founding : State → Line → Stepped
-founding s (cluster n b) =
+unfoldable pub createCluster : State → Line → LineResult
+createCluster s (cluster n b) =
     elim (within maxServers n) [
-      | false ↦ turnedDown s 2
+      | false ↦ refuse s 2
       | true ↦
           elim (within maxBuckets b) [
-            | false ↦ turnedDown s 2
+            | false ↦ refuse s 2
             | true ↦
                 record { state = record { cluster = some (freshCluster n b); tally = s .tally }; outcome = printed [] }
           ]
     ]
-founding s (elect x) = turnedDown s 2
-founding s (call x w) = turnedDown s 2
-founding s (deliver i) = turnedDown s 2
-founding s (copy i) = turnedDown s 2
-founding s (lose i) = turnedDown s 2
-founding s (timeout x b) = turnedDown s 2
-founding s (stop x) = turnedDown s 2
+createCluster s (elect x) = refuse s 2
+createCluster s (call x w) = refuse s 2
+createCluster s (deliver i) = refuse s 2
+createCluster s (copy i) = refuse s 2
+createCluster s (lose i) = refuse s 2
+createCluster s (timeout x b) = refuse s 2
+createCluster s (stop x) = refuse s 2
 
-unfoldable pub perform : State → Line → Stepped
-perform s l = elim (s .cluster) [ none ↦ founding s l | some c ↦ inCluster s c l ]
+unfoldable pub perform : State → Line → LineResult
+perform s l = elim (s .cluster) [ none ↦ createCluster s l | some c ↦ inCluster s c l ]

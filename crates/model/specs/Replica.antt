@@ -33,8 +33,8 @@ requestBody reading = replicaRead
 requestBody (writing v t) = replicaWrite v t
 
 -- Algorithms 2 and 3: a request under a number below the vote is refused
-unfoldable pub heeds : ℕ → Stored → Bool
-heeds e st = elim (ltb e (st .vote)) [ true ↦ false | false ↦ true ]
+unfoldable pub mayAccept : ℕ → Stored → Bool
+mayAccept e st = elim (ltb e (st .vote)) [ true ↦ false | false ↦ true ]
 
 -- document 01's addition: an accepted write is stored only if its version is above the stored one
 unfoldable pub storing : ℕ → Version → List Entry → Stored → Stored

@@ -6,12 +6,12 @@ use Prim.Native.Nat.{ℕ, _+_}
 use lib.Dec.{eqb}
 use lib.ListN.{take}
 use Rattle.model.specs.Measures.{maxLines}
-use Rattle.model.specs.Lines.{State, nothing, Outcome, Stepped, refusal, perform}
+use Rattle.model.specs.Lines.{State, initialState, Outcome, LineResult, refusal, perform}
 use Rattle.model.specs.Parse.{parse}
 use Rattle.model.specs.Print.{outcomeText, tallyText}
 
 -- one line
-unfoldable pub step : State → List ℕ → Stepped
+unfoldable pub step : State → List ℕ → LineResult
 step s l = elim (parse l) [ none ↦ record { state = s; outcome = refusal 1 } | some x ↦ perform s x ]
 
 -- a list of lines: the state that they leave, and what each of them gives
@@ -47,4 +47,4 @@ printedFrom number s (l ∷ ls) =
     outcomeText number (x .outcome) ++ printedFrom (number + 1) (x .state) ls
 
 unfoldable pub run : List ℕ → List ℕ
-run input = printedFrom 1 nothing (linesOf input)
+run input = printedFrom 1 initialState (linesOf input)
