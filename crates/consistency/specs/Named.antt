@@ -1,8 +1,8 @@
--- Theorems about every script, each by itself. A script is any list of lines `ls`; `stateAfter nothing ls` is the state that it
--- reaches, run from nothing, and `ls ++ ms` is a script that goes on after `ls`. What is said of a server holds of a stopped one too.
+-- Theorems about every script, each by itself. A script is any list of lines `ls`; `stateAfter initialState ls` is the state
+-- that it reaches, and `ls ++ ms` is a script that goes on after `ls`. What is said of a server holds of a stopped one too.
 -- Freshness, and what a call that ended as `notdone` leaves, are in Fresh.antt.
 use mathlib.Core.Path.{_≡_, refl, sym, _∙_, ap, subst, subst⁻¹}
-use mathlib.Core.List.{List, [], _∷_, _++_, map, append-nil}
+use mathlib.Core.List.{List, [], _∷_, _++_, map, append-nil, Memᴰ·map, Memᴰ·of-map}
 use mathlib.Core.Bool.{true, false}
 use lib.Dec.{ltb}
 use Prim.Native.Nat.{ℕ, _≤_}
@@ -14,7 +14,7 @@ use Rattle.model.specs.Leader.{Reaction, noReaction, cease, withStored, replyTo
 use Rattle.model.specs.Lines.{initialState}
 use Rattle.model.specs.Run.{stateAfter}
 use Rattle.history.specs.Version.{_≼_, lt-not-le}
-use Rattle.consistency.specs.Statement.{Distinct, ends}
+use Rattle.consistency.specs.Statement.{_∈_, Begin, End, Distinct, begins, ends}
 use Rattle.consistency.specs.Claims.{Holds}
 use Rattle.consistency.specs.Growth.{won-grows, holds-grows, one-winner}
 use Rattle.consistency.specs.Storing.{storing-cases}
@@ -22,7 +22,7 @@ use Rattle.consistency.specs.OneTable.{one-table}
 use Rattle.consistency.specs.Onward.{Onward}
 use Rattle.consistency.specs.Reached.{serverIn, LeadsIn, lines-onward, after-both}
 use Rattle.consistency.specs.Agreed.{leader-facts, copy-held, reached, goes-on}
-use Rattle.consistency.specs.Runs.{ran-of, script-leaves}
+use Rattle.consistency.specs.Runs.{beginOf, endOf, ran-of, script-leaves}
 
 -- ---- at most one leader under an election number
 
@@ -107,3 +107,12 @@ same-version-same-table ls ms p q b = rw (after-both initialState ls ms) go
 
 pub answered-once : (ls : List (List ℕ)) → Distinct (map (λ y. y .number) (ends ls))
 answered-once ls = script-leaves ls .same .once
+
+-- ---- every answer is that of a call accepted in the same line or an earlier one
+
+pub answered-was-begun : (ls : List (List ℕ)) (e : End) → e ∈ ends ls → (x : Begin) × (x ∈ begins ls) × (x .number ≡ e .number) × (x .line ≤ e .line)
+answered-was-begun ls e m =
+    let h = script-leaves ls in
+    let (z, o, u) = Memᴰ·of-map endOf (h .log .ends) (h .same .ended e m) in
+    let (y, k, n, l) = ran-of h .facts .calls .ended-begun z o in
+    (beginOf y, h .same .begins _ (Memᴰ·map beginOf k), n ∙ ap (λ x. x .number) u, subst (λ x. y .line ≤ x .line) u l)
