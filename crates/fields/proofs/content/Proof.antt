@@ -1,0 +1,20 @@
+-- `content` meets its contract.
+use borrow.Author.Tests.{le-leb, lt-leb}
+use borrow.Author.Needs.{needs}
+use Rattle.fields.proofs.content.Statement.{statement}
+use Rattle.fields.proofs.content.Tie as tie
+
+count-of-requires : tie.Need-count-of-requires
+count-of-requires c κs = search needs
+
+settled-requires : tie.Need-settled-requires
+settled-requires c κs = search needs
+
+returns : tie.Need-returns
+returns c = rw (le-leb 1 (c .before .before .before .args .round) (c .before .before .if1 .taken), ← c .before .count-of .ensures .is) (c .settled .ensures)
+
+returns-2 : tie.Need-returns-2
+returns-2 c = rw (lt-leb 1 (c .before .args .round) (c .if1 .left))
+
+pub content-spec : {M : Type 1} → statement M
+content-spec = tie.close (tie.spec count-of-requires settled-requires returns returns-2)
