@@ -1,0 +1,52 @@
+-- `setting_if` meets its contract: the present value is compared first.
+use mathlib.Core.Path.{_≡_, sym, ap, _∙_}
+use mathlib.Core.Bool.{true, false}
+use borrow.Author.Needs.{needs}
+use Rattle.entries.specs.Entries.{valueOf}
+use Rattle.entries.specs.Decoded.{keyBytes, valueBytes, tableIn}
+use Rattle.table.specs.Form.{sameBytes}
+use Rattle.model.specs.Calls.{effect}
+use Rattle.server.specs.Views.{resultIn, effectIn}
+use Rattle.effects.proofs.setting_if.Statement.{statement}
+use Rattle.effects.proofs.setting_if.Tie as tie
+
+find-requires : tie.Need-find-requires
+find-requires c κs = search needs
+
+same-value-requires : tie.Need-same-value-requires
+same-value-requires c κs = search needs
+
+setting-requires : tie.Need-setting-requires
+setting-requires c κs = search needs
+
+returns : tie.Need-returns
+unfolding effect
+returns c =
+    let k = c .before .before in
+    let a = k .before .before .args in
+    let test : sameBytes (valueOf (keyBytes (a .k)) (tableIn (a .t))) (valueBytes (a .e)) ≡ true =
+    sym (ap (λ l. sameBytes l (valueBytes (a .e))) (k .before .find .ensures)) ∙ sym (k .same-value .ensures) ∙ c .before .if1 .taken in
+    rw (effect, test) (c .setting .ensures)
+
+no-value-requires : tie.Need-no-value-requires
+no-value-requires c κs = search needs
+
+returns-2 : tie.Need-returns-2
+unfolding effect effectIn resultIn
+returns-2 c =
+    let k = c .before .before in
+    let a = k .before .before .args in
+    let test : sameBytes (valueOf (keyBytes (a .k)) (tableIn (a .t))) (valueBytes (a .e)) ≡ false =
+    sym (ap (λ l. sameBytes l (valueBytes (a .e))) (k .before .find .ensures)) ∙ sym (k .same-value .ensures) ∙ c .before .if1 .left in
+    rw (effect, test)
+
+pub setting-if-spec : {M : Type 1} → statement M
+setting-if-spec =
+    tie.close
+    (tie.spec
+    find-requires
+    same-value-requires
+    setting-requires
+    returns
+    no-value-requires
+    returns-2)

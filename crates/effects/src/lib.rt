@@ -1,0 +1,127 @@
+// What a call does to its bucket's table.
+use server::Effect;
+use server::Words;
+use entries::Decoded;
+use entries::Key;
+use entries::Value;
+use entries::keys::value_length;
+use entries::slots::find;
+use entries::slots::no_value;
+use entries::slots::store;
+ghost use mathlib.Core.Path.{_≡_};
+ghost use Prim.Native.Nat.{ℕ};
+ghost use Rattle.entries.specs.Decoded.{keyBytes, valueBytes, tableIn};
+ghost use Rattle.table.specs.Form.{sameBytes};
+ghost use Rattle.model.specs.Calls as calls;
+ghost use Rattle.model.specs.Calls.{effect, setting};
+ghost use Rattle.server.specs.Views.{wordsIn, effectIn};
+
+// Whether two values have the same bytes.
+pub fn same_value(a: Value, b: Value) -> bool
+    ensures { λ r. ⌜ r ≡ sameBytes (valueBytes a) (valueBytes b) ⌝ }
+{
+    let n = value_length(a);
+    let m = value_length(b);
+    let x = a.bytes;
+    let y = b.bytes;
+    let mut i = 0;
+    while i < n {
+        if m <= i {
+            return false;
+        }
+        if x[i] < y[i] {
+            return false;
+        }
+        if y[i] < x[i] {
+            return false;
+        }
+        i += 1;
+    }
+    if n < m { false } else { true }
+}
+
+// `get K`
+fn getting(k: Key, t: Decoded) -> Effect
+    ensures { λ r. ⌜ effectIn r ≡ effect (calls.get (keyBytes k)) (tableIn t) ⌝ }
+{
+    let value = find(t, k);
+    Effect {
+        result: 1,
+        value,
+        table: t,
+    }
+}
+
+// `keys`
+fn listing(t: Decoded) -> Effect
+    ensures { λ r. ⌜ ((b : ℕ) → effectIn r ≡ effect (calls.keys b) (tableIn t)) ⌝ }
+{
+    let value = no_value();
+    Effect {
+        result: 2,
+        value,
+        table: t,
+    }
+}
+
+// `set K V`: the new table is to be written, or there is no room.
+pub fn setting(k: Key, v: Value, t: Decoded) -> Effect
+    ensures { λ r. ⌜ effectIn r ≡ setting (keyBytes k) (valueBytes v) (tableIn t) ⌝ }
+{
+    let value = no_value();
+    let s = store(t, k, v);
+    let table = s.table;
+    if s.full {
+        return Effect {
+            result: 5,
+            value,
+            table,
+        };
+    }
+    Effect {
+        result: 0,
+        value,
+        table,
+    }
+}
+
+// `setif K E V`: the present value is looked at before there is found to be no room.
+fn setting_if(k: Key, e: Value, v: Value, t: Decoded) -> Effect
+    ensures { λ r. ⌜ effectIn r ≡ effect (calls.setif (keyBytes k) (valueBytes e) (valueBytes v)) (tableIn t) ⌝ }
+{
+    let present = find(t, k);
+    if same_value(present, e) {
+        return setting(k, v, t);
+    }
+    let value = no_value();
+    Effect {
+        result: 4,
+        value,
+        table: t,
+    }
+}
+
+// `del K`: as `set K -`.
+fn deleting(k: Key, t: Decoded) -> Effect
+    ensures { λ r. ⌜ effectIn r ≡ effect (calls.del (keyBytes k)) (tableIn t) ⌝ }
+{
+    let nothing = no_value();
+    setting(k, nothing, t)
+}
+
+// What is left to do of a call once its bucket's table is read.
+pub fn effect(w: Words, t: Decoded) -> Effect
+    ensures { λ r. ⌜ effectIn r ≡ effect (wordsIn w) (tableIn t) ⌝ }
+{
+    let kind = w.kind;
+    let key = w.key;
+    let value = w.value;
+    let expected = w.expected;
+    match kind {
+        1 => getting(key, t),
+        2 => setting(key, value, t),
+        3 => setting_if(key, expected, value, t),
+        4 => deleting(key, t),
+        _ => listing(t),
+    }
+}

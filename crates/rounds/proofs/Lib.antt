@@ -1,0 +1,3 @@
+pub mod RoundLaws
+pub mod CallLaws
+pub mod KindLaws

@@ -1,0 +1,5 @@
+// The rules of rounds and calls, and of messages by their kind, on the structs of crate `server`.
+pub mod calls;
+pub mod kinds;
+pub mod opening;
+pub mod replies;

@@ -1,0 +1,3 @@
+pub mod Views
+pub mod Counts
+pub mod Heads

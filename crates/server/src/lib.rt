@@ -1,0 +1,82 @@
+// The rules of one server on small structs by value. What each number stands for is said in specs/Views.antt.
+use entries::Decoded;
+use entries::Key;
+use entries::Value;
+
+pub mod numbers;
+pub mod votes;
+
+// A version: the election number decides first, then the counter.
+pub struct Version {
+    pub election: u32,
+    pub counter: u32,
+}
+
+// A server without its copies, rounds and calls. Stored: number, vote, leader. Forgotten at a stop: role, last (the number of the last round), votes.
+pub struct Head {
+    pub number: u32,
+    pub vote: u32,
+    pub leader: u32,
+    pub role: u32,
+    pub last: u32,
+    pub stopped: u32,
+    pub votes: [u8; 7],
+}
+
+// An open round: one mark for each server beside its numbers. With purpose 0 no round is open.
+pub struct Round {
+    pub purpose: u32,
+    pub number: u32,
+    pub election: u32,
+    pub best: Version,
+    pub marks: [u8; 7],
+}
+
+// A round with a reply counted, and whether the reported copy is now the best one.
+pub struct Counted {
+    pub round: Round,
+    pub better: bool,
+}
+
+// An open call beside its words. With kind 0 no call is open.
+pub struct Call {
+    pub kind: u32,
+    pub number: u32,
+    pub rounds: u32,
+    pub sent: u32,
+}
+
+// The words of a call: kinds 1 get, 2 set, 3 setif, 4 del, 5 keys.
+pub struct Words {
+    pub kind: u32,
+    pub bucket: u32,
+    pub key: Key,
+    pub expected: Value,
+    pub value: Value,
+}
+
+// An answer without its data.
+pub struct Answer {
+    pub call: u32,
+    pub result: u32,
+    pub rounds: u32,
+}
+
+// What is left to do once the table is read: with result 0 the table is to be written, otherwise the call is answered.
+pub struct Effect {
+    pub result: u32,
+    pub value: Value,
+    pub table: Decoded,
+}
+
+// How a server handles a message.
+pub enum Handling {
+    // a vote message: 1 PLEASEVOTE, 2 ACKVOTE, 3 NACKVOTE
+    Vote(u32),
+    // REPLICAWRITE or REPLICAREAD
+    Request { writes: bool },
+    // a reply to a round: its mark, and whether it reports a copy
+    Reply { mark: u8, reports: bool },
+    // none of the nine kinds
+    Other,
+}

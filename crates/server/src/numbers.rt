@@ -1,0 +1,75 @@
+// Majorities, the order of versions, and how often a number stands in seven places.
+use crate::Version;
+use entries::keys::at_most;
+ghost use mathlib.Core.Path.{_≡_};
+ghost use lib.ListN.{getD, take, set};
+ghost use Rattle.model.specs.Measures.{majority};
+ghost use Rattle.model.specs.Cluster.{above};
+ghost use Rattle.server.specs.Views.{versionIn};
+ghost use Rattle.server.specs.Counts.{countOf};
+
+// Document 01's table; no servers, no majority.
+const MAJORITIES: [u32; 8] = [0, 1, 2, 2, 3, 3, 4, 4];
+
+pub fn majority(n: u32) -> u32
+    ensures { λ r. ⌜ r ≡ majority n ⌝ }
+{
+    if n < 8 {
+        let i = n as usize;
+        return MAJORITIES[i];
+    }
+    0
+}
+
+// Whether version v is above w.
+pub fn above(v: Version, w: Version) -> bool
+    ensures { λ r. ⌜ r ≡ above (versionIn v) (versionIn w) ⌝ }
+{
+    if v.election == w.election {
+        return w.counter < v.counter;
+    }
+    w.election < v.election
+}
+
+// How many of the first n places hold x.
+pub fn count(n: u32, places: [u8; 7], x: u8) -> u32
+    ensures { λ r. ⌜ r ≡ countOf x (take n places) ⌝ }
+{
+    let m = at_most(n as usize, 7);
+    let mut found = 0;
+    let mut i = 0;
+    while i < m {
+        if places[i] == x {
+            found += 1;
+        }
+        i += 1;
+    }
+    found
+}
+
+// Seven places with x at q; there is none at 7 or above.
+pub fn placed(places: [u8; 7], q: u32, x: u8) -> [u8; 7]
+    ensures { λ r. ⌜ r ≡ set places q x ⌝ }
+{
+    let mut a = places;
+    let i = q as usize;
+    if i < 7 {
+        a[i] = x;
+        return a;
+    }
+    a
+}
+
+// What stands at q among the first n places, and `past` where there is none.
+pub fn place_at(n: u32, places: [u8; 7], q: u32, past: u8) -> u8
+    ensures { λ r. ⌜ r ≡ getD (take n places) q past ⌝ }
+{
+    if n <= q {
+        return past;
+    }
+    let i = q as usize;
+    if 7 <= i {
+        return past;
+    }
+    places[i]
+}

@@ -1,0 +1,161 @@
+// Votes and elections on a server's head.
+use crate::Head;
+use crate::numbers::count;
+use crate::numbers::majority;
+use crate::numbers::placed;
+use std::num::wrapping_add_u32;
+ghost use mathlib.Core.Path.{_≡_};
+ghost use mathlib.Core.List.{[]};
+ghost use Prim.Native.Nat.{ℕ, _+_, _<_, _^_};
+ghost use lib.Dec.{ltb};
+ghost use Rattle.model.specs.Replica.{grants, afterVote, voting, mayAccept};
+ghost use Rattle.model.specs.Leader.{withStored, cease, votesFor, standing, standForElection, elect, onAckVote};
+ghost use Rattle.server.specs.Views.{Beside, serverIn, storedIn, volatileIn, votesIn, idle};
+ghost use Rattle.server.specs.Heads.{votingHead, afterVoteHead, ceasedHead, votedHead, roleBy, standingHead, numbered, stoodHead, raisedHead, electedHead, onAckVoteHead};
+
+// Whether a vote for p under e is given.
+pub fn grants(e: u32, p: u32, h: Head) -> bool
+    ensures { λ r. ⌜ r ≡ grants e p (storedIn h []) ⌝ }
+{
+    if h.vote < e {
+        return true;
+    }
+    if e == h.vote {
+        return p == h.leader;
+    }
+    false
+}
+
+// Whether a replica accepts a request under e.
+pub fn may_accept(e: u32, h: Head) -> bool
+    ensures { λ r. ⌜ r ≡ mayAccept e (storedIn h []) ⌝ }
+{
+    if e < h.vote { false } else { true }
+}
+
+// The vote goes to p under e.
+pub fn voting(e: u32, p: u32, h: Head) -> Head
+    ensures is { λ r. ⌜ r ≡ votingHead e p h ⌝ }
+    ensures means { λ r. ⌜ ((n : ℕ) (x : Beside) → serverIn n x r ≡ withStored (serverIn n x h) (voting e p (storedIn h (x .copies)))) ⌝ }
+{
+    let mut a = h;
+    a.vote = e;
+    a.leader = p;
+    a
+}
+
+// What is stored after PLEASEVOTE of p under e.
+pub fn after_vote(e: u32, p: u32, h: Head) -> Head
+    ensures is { λ r. ⌜ r ≡ afterVoteHead e p h ⌝ }
+    ensures means { λ r. ⌜ ((n : ℕ) (x : Beside) → serverIn n x r ≡ withStored (serverIn n x h) (afterVote e p (storedIn h (x .copies)))) ⌝ }
+{
+    if h.vote < e {
+        return voting(e, p, h);
+    }
+    h
+}
+
+// Whether the vote is above the server's own number, so that it cannot lead or stand.
+pub fn must_step_down(h: Head) -> bool
+    ensures { λ r. ⌜ r ≡ ltb (storedIn h [] .number) (storedIn h [] .vote) ⌝ }
+{
+    h.number < h.vote
+}
+
+// Neither leader nor candidate.
+pub fn ceased(h: Head) -> Head
+    ensures is { λ r. ⌜ r ≡ ceasedHead h ⌝ }
+    ensures means { λ r. ⌜ ((n : ℕ) (x : Beside) → serverIn n (idle x) r ≡ cease (serverIn n x h) .server) ⌝ }
+{
+    let mut a = h;
+    a.role = 0;
+    a.votes = [0u8; 7];
+    a
+}
+
+// The votes had among n servers.
+pub fn votes_for(n: u32, h: Head) -> u32
+    ensures { λ r. ⌜ r ≡ votesFor (votesIn n h) ⌝ }
+{
+    let votes = h.votes;
+    count(n, votes, 1)
+}
+
+// Leader with a majority of votes, candidate with fewer.
+fn role_by(n: u32, votes: u32) -> u32
+    ensures { λ r. ⌜ r ≡ roleBy n votes ⌝ }
+{
+    if majority(n) <= votes { 2 } else { 1 }
+}
+
+// The role goes by the votes had.
+pub fn standing(n: u32, h: Head) -> Head
+    ensures is { λ r. ⌜ r ≡ standingHead n h ⌝ }
+    ensures means { λ r. ⌜ ((x : Beside) → volatileIn n r (x .rounds) (x .calls) ≡ standing n (votesIn n h) (volatileIn n h (x .rounds) (x .calls))) ⌝ }
+{
+    let mut a = h;
+    a.role = role_by(n, votes_for(n, h));
+    a
+}
+
+// The vote of server q is v.
+fn voted(q: u32, v: u8, h: Head) -> Head
+    ensures { λ r. ⌜ r ≡ votedHead q v h ⌝ }
+{
+    let old = h.votes;
+    let votes = placed(old, q, v);
+    let mut a = h;
+    a.votes = votes;
+    a
+}
+
+// The number of a yes or no.
+fn numbered(b: bool) -> u8
+    ensures { λ r. ⌜ r ≡ numbered b ⌝ }
+{
+    if b { 1 } else { 0 }
+}
+
+// The server stands under its present number: its own vote comes first.
+pub fn stood(n: u32, me: u32, h: Head) -> Head
+    ensures is { λ r. ⌜ r ≡ stoodHead n me h ⌝ }
+    ensures means { λ r. ⌜ ((x : Beside) → serverIn n x r ≡ standForElection n me (h .number) (serverIn n x h) .server) ⌝ }
+{
+    let own = numbered(grants(h.number, me, h));
+    let a = after_vote(h.number, me, h);
+    standing(n, voted(me, own, a))
+}
+
+// Leadership and candidacy end, and the number is raised by one.
+pub fn raised(h: Head) -> Head
+    ensures { λ r. ⌜ r ≡ raisedHead h ⌝ }
+{
+    let mut a = ceased(h);
+    a.number = wrapping_add_u32(h.number, 1);
+    a
+}
+
+// An election: the number is raised, and the server stands unless that is below its own vote.
+pub fn elected(n: u32, me: u32, h: Head) -> Head
+    ensures is { λ r. ⌜ r ≡ electedHead n me h ⌝ }
+    ensures means { λ r. ⌜ ((x : Beside) → h .number + 1 < 2 ^ 32 → serverIn n (idle x) r ≡ elect n me (serverIn n x h) .server) ⌝ }
+{
+    let a = raised(h);
+    if must_step_down(a) {
+        return a;
+    }
+    stood(n, me, a)
+}
+
+// ACKVOTE of q under e: counts only for a candidate, for its present number, once per server.
+pub fn on_ack_vote(n: u32, q: u32, e: u32, h: Head) -> Head
+    ensures is { λ r. ⌜ r ≡ onAckVoteHead n q e h ⌝ }
+    ensures means { λ r. ⌜ ((x : Beside) → serverIn n x r ≡ onAckVote n q e (serverIn n x h) .server) ⌝ }
+{
+    if h.role == 1 {
+        if e == h.number {
+            return standing(n, voted(q, 1, h));
+        }
+    }
+    h
+}
