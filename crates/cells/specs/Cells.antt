@@ -26,8 +26,13 @@ pub record Cell : Type 0 where
 abbrev pub front : Server → Front
 front s =
     record {
-      number = s .stored .number; vote = s .stored .vote; leader = s .stored .leader; role = s .volatile .role;
-      votes = s .volatile .votes; lastRound = s .volatile .lastRound; stopped = s .stopped
+      number = s .stored .number;
+      vote = s .stored .vote;
+      leader = s .stored .leader;
+      role = s .volatile .role;
+      votes = s .volatile .votes;
+      lastRound = s .volatile .lastRound;
+      stopped = s .stopped;
     }
 
 abbrev pub cell : Server → ℕ → Cell
@@ -39,14 +44,14 @@ putCell s b f c =
     record {
       stored = record { number = f .number; vote = f .vote; leader = f .leader; copies = set (s .stored .copies) b (c .copy) };
       volatile =
-        record {
-          role = f .role;
-          votes = f .votes;
-          lastRound = f .lastRound;
-          rounds = set (s .volatile .rounds) b (c .round);
-          calls = set (s .volatile .calls) b (c .call)
-        };
-      stopped = f .stopped
+          record {
+            role = f .role;
+            votes = f .votes;
+            lastRound = f .lastRound;
+            rounds = set (s .volatile .rounds) b (c .round);
+            calls = set (s .volatile .calls) b (c .call);
+          };
+      stopped = f .stopped;
     }
 
 -- the server has a bucket b

@@ -46,11 +46,14 @@ module _ (s : Server) (b : ℕ) (h : Inside s b) where
     where
       there : copyAt (voting e p (putCell s b f c .stored)) b ≡ c .copy
       there = copy-there f c
+
       go : (x : Bool) → above v (c .copy .version) ≡ x
           → accepting b e p (writing v t) (putCell s b f c .stored)
           ≡ record {
-            number = f .number; vote = e; leader = p;
-            copies = set (s .stored .copies) b (elim x as (λ _. Copy) [ true ↦ record { version = v; table = t } | false ↦ c .copy ])
+            number = f .number;
+            vote = e;
+            leader = p;
+            copies = set (s .stored .copies) b (elim x as (λ _. Copy) [ true ↦ record { version = v; table = t } | false ↦ c .copy ]);
           }
       go true i = rw (storing, there, i, set-set (s .stored .copies) b (c .copy) (record { version = v; table = t }))
       go false i = rw (storing, there, i)
@@ -76,6 +79,7 @@ module _ (s : Server) (b : ℕ) (h : Inside s b) where
     where
       ms : List Message
       ms = broadcast n me b (f .number) (f .lastRound + 1) (requestBody q)
+
       go : (t : Bool) → closes n (roundFor n me u f c) ≡ t → openRound n me b u q next (putCell s b f c) ≡ lift s b (openingRound n me b u q move f c)
       go true e = rw (openRound, openingRound, round-is n me u f c, e, opening-is n me u q f c, same (frontAfter me f) (cellAfter n me u q f c))
       go false e = rw (openRound, openingRound, round-is n me u f c, e, opening-is n me u q f c)
@@ -133,6 +137,7 @@ module _ (s : Server) (b : ℕ) (h : Inside s b) where
     where
       with-it : withRound (putCell s b f c) b r ≡ putCell s b f (record { copy = c .copy; round = some r; call = c .call })
       with-it = rw (set-set (s .volatile .rounds) b (c .round) (some r))
+
       go : (t : Bool) → closes n r ≡ t → (u : Bool) → fails n r ≡ u → counting n me b r (putCell s b f c) ≡ reactionTo s b f c (countingReply n me b r f c)
       go true e u i = rw (counting, countingReply, e, with-it) (closed-is n me r f (record { copy = c .copy; round = some r; call = c .call }))
       go false e true i = rw (counting, countingReply, e, i)

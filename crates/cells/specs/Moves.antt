@@ -33,13 +33,19 @@ roundFor n me u f c =
       election = f .number;
       purpose = u;
       marks = set (replicate n silent) me acknowledged;
-      best = reportTo u (c .copy)
+      best = reportTo u (c .copy);
     }
 
 abbrev pub frontAfter : ℕ → Front → Front
 frontAfter me f =
     record {
-      number = f .number; vote = f .number; leader = me; role = f .role; votes = f .votes; lastRound = f .lastRound + 1; stopped = f .stopped
+      number = f .number;
+      vote = f .number;
+      leader = me;
+      role = f .role;
+      votes = f .votes;
+      lastRound = f .lastRound + 1;
+      stopped = f .stopped;
     }
 
 abbrev pub cellAfter : ℕ → ℕ → Purpose → Request → Front → Cell → Cell

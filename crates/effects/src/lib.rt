@@ -1,6 +1,4 @@
 // What a call does to its bucket's table.
-use server::Effect;
-use server::Words;
 use entries::Decoded;
 use entries::Key;
 use entries::Value;
@@ -8,6 +6,8 @@ use entries::keys::value_length;
 use entries::slots::find;
 use entries::slots::no_value;
 use entries::slots::store;
+use server::Effect;
+use server::Words;
 ghost use mathlib.Core.Path.{_≡_};
 ghost use Prim.Native.Nat.{ℕ};
 ghost use Rattle.entries.specs.Decoded.{keyBytes, valueBytes, tableIn};

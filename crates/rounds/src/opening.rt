@@ -1,8 +1,8 @@
 // A round is opened by a broadcast of its call's server.
-use server::numbers::placed;
 use server::Head;
 use server::Round;
 use server::Version;
+use server::numbers::placed;
 use std::num::wrapping_add_u32;
 ghost use mathlib.Core.Path.{_≡_};
 ghost use Prim.Native.Nat.{ℕ, _+_, _<_, _^_, min};

@@ -1,12 +1,12 @@
 // Replies to a round are counted, until it closes or fails.
+use server::Counted;
+use server::Round;
+use server::Version;
 use server::numbers::above;
 use server::numbers::count;
 use server::numbers::majority;
 use server::numbers::place_at;
 use server::numbers::placed;
-use server::Counted;
-use server::Round;
-use server::Version;
 ghost use mathlib.Core.Path.{_≡_};
 ghost use mathlib.Core.List.{List, []};
 ghost use Prim.Native.Nat.{ℕ};

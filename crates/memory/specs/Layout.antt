@@ -1,0 +1,323 @@
+-- Where each field of the cluster's records lies in the lent arrays. Every reading is total: any numbers in the arrays stand for something.
+-- A record has its own words at a fixed offset of a block: `..Row` lists its fields in the order of these words, `..Of` reads them back,
+-- `..At` is the record of block k and `put..` the array with that record replaced. `..Fields` and `..Stores` are the same, written out.
+use mathlib.Core.Path.{_≡_}
+use mathlib.Core.List.{List, [], _∷_, _++_}
+use Prim.Native.Nat.{ℕ, _+_, _*_, _≤_}
+use lib.ListN.{length, getD, take, drop, set}
+use lib.Seq.{paste}
+use Rattle.blocks.specs.Blocks.{blocks, block, refilled}
+use Rattle.entries.specs.declared.Key.{Key}
+use Rattle.entries.specs.declared.Value.{Value}
+use Rattle.entries.specs.Decoded.{keyBytes, valueBytes}
+use Rattle.server.specs.declared.Version.{Version}
+use Rattle.server.specs.declared.Head.{Head}
+use Rattle.server.specs.declared.Round.{Round}
+use Rattle.server.specs.declared.Call.{Call}
+use Rattle.server.specs.declared.Words.{Words}
+use Rattle.memory.specs.declared.Message.{Message}
+use Rattle.memory.specs.declared.Numbers.{Numbers}
+use Rattle.memory.specs.declared.Counts.{Counts}
+use Rattle.memory.specs.Rows.{row, putRow, bytes}
+
+-- ---- sizes: servers, slots (one for each server and bucket), messages
+
+abbrev pub serverRoom : ℕ
+serverRoom = 7
+
+abbrev pub slotRoom : ℕ
+slotRoom = 56
+
+abbrev pub messageRoom : ℕ
+messageRoom = 64
+
+-- words of a head's block, a slot's block and a message's block
+abbrev pub headSize : ℕ
+headSize = 16
+
+abbrev pub slotSize : ℕ
+slotSize = 32
+
+abbrev pub messageSize : ℕ
+messageSize = 8
+
+-- bytes of the block of a content, and those of them that count; bytes of the block of a call's key and values
+abbrev pub contentSize : ℕ
+contentSize = 128
+
+abbrev pub contentBytes : ℕ
+contentBytes = 113
+
+abbrev pub textSize : ℕ
+textSize = 64
+
+-- where the records of a slot begin in its block, and how many words each record has
+abbrev pub versionPlace : ℕ
+versionPlace = 0
+
+abbrev pub roundPlace : ℕ
+roundPlace = 2
+
+abbrev pub callPlace : ℕ
+callPlace = 14
+
+abbrev pub numbersPlace : ℕ
+numbersPlace = 18
+
+abbrev pub headWords : ℕ
+headWords = 13
+
+abbrev pub versionWords : ℕ
+versionWords = 2
+
+abbrev pub roundWords : ℕ
+roundWords = 12
+
+abbrev pub callWords : ℕ
+callWords = 4
+
+abbrev pub numbersWords : ℕ
+numbersWords = 5
+
+abbrev pub countsWords : ℕ
+countsWords = 5
+
+-- bytes of a key and of a value, and where the key, the expected value and the new value begin in their block
+abbrev pub keyRoom : ℕ
+keyRoom = 8
+
+abbrev pub valueRoom : ℕ
+valueRoom = 16
+
+abbrev pub keyPlace : ℕ
+keyPlace = 0
+
+abbrev pub expectedPlace : ℕ
+expectedPlace = 8
+
+abbrev pub valuePlace : ℕ
+valuePlace = 24
+
+-- ---- heads: number, vote, leader, role, last round, stopped, then a word for each vote
+
+abbrev pub headNumbers : Head → List ℕ
+headNumbers h = h .number ∷ h .vote ∷ h .leader ∷ h .role ∷ h .last ∷ h .stopped ∷ []
+
+abbrev pub headRow : Head → List ℕ
+headRow h = headNumbers h ++ row 0 0 serverRoom (h .votes)
+
+abbrev pub headOf : List ℕ → Head
+headOf w =
+    record {
+      number = getD w 0 0;
+      vote = getD w 1 0;
+      leader = getD w 2 0;
+      role = getD w 3 0;
+      last = getD w 4 0;
+      stopped = getD w 5 0;
+      votes = bytes (drop 6 w);
+    }
+
+abbrev pub headFields : List ℕ → ℕ → Head
+headFields l s = headOf (row (s * headSize) 0 headWords l)
+
+-- the head of server s, and the heads with that of server s replaced
+unfoldable pub headAt : List ℕ → ℕ → Head
+headAt l s = headFields l s
+
+unfoldable pub putHead : List ℕ → ℕ → Head → List ℕ
+putHead l s h = putRow l (s * headSize) 0 (headRow h)
+
+-- ---- slots: the version of the copy, the open round, the open call, the numbers of the call's words
+
+abbrev pub versionRow : Version → List ℕ
+versionRow v = v .election ∷ v .counter ∷ []
+
+abbrev pub versionOf : List ℕ → Version
+versionOf w = record { election = getD w 0 0; counter = getD w 1 0 }
+
+abbrev pub versionFields : List ℕ → ℕ → Version
+versionFields l k = versionOf (row (k * slotSize) versionPlace versionWords l)
+
+abbrev pub versionStores : List ℕ → ℕ → Version → List ℕ
+versionStores l k v = putRow l (k * slotSize) versionPlace (versionRow v)
+
+unfoldable pub versionAt : List ℕ → ℕ → Version
+versionAt l k = versionFields l k
+
+unfoldable pub putVersion : List ℕ → ℕ → Version → List ℕ
+putVersion l k v = versionStores l k v
+
+-- purpose, number, election, the best version's two numbers, then a word for each mark
+abbrev pub roundNumbers : Round → List ℕ
+roundNumbers r = r .purpose ∷ r .number ∷ r .election ∷ r .best .election ∷ r .best .counter ∷ []
+
+abbrev pub roundRow : Round → List ℕ
+roundRow r = roundNumbers r ++ row 0 0 serverRoom (r .marks)
+
+abbrev pub roundOf : List ℕ → Round
+roundOf w =
+    record {
+      purpose = getD w 0 0;
+      number = getD w 1 0;
+      election = getD w 2 0;
+      best = versionOf (drop 3 w);
+      marks = bytes (drop 5 w);
+    }
+
+abbrev pub roundFields : List ℕ → ℕ → Round
+roundFields l k = roundOf (row (k * slotSize) roundPlace roundWords l)
+
+unfoldable pub roundAt : List ℕ → ℕ → Round
+roundAt l k = roundFields l k
+
+unfoldable pub putRound : List ℕ → ℕ → Round → List ℕ
+putRound l k r = putRow l (k * slotSize) roundPlace (roundRow r)
+
+abbrev pub callRow : Call → List ℕ
+callRow c = c .kind ∷ c .number ∷ c .rounds ∷ c .sent ∷ []
+
+abbrev pub callOf : List ℕ → Call
+callOf w = record { kind = getD w 0 0; number = getD w 1 0; rounds = getD w 2 0; sent = getD w 3 0 }
+
+abbrev pub callFields : List ℕ → ℕ → Call
+callFields l k = callOf (row (k * slotSize) callPlace callWords l)
+
+abbrev pub callStores : List ℕ → ℕ → Call → List ℕ
+callStores l k c = putRow l (k * slotSize) callPlace (callRow c)
+
+unfoldable pub callAt : List ℕ → ℕ → Call
+callAt l k = callFields l k
+
+unfoldable pub putCall : List ℕ → ℕ → Call → List ℕ
+putCall l k c = callStores l k c
+
+-- kind, bucket, and the lengths of the key, the expected value and the new value
+abbrev pub numbersRow : Numbers → List ℕ
+numbersRow n = n .kind ∷ n .bucket ∷ n .key ∷ n .expected ∷ n .value ∷ []
+
+abbrev pub numbersOf : List ℕ → Numbers
+numbersOf w = record { kind = getD w 0 0; bucket = getD w 1 0; key = getD w 2 0; expected = getD w 3 0; value = getD w 4 0 }
+
+abbrev pub numbersFields : List ℕ → ℕ → Numbers
+numbersFields l k = numbersOf (row (k * slotSize) numbersPlace numbersWords l)
+
+abbrev pub numbersStores : List ℕ → ℕ → Numbers → List ℕ
+numbersStores l k n = putRow l (k * slotSize) numbersPlace (numbersRow n)
+
+unfoldable pub numbersAt : List ℕ → ℕ → Numbers
+numbersAt l k = numbersFields l k
+
+unfoldable pub putNumbers : List ℕ → ℕ → Numbers → List ℕ
+putNumbers l k n = numbersStores l k n
+
+-- the numbers of a call's words: a length above the room is stored as all of it
+abbrev pub numbersIn : Words → Numbers
+numbersIn w =
+    record {
+      kind = w .kind;
+      bucket = w .bucket;
+      key = length (keyBytes (w .key));
+      expected = length (valueBytes (w .expected));
+      value = length (valueBytes (w .value));
+    }
+
+-- ---- the words of open calls: their numbers in the slots, their bytes (eight, sixteen and sixteen) in blocks of their own
+
+abbrev pub keyFrom : List ℕ → ℕ → ℕ → Key
+keyFrom m p len = record { bytes = take keyRoom (drop p m); len = len }
+
+abbrev pub valueFrom : List ℕ → ℕ → ℕ → Value
+valueFrom m p len = record { bytes = take valueRoom (drop p m); len = len }
+
+unfoldable pub wordsAt : List ℕ → List ℕ → ℕ → Words
+wordsAt l m k =
+    let n = numbersAt l k in
+    record {
+      kind = n .kind;
+      bucket = n .bucket;
+      key = keyFrom m (k * textSize + keyPlace) (n .key);
+      expected = valueFrom m (k * textSize + expectedPlace) (n .expected);
+      value = valueFrom m (k * textSize + valuePlace) (n .value);
+    }
+
+-- the slots and the bytes with the words of slot k replaced
+unfoldable pub putWords : List ℕ → ℕ → Words → List ℕ
+putWords l k w = putNumbers l k (numbersIn w)
+
+unfoldable pub putTexts : List ℕ → ℕ → Words → List ℕ
+putTexts m k w =
+    paste
+    (paste (paste m (k * textSize + keyPlace) (w .key .bytes) keyRoom) (k * textSize + expectedPlace) (w .expected .bytes) valueRoom)
+    (k * textSize + valuePlace)
+    (w .value .bytes)
+    valueRoom
+
+-- words whose arrays have eight, sixteen and sixteen bytes, with lengths in this room
+pub record Whole (w : Words) : Type 0 where
+  pub key-room : length (w .key .bytes) ≡ keyRoom
+  pub key-length : w .key .len ≤ keyRoom
+  pub expected-room : length (w .expected .bytes) ≡ valueRoom
+  pub expected-length : w .expected .len ≤ valueRoom
+  pub value-room : length (w .value .bytes) ≡ valueRoom
+  pub value-length : w .value .len ≤ valueRoom
+
+-- ---- contents: those of the copies and of the best reported copies, at the slot; those of the messages, at the message
+
+-- the bytes that count of content i
+unfoldable pub contentAt : List ℕ → ℕ → List ℕ
+contentAt l i = take contentBytes (block contentSize i l)
+
+-- the contents with the block of content i replaced
+unfoldable pub putContent : List ℕ → ℕ → List ℕ → List ℕ
+putContent l i v = refilled (set (blocks contentSize (i + 1) l) i v) l
+
+-- ---- messages: kind, sender, receiver, bucket, election, round, the version's two numbers
+
+abbrev pub messageRow : Message → List ℕ
+messageRow m =
+    m .kind ∷ m .sender ∷ m .receiver ∷ m .bucket ∷ m .election ∷ m .round ∷ versionRow (m .version)
+
+abbrev pub messageOf : List ℕ → Message
+messageOf w =
+    record {
+      kind = getD w 0 0;
+      sender = getD w 1 0;
+      receiver = getD w 2 0;
+      bucket = getD w 3 0;
+      election = getD w 4 0;
+      round = getD w 5 0;
+      version = versionOf (drop 6 w);
+    }
+
+abbrev pub messageFields : List ℕ → ℕ → Message
+messageFields l i = messageOf (row (i * messageSize) 0 messageSize l)
+
+abbrev pub messageStores : List ℕ → ℕ → Message → List ℕ
+messageStores l i m = putRow l (i * messageSize) 0 (messageRow m)
+
+unfoldable pub messageAt : List ℕ → ℕ → Message
+messageAt l i = messageFields l i
+
+unfoldable pub putMessage : List ℕ → ℕ → Message → List ℕ
+putMessage l i m = messageStores l i m
+
+-- ---- counts: servers, buckets, messages in flight, accepted lines, calls
+
+abbrev pub countsRow : Counts → List ℕ
+countsRow c = c .servers ∷ c .buckets ∷ c .messages ∷ c .lines ∷ c .calls ∷ []
+
+abbrev pub countsOf : List ℕ → Counts
+countsOf w = record { servers = getD w 0 0; buckets = getD w 1 0; messages = getD w 2 0; lines = getD w 3 0; calls = getD w 4 0 }
+
+abbrev pub countsFields : List ℕ → Counts
+countsFields l = countsOf (row 0 0 countsWords l)
+
+abbrev pub countsStores : List ℕ → Counts → List ℕ
+countsStores l c = putRow l 0 0 (countsRow c)
+
+unfoldable pub countsAt : List ℕ → Counts
+countsAt l = countsFields l
+
+unfoldable pub putCounts : List ℕ → Counts → List ℕ
+putCounts l c = countsStores l c

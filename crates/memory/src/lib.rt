@@ -1,0 +1,51 @@
+// The cluster's memory in a few lent arrays of fixed size: records are loaded and stored by value, messages are appended and removed,
+// contents of buckets are copied. Where each field lies is said in specs/Layout.antt.
+use server::Version;
+
+pub mod contents;
+pub mod counters;
+pub mod heads;
+pub mod messages;
+pub mod slots;
+pub mod words;
+
+// Words of a head's block, of a slot's and of a message's header.
+pub const HEAD: usize = 16;
+
+pub const SLOT: usize = 32;
+
+pub const HEADER: usize = 8;
+
+// Bytes of a content's block, and of the block of a call's key and values.
+pub const CONTENT: usize = 128;
+
+pub const TEXT: usize = 64;
+
+// A message without its content.
+pub struct Message {
+    pub kind: u32,
+    pub sender: u32,
+    pub receiver: u32,
+    pub bucket: u32,
+    pub election: u32,
+    pub round: u32,
+    pub version: Version,
+}
+
+// The words of a call without their bytes: kind, bucket, and how long the key, the expected value and the new value are.
+pub struct Numbers {
+    pub kind: u32,
+    pub bucket: u32,
+    pub key: u32,
+    pub expected: u32,
+    pub value: u32,
+}
+
+// The cluster's measures and the numbers that count on.
+pub struct Counts {
+    pub servers: u32,
+    pub buckets: u32,
+    pub messages: u32,
+    pub lines: u32,
+    pub calls: u32,
+}
