@@ -1,10 +1,9 @@
 -- What the answers of the calls stand for, case by case, and a datagram's bytes stored over lent ones.
-use mathlib.Core.Path.{_≡_, refl, sym, ap, _∙_}
-use mathlib.Core.List.{List, [], _∷_, _++_, append-assoc, append-nil}
+use mathlib.Core.Path.{_≡_, refl, ap, _∙_}
+use mathlib.Core.List.{List, _++_, append-assoc, append-nil}
 use mathlib.Core.Bool.{Bool, true, false, _&&_}
 use Prim.Native.Nat.{ℕ, _-_, _≤_, _<_}
 use native.Mathlib.Omega.{arith}
-use lib.Dec.{leb}
 use lib.ListN.{length, take, drop, length-drop}
 use lib.Seq.{sets, sets-eq, take-at, drop-at, drop-drop}
 use borrow.Author.Tests.{le-leb, lt-leb}
@@ -13,7 +12,7 @@ use Rattle.entries.specs.Decoded.{tableIn}
 use Rattle.table.specs.Form.{fits, bucketBytes}
 use Rattle.checks.specs.Tests.{sound}
 use Rattle.bucket.specs.Answers as bucket
-use Rattle.bucket.specs.Answers.{Answer, answer}
+use Rattle.bucket.specs.Answers.{answer}
 use Rattle.datagram.specs.declared.Datagram as code
 use Rattle.datagram.specs.declared.Outcome.the-variants.{Accepted, BadBucket, BadDatagram}
 use Rattle.datagram.specs.declared.Reading.{Reading}
@@ -80,6 +79,15 @@ full-stored d out front after n l f w e =
     rw (past-tail 16 front, append-nil after, first, part, drop-drop 113 16 out) (simp append-assoc)
 
 -- ---- the writer's way
+
+-- a sound table is judged by what it stands for alone
+pub write-sound : (d : code.Datagram) (out : List ℕ) → sound (d .table) ≡ true → writeOf d out ≡ writeDatagram (meant d) out
+unfolding writeOf
+write-sound d out s = go (carries (d .kind)) refl
+  where
+    go : (p : Bool) → carries (d .kind) ≡ p → writeOf d out ≡ writeDatagram (meant d) out
+    go true p = rw (writeOf, p, s)
+    go false p = rw (writeOf, p)
 
 module _ (d : code.Datagram) (out : List ℕ) where
   module _ (c : carries (d .kind) ≡ false) where

@@ -1,13 +1,13 @@
 -- The datagram form and its reader: the form of every datagram that is well formed is read back as that datagram, and no
 -- other bytes are.
 use mathlib.Core.Path.{_≡_, refl, sym, ap, _∙_}
-use mathlib.Core.List.{List, [], _∷_, _++_, append-nil}
+use mathlib.Core.List.{List, [], _∷_, _++_}
 use mathlib.Core.Bool.{Bool, true, false, not, _&&_}
 use mathlib.Core.Option.{Option, none, some}
-use Prim.Native.Nat.{ℕ, zero, suc, _+_, _≤_, _<_}
+use Prim.Native.Nat.{ℕ, zero, suc, _+_, _≤_}
 use native.Mathlib.Omega.{arith}
 use lib.Dec.{eqb, leb}
-use lib.ListN.{length, getD, take, drop, length-append, length-drop, take-append-drop}
+use lib.ListN.{length, getD, take, drop, length-drop, take-append-drop}
 use lib.Seq.{getD-drop, drop-drop, take-all, length-take-le}
 use borrow.Author.Tests.{eqb-true, leb-true, le-leb}
 use Rattle.entries.specs.Entries.{Entry}
@@ -15,9 +15,9 @@ use Rattle.table.specs.Form.{bucketSize, within, fits, bucketBytes, readBucket}
 use Rattle.table.proofs.Fitting.{within-parts}
 use Rattle.table.proofs.Reading as bucket
 use Rattle.bucket.specs.Answers.{answer}
-use Rattle.fields.specs.Form.{Datagram, Version, version, maxTwo, maxFour, isVote, carries, lengthOf, addressed, rounded, settled, sameElection, versioned, wellFormed, tableFits, big, headerBytes, versionBytes, fullBytes, datagramBytes, carried, number, field, headed, versionIn, Parsed, taken, refused, checked, readDatagram, writeDatagram}
+use Rattle.fields.specs.Form.{Datagram, Version, version, maxTwo, maxFour, isVote, carries, lengthOf, addressed, rounded, settled, sameElection, versioned, wellFormed, tableFits, big, headerBytes, versionBytes, fullBytes, datagramBytes, carried, number, field, headed, versionIn, taken, checked, readDatagram, writeDatagram}
 use Rattle.fields.proofs.Rules.{and-parts, plain-length, full-length, plain-bytes, full-bytes}
-use Rattle.fields.proofs.Parsing.{cells, take-cells, read-plain, read-full, checked-right}
+use Rattle.fields.proofs.Parsing.{take-cells, read-plain, read-full, checked-right}
 use Rattle.fields.proofs.Numbers.{Bytes, number-big, big-number}
 
 -- ---- what is known of a datagram that is well formed

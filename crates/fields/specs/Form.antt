@@ -2,7 +2,7 @@
 use mathlib.Core.List.{List, [], _∷_, _++_}
 use mathlib.Core.Bool.{Bool, true, false, not, _&&_, _||_}
 use mathlib.Core.Option.{none, some}
-use Prim.Native.Nat.{ℕ, zero, suc, _+_, _-_, _*_, _/_, _%_, _^_}
+use Prim.Native.Nat.{ℕ, zero, suc, _+_, _*_, _/_, _%_, _^_}
 use lib.Dec.{leb, eqb}
 use lib.ListN.{length, getD, take, drop}
 use Rattle.entries.specs.Entries.{Entry}
@@ -28,18 +28,19 @@ pub record Datagram : Type 0 where
 
 -- ---- kinds
 
--- PLEASEVOTE, ACKVOTE and NACKVOTE are kinds 1 to 3
+-- 1 PLEASEVOTE, 2 ACKVOTE, 3 NACKVOTE, 4 REPLICAWRITE, 5 ACKWRITE, 6 NACKWRITE, 7 REPLICAREAD, 8 ACKREAD, 9 NACKREAD
+
 unfoldable pub isVote : ℕ → Bool
 isVote k = within 3 k
 
--- REPLICAWRITE, kind 4, and ACKREAD, kind 8, go on with a version and a bucket
+-- kinds 4 and 8 go on with a version and a bucket
 unfoldable pub carries : ℕ → Bool
 carries k = eqb k 4 || eqb k 8
 
 unfoldable pub lengthOf : ℕ → ℕ
 lengthOf k = elim (carries k) [ true ↦ 129 | false ↦ 10 ]
 
--- ---- which datagrams are well formed
+-- ---- which datagrams are well formed; sizes of servers and buckets are document 01's greatest, not a cluster's
 
 -- the greatest numbers of two and of four bytes
 abbrev pub maxTwo : ℕ
@@ -64,7 +65,7 @@ settled v entries = elim (eqb (v .election) 0) [ true ↦ eqb (v .counter) 0 && 
 unfoldable pub sameElection : ℕ → ℕ → Version → Bool
 sameElection kind election v = elim (eqb kind 4) [ true ↦ eqb (v .election) election | false ↦ true ]
 
--- A kind that carries no version and no bucket leaves both unwritten, so nothing is asked of them there.
+-- nothing is asked of a version and a table that the kind does not carry: they are not written
 unfoldable pub versioned : Datagram → Bool
 versioned d = elim (carries (d .kind)) [ false ↦ true | true ↦ sameElection (d .kind) (d .election) (d .version) && settled (d .version) (length (d .table)) ]
 

@@ -1,6 +1,6 @@
 -- `read` meets its contract: kind by kind.
 use native.Mathlib.Omega.{arith}
-use mathlib.Core.Path.{sym, _∙_}
+use mathlib.Core.Path.{sym}
 use mathlib.Core.Logic.{inl, inr}
 use lib.ListN.{getD}
 use Rattle.fields.proofs.Parsing.{read-nothing, read-unknown}

@@ -1,7 +1,7 @@
 use borrow.Author.Needs.{needs}
 use Rattle.fields.proofs.Rules.{at-least-one}
 -- `addressed` meets its contract: test by test.
-use borrow.Author.Tests.{eq-eqb, ne-eqb, lt-leb, le-leb, lt-ltb}
+use borrow.Author.Tests.{eq-eqb, ne-eqb, lt-leb, le-leb}
 use Rattle.fields.specs.Form.{addressed}
 use Rattle.fields.proofs.addressed.Statement.{statement}
 use Rattle.fields.proofs.addressed.Tie as tie

@@ -1,0 +1,177 @@
+//! The proved datagram code against the independent one: the answer, and every
+//! lent byte afterwards. About 400,000 inputs.
+
+mod common;
+
+use common::{any_bytes, any_entries, damage, full_table, laid_out, table, LENGTHS, OLD};
+use reference::bucket::Table;
+use reference::datagram::{Header, Version};
+use reference::scripts::Random;
+
+/// Reading: the number. What was read, written again to an output of `room`
+/// bytes: the number, and the output.
+fn compare(bytes: &[u8], room: usize) {
+    let mut expected = vec![OLD; room];
+    let read = reference::datagram::read(bytes);
+    let written = read.and_then(|(header, table)| {
+        let entries = &table.pairs()[..table.keys().len()];
+        reference::datagram::write(&header, entries, &mut expected)
+    });
+    let number = u32::from(read.err().unwrap_or(0));
+    assert_eq!(forms::datagram::read(bytes), number, "{bytes:?}");
+    let number = u32::from(written.err().unwrap_or(0));
+    let mut out = vec![OLD; room];
+    let answer = forms::datagram::rewrite(bytes, &mut out);
+    assert_eq!((answer, out), (number, expected), "{bytes:?}");
+}
+
+/// A well-formed datagram of any kind.
+fn datagram(random: &mut Random) -> Vec<u8> {
+    let kind = random.within(1, 9) as u8;
+    let from = random.below(7) as u8;
+    let vote = kind <= 3;
+    let header = Header {
+        kind,
+        from,
+        to: (from + random.within(1, 6) as u8) % 7,
+        bucket: if vote { 0 } else { random.below(8) as u8 },
+        number: random.within(1, 65_535) as u16,
+        round: if vote { 0 } else { random.draw() as u32 | 1 },
+        version: Version::NONE,
+    };
+    let (version, table) = content(random, &header);
+    form(&Header { version, ..header }, &table)
+}
+
+/// A version and a table that go with this kind.
+fn content(random: &mut Random, header: &Header) -> (Version, Table) {
+    if !header.has_bucket() || (header.kind == 8 && random.chance(200)) {
+        return (Version::NONE, Table::EMPTY);
+    }
+    let number = match header.kind {
+        4 => header.number,
+        _ => random.within(1, 65_535) as u16,
+    };
+    let counter = random.draw() as u32 | 1;
+    let table = match random.below(4) {
+        0 => full_table(random),
+        _ => table(random),
+    };
+    (Version { number, counter }, table)
+}
+
+fn form(header: &Header, table: &Table) -> Vec<u8> {
+    let mut out = vec![0; 129];
+    let entries = &table.pairs()[..table.keys().len()];
+    let length = reference::datagram::write(header, entries, &mut out).unwrap();
+    out.truncate(length);
+    out
+}
+
+/// Room for an output: too little, just enough or more.
+fn room(random: &mut Random) -> usize {
+    *random.pick(&[0, 1, 9, 10, 11, 16, 128, 129, 130, 5000])
+}
+
+#[test]
+fn reading_and_writing_agree_on_datagrams() {
+    let mut random = Random::new(20);
+    for _ in 0..20_000 {
+        let bytes = datagram(&mut random);
+        compare(&bytes, room(&mut random));
+        let mut out = vec![OLD; 129];
+        assert_eq!(forms::datagram::rewrite(&bytes, &mut out), 0);
+        assert_eq!(out[..bytes.len()], bytes);
+    }
+}
+
+#[test]
+fn reading_and_writing_agree_on_every_single_damaged_byte() {
+    let mut random = Random::new(21);
+    for _ in 0..20 {
+        let whole = datagram(&mut random);
+        for at in 0..whole.len() {
+            for byte in 0..=255 {
+                let mut bytes = whole.clone();
+                bytes[at] = byte;
+                compare(&bytes, 129);
+            }
+        }
+    }
+}
+
+#[test]
+fn reading_and_writing_agree_on_damaged_datagrams() {
+    let mut random = Random::new(22);
+    for _ in 0..40_000 {
+        let mut bytes = datagram(&mut random);
+        damage(&mut random, &mut bytes);
+        compare(&bytes, room(&mut random));
+    }
+}
+
+#[test]
+fn reading_and_writing_agree_on_any_entries_laid_out() {
+    let mut random = Random::new(23);
+    for _ in 0..40_000 {
+        let mut bytes = datagram(&mut random);
+        bytes.resize(16, random.byte());
+        bytes.extend(laid_out(&any_entries(&mut random)));
+        if random.chance(300) {
+            damage(&mut random, &mut bytes[..16]);
+        }
+        compare(&bytes, room(&mut random));
+    }
+}
+
+#[test]
+fn reading_and_writing_agree_on_every_kind_byte_and_length() {
+    let mut random = Random::new(24);
+    for _ in 0..10 {
+        let whole = datagram(&mut random);
+        for kind in 0..=255 {
+            for length in [9, 10, 11].into_iter().chain(LENGTHS) {
+                let mut bytes = whole.clone();
+                bytes.resize(length, 0);
+                if let Some(first) = bytes.first_mut() {
+                    *first = kind;
+                }
+                compare(&bytes, 129);
+            }
+        }
+    }
+}
+
+/// Headers of small numbers, most of which break one rule or another.
+#[test]
+fn reading_and_writing_agree_on_random_headers() {
+    let mut random = Random::new(25);
+    for _ in 0..100_000 {
+        let mut bytes = vec![0; if random.chance(500) { 10 } else { 129 }];
+        for (at, most) in [(0, 10), (1, 7), (2, 7), (3, 8), (5, 2), (9, 2)] {
+            bytes[at] = random.within(0, most) as u8;
+        }
+        if bytes.len() == 129 {
+            bytes[11] = random.within(0, 2) as u8;
+            bytes[15] = random.within(0, 1) as u8;
+            if random.chance(500) {
+                bytes[16..].copy_from_slice(&laid_out(&any_entries(&mut random)));
+            }
+        }
+        compare(&bytes, 129);
+    }
+}
+
+#[test]
+fn reading_and_writing_agree_on_random_bytes() {
+    let mut random = Random::new(26);
+    for _ in 0..2_000 {
+        for length in [10].into_iter().chain(LENGTHS) {
+            let mut bytes = any_bytes(&mut random, length);
+            if let Some(kind) = bytes.first_mut() {
+                *kind %= 11;
+            }
+            compare(&bytes, room(&mut random));
+        }
+    }
+}
