@@ -1,0 +1,161 @@
+-- Lines made of words that were read: what a reading gives where all its words are good, and where one is not.
+use mathlib.Core.Path.{_≡_, refl, sym, ap, _∙_}
+use mathlib.Core.List.{List, [], _∷_}
+use mathlib.Core.Bool.{Bool, true, false}
+use mathlib.Core.Option.{Option, none, some}
+use Prim.Native.Nat.{ℕ, _+_, _*_}
+use native.Mathlib.Omega.{arith}
+use lib.Dec.{eqb}
+use lib.ListN.{length}
+use Rattle.entries.specs.declared.Order.{Order}
+use Rattle.entries.specs.declared.Order.the-variants.{Before, Same, After}
+use Rattle.entries.specs.Entries.{order}
+use Rattle.entries.proofs.Comparison.{order-same}
+use Rattle.table.specs.Form.{sameBytes}
+use Rattle.model.specs.Text.{bytes}
+use Rattle.model.specs.Calls.{get, set, setif, del, keys}
+use Rattle.model.specs.Lines.{Line, cluster, elect, call, deliver, copy, lose, timeout, stop}
+use Rattle.model.specs.Parse.{digit, number, hexDigit, pairs, hexadecimal, made, made2, made3, made4}
+use Rattle.parse.specs.declared.Kind.{Kind}
+use Rattle.parse.specs.declared.Kind.the-variants as K
+use Rattle.parse.specs.Digits.{present, allThree, nibble, pairBytes}
+use Rattle.parse.specs.Kept.{kept}
+use Rattle.parse.specs.Meaning.{lineFor, keptWords, keptLine, keptOf, numbersFor, callFor}
+use Rattle.parse.proofs.Sameness.{same-true}
+use Rattle.parse.proofs.Pairs.{joined, pair-step, hexadecimal-pairs}
+
+-- ---- the bytes of a word that is hexadecimal
+
+digit-value : Option ℕ → ℕ
+digit-value o = elim o [ none ↦ 0 | some d ↦ d ]
+
+-- what a pair gives, where it gives anything
+joined-bytes : (p q : Option ℕ) (o : Option (List ℕ)) (r : List ℕ) → (present o ≡ true → o ≡ some r) → present (joined p q o) ≡ true → joined p q o ≡ some ((digit-value p * 16 + digit-value q) ∷ r)
+unfolding joined present digit-value
+joined-bytes none q o r ih h = cc
+joined-bytes (some x) none o r ih h = cc
+joined-bytes (some x) (some y) none r ih h = cc
+joined-bytes (some x) (some y) (some t) r ih h = cc (ih refl)
+
+pairs-bytes : (l : List ℕ) → present (pairs l) ≡ true → pairs l ≡ some (pairBytes l)
+unfolding pairs present pairBytes nibble digit-value
+pairs-bytes [] h = refl
+pairs-bytes (a ∷ []) h = cc
+pairs-bytes (a ∷ (b ∷ l)) h = pair-step a b l ∙ joined-bytes (hexDigit a) (hexDigit b) (pairs l) (pairBytes l) (pairs-bytes l) (sym (ap present (pair-step a b l)) ∙ h)
+
+dash-bytes : pairBytes (bytes "-") ≡ []
+unfolding pairBytes bytes
+dash-bytes = refl
+
+pub hexadecimal-bytes : (l : List ℕ) → present (hexadecimal l) ≡ true → hexadecimal l ≡ some (pairBytes l)
+hexadecimal-bytes [] h = unfold hexadecimal present in cc
+hexadecimal-bytes (b ∷ l) h = go (sameBytes (b ∷ l) (bytes "-")) refl
+  where
+    go : (t : Bool) → sameBytes (b ∷ l) (bytes "-") ≡ t → hexadecimal (b ∷ l) ≡ some (pairBytes (b ∷ l))
+    go true e =
+        let f : hexadecimal (b ∷ l) ≡ some [] = unfold hexadecimal in rw (hexadecimal, e) in
+        f ∙ ap some (sym dash-bytes ∙ ap pairBytes (sym (same-true (b ∷ l) (bytes "-") e)))
+    go false e =
+        let f : hexadecimal (b ∷ l) ≡ pairs (b ∷ l) = hexadecimal-pairs (b ∷ l) (λ z. absurd (omega arith)) e in
+        f ∙ pairs-bytes (b ∷ l) (sym (ap present f) ∙ h)
+
+-- ---- lines with two numbers, or with a number, a key and two values
+
+pub all-three : (p q r : Bool) → allThree p q r ≡ true → (p ≡ true) × ((q ≡ true) × (r ≡ true))
+unfolding allThree
+all-three true true true h = (refl, (refl, refl))
+all-three true true false h = (refl, (refl, h))
+all-three true false r h = (refl, (h, cc))
+all-three false q r h = (h, (cc, cc))
+
+pub call-reads : (c : Kind) {x : Option ℕ} {s : ℕ} (k e v : List ℕ) → some s ≡ x → allThree (present (hexadecimal k)) (present (hexadecimal e)) (present (hexadecimal v)) ≡ true → lineFor c s 0 (kept 8 (pairBytes k)) (kept 16 (pairBytes e)) (kept 16 (pairBytes v)) ≡ callFor c x (hexadecimal k) (hexadecimal e) (hexadecimal v)
+unfolding callFor
+call-reads c k e v f h =
+    let t = all-three _ _ _ h in
+    rw (← f, hexadecimal-bytes k (t .0), hexadecimal-bytes e (t .1 .0), hexadecimal-bytes v (t .1 .1))
+
+pub call-fails : (c : Kind) (x : Option ℕ) (k e v : Option (List ℕ)) → allThree (present k) (present e) (present v) ≡ false → none ≡ callFor c x k e v
+unfolding callFor allThree present
+call-fails c none k e v h = refl
+call-fails c (some s) none e v h = refl
+call-fails c (some s) (some k) none v h = refl
+call-fails c (some s) (some k) (some e) none h = refl
+call-fails c (some s) (some k) (some e) (some v) h = cc
+
+-- ---- the model's readings, by kinds: `f` makes the line of kind c
+
+one-number : (c : Kind) (f : ℕ → Line) → ((n : ℕ) → lineFor c n 0 [] [] [] ≡ some (keptLine (f n))) → (x : Option ℕ) → numbersFor c x (number (bytes "0")) ≡ keptOf (made f x)
+unfolding numbersFor keptOf made number digit bytes
+one-number c f h none = refl
+one-number c f h (some n) = h n
+
+two-numbers : (c : Kind) (f : ℕ → ℕ → Line) → ((n m : ℕ) → lineFor c n m [] [] [] ≡ some (keptLine (f n m))) → (x y : Option ℕ) → numbersFor c x y ≡ keptOf (made2 f x y)
+unfolding numbersFor keptOf made made2
+two-numbers c f h none y = refl
+two-numbers c f h (some n) none = refl
+two-numbers c f h (some n) (some m) = h n m
+
+with-key : (c : Kind) (f : ℕ → List ℕ → Line) → ((s : ℕ) (k e v : List ℕ) → lineFor c s 0 (kept 8 k) e v ≡ some (keptLine (f s k))) → (x : Option ℕ) (y : Option (List ℕ)) → callFor c x y (hexadecimal (bytes "-")) (hexadecimal (bytes "-")) ≡ keptOf (made2 f x y)
+unfolding callFor keptOf made made2 hexadecimal sameBytes order bytes
+with-key c f h none y = refl
+with-key c f h (some s) none = refl
+with-key c f h (some s) (some k) = h s k _ _
+
+pub elect-line : (x : Option ℕ) → numbersFor K.Elect x (number (bytes "0")) ≡ keptOf (made elect x)
+unfolding lineFor keptLine
+elect-line = one-number K.Elect elect (λ n. refl)
+
+pub deliver-line : (x : Option ℕ) → numbersFor K.Deliver x (number (bytes "0")) ≡ keptOf (made deliver x)
+unfolding lineFor keptLine
+deliver-line = one-number K.Deliver deliver (λ n. refl)
+
+pub copy-line : (x : Option ℕ) → numbersFor K.Copy x (number (bytes "0")) ≡ keptOf (made copy x)
+unfolding lineFor keptLine
+copy-line = one-number K.Copy copy (λ n. refl)
+
+pub lose-line : (x : Option ℕ) → numbersFor K.Lose x (number (bytes "0")) ≡ keptOf (made lose x)
+unfolding lineFor keptLine
+lose-line = one-number K.Lose lose (λ n. refl)
+
+pub stop-line : (x : Option ℕ) → numbersFor K.Stop x (number (bytes "0")) ≡ keptOf (made stop x)
+unfolding lineFor keptLine
+stop-line = one-number K.Stop stop (λ n. refl)
+
+pub cluster-line : (x y : Option ℕ) → numbersFor K.Cluster x y ≡ keptOf (made2 cluster x y)
+unfolding lineFor keptLine
+cluster-line = two-numbers K.Cluster cluster (λ n m. refl)
+
+pub timeout-line : (x y : Option ℕ) → numbersFor K.Timeout x y ≡ keptOf (made2 timeout x y)
+unfolding lineFor keptLine
+timeout-line = two-numbers K.Timeout timeout (λ n m. refl)
+
+pub keys-line : (x y : Option ℕ) → numbersFor K.Keys x y ≡ keptOf (made2 (λ s n. call s (keys n)) x y)
+unfolding lineFor keptLine keptWords
+keys-line = two-numbers K.Keys (λ s n. call s (keys n)) (λ n m. refl)
+
+pub get-line : (x : Option ℕ) (y : Option (List ℕ)) → callFor K.Get x y (hexadecimal (bytes "-")) (hexadecimal (bytes "-")) ≡ keptOf (made2 (λ s k. call s (get k)) x y)
+unfolding lineFor keptLine keptWords
+get-line = with-key K.Get (λ s k. call s (get k)) (λ s k e v. refl)
+
+pub del-line : (x : Option ℕ) (y : Option (List ℕ)) → callFor K.Del x y (hexadecimal (bytes "-")) (hexadecimal (bytes "-")) ≡ keptOf (made2 (λ s k. call s (del k)) x y)
+unfolding lineFor keptLine keptWords
+del-line = with-key K.Del (λ s k. call s (del k)) (λ s k e v. refl)
+
+pub set-line : (x : Option ℕ) (y z : Option (List ℕ)) → callFor K.Set x y (hexadecimal (bytes "-")) z ≡ keptOf (made3 (λ s k v. call s (set k v)) x y z)
+unfolding callFor keptOf made made2 made3 lineFor keptLine keptWords hexadecimal sameBytes order bytes
+set-line none y z = refl
+set-line (some s) none z = refl
+set-line (some s) (some k) none = refl
+set-line (some s) (some k) (some v) = refl
+
+pub setif-line : (x : Option ℕ) (y z u : Option (List ℕ)) → callFor K.SetIf x y z u ≡ keptOf (made4 (λ s k e v. call s (setif k e v)) x y z u)
+unfolding callFor keptOf made made2 made3 made4 lineFor keptLine keptWords
+setif-line none y z u = refl
+setif-line (some s) none z u = refl
+setif-line (some s) (some k) none u = refl
+setif-line (some s) (some k) (some e) none = refl
+setif-line (some s) (some k) (some e) (some v) = refl
+
+pub no-line : {o : Option Line} → o ≡ none → keptOf o ≡ none
+unfolding keptOf
+no-line e = ap keptOf e

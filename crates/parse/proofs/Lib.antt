@@ -1,0 +1,6 @@
+pub mod Splitting
+pub mod Sameness
+pub mod Numbers
+pub mod Pairs
+pub mod Forms
+pub mod Keeping

@@ -1,0 +1,66 @@
+-- What a line by value stands for, and what is kept of a line: all of it, but for the bytes of a key or value that is
+-- too long (`kept`). No rule can see the difference (`performed` of proofs/Keeping.antt).
+use mathlib.Core.List.{List, []}
+use mathlib.Core.Option.{Option, none, some}
+use Prim.Native.Nat.{ℕ}
+use Rattle.model.specs.Measures.{maxKeyBytes, maxValueBytes}
+use Rattle.model.specs.Calls.{Words, get, set, setif, del, keys}
+use Rattle.model.specs.Lines.{Line, cluster, elect, call, deliver, copy, lose, timeout, stop}
+use Rattle.parse.specs.Kept.{kept, keyIn, valueIn}
+use Rattle.parse.specs.declared.Kind.{Kind}
+use Rattle.parse.specs.declared.Kind.the-variants as K
+use Rattle.parse.specs.declared.Line.{Line as Parsed}
+
+-- the line of a kind with its numbers, key, expected value and value; what the kind does not use is not looked at
+unfoldable pub lineFor : Kind → ℕ → ℕ → List ℕ → List ℕ → List ℕ → Option Line
+lineFor K.Malformed a b k e v = none
+lineFor K.Cluster a b k e v = some (cluster a b)
+lineFor K.Elect a b k e v = some (elect a)
+lineFor K.Get a b k e v = some (call a (get k))
+lineFor K.Set a b k e v = some (call a (set k v))
+lineFor K.SetIf a b k e v = some (call a (setif k e v))
+lineFor K.Del a b k e v = some (call a (del k))
+lineFor K.Keys a b k e v = some (call a (keys b))
+lineFor K.Deliver a b k e v = some (deliver a)
+lineFor K.Copy a b k e v = some (copy a)
+lineFor K.Lose a b k e v = some (lose a)
+lineFor K.Timeout a b k e v = some (timeout a b)
+lineFor K.Stop a b k e v = some (stop a)
+
+unfoldable pub lineIn : Parsed → Option Line
+lineIn r = lineFor (r .kind) (r .first) (r .second) (keyIn (r .key)) (valueIn (r .expected)) (valueIn (r .value))
+
+unfoldable pub keptWords : Words → Words
+keptWords (get k) = get (kept maxKeyBytes k)
+keptWords (set k v) = set (kept maxKeyBytes k) (kept maxValueBytes v)
+keptWords (setif k e v) = setif (kept maxKeyBytes k) (kept maxValueBytes e) (kept maxValueBytes v)
+keptWords (del k) = del (kept maxKeyBytes k)
+keptWords (keys b) = keys b
+
+unfoldable pub keptLine : Line → Line
+keptLine (cluster n b) = cluster n b
+keptLine (elect s) = elect s
+keptLine (call s w) = call s (keptWords w)
+keptLine (deliver i) = deliver i
+keptLine (copy i) = copy i
+keptLine (lose i) = lose i
+keptLine (timeout s b) = timeout s b
+keptLine (stop s) = stop s
+
+unfoldable pub keptOf : Option Line → Option Line
+keptOf none = none
+keptOf (some l) = some (keptLine l)
+
+-- ---- a line of two numbers, or of a number, a key and two values, where all of them could be read
+
+unfoldable pub numbersFor : Kind → Option ℕ → Option ℕ → Option Line
+numbersFor k none y = none
+numbersFor k (some a) none = none
+numbersFor k (some a) (some b) = lineFor k a b [] [] []
+
+unfoldable pub callFor : Kind → Option ℕ → Option (List ℕ) → Option (List ℕ) → Option (List ℕ) → Option Line
+callFor c none k e v = none
+callFor c (some s) none e v = none
+callFor c (some s) (some k) none v = none
+callFor c (some s) (some k) (some e) none = none
+callFor c (some s) (some k) (some e) (some v) = lineFor c s 0 (kept maxKeyBytes k) (kept maxValueBytes e) (kept maxValueBytes v)

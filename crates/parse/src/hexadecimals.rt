@@ -1,0 +1,95 @@
+// Keys and values in hexadecimal: whether a word is one, and the bytes that it stands for.
+use crate::digits::hex_digit;
+use crate::words::same_word;
+use entries::Key;
+use entries::Value;
+use entries::keys::at_most;
+ghost use mathlib.Core.Path.{_≡_};
+ghost use Prim.Native.Nat.{_<_, _+_, _*_};
+ghost use lib.ListN.{length, getD};
+ghost use Rattle.model.specs.Parse.{pairs, hexadecimal};
+ghost use Rattle.parse.specs.Digits.{present, pairBytes, Nibble};
+ghost use Rattle.parse.specs.Kept.{kept, keyIn, valueIn};
+
+// Whether a word is made of pairs of digits.
+fn is_pairs(word: &[u8]) -> bool
+    ensures { λ r. ⌜ r ≡ present (pairs (now (word .entry))) ⌝ }
+{
+    let n = word.len();
+    let mut i = 0;
+    while i + 1 < n {
+        if 15 < hex_digit(word[i]) {
+            return false;
+        }
+        if 15 < hex_digit(word[i + 1]) {
+            return false;
+        }
+        i += 2;
+    }
+    if i < n {
+        return false;
+    }
+    true
+}
+
+// The same, where `-` is no bytes.
+pub fn is_hexadecimal(word: &[u8]) -> bool
+    ensures { λ r. ⌜ r ≡ present (hexadecimal (now (word .entry))) ⌝ }
+{
+    if word.len() == 0 {
+        return false;
+    }
+    if same_word(word, b"-") {
+        return true;
+    }
+    is_pairs(word)
+}
+
+// The digit that a byte is, 0 for others.
+fn nibble(b: u8) -> u8
+    ensures { λ r. ⌜ Nibble b r ⌝ }
+{
+    let d = hex_digit(b);
+    if d < 16 {
+        return d;
+    }
+    0
+}
+
+// The byte that the pair at i stands for.
+fn pair_at(word: &[u8], i: usize) -> u8
+    requires { ⌜ 2 * i + 1 < length (now word) ⌝ }
+    ensures { λ r. ⌜ r ≡ getD (pairBytes (now (word .entry))) i 0 ⌝ }
+{
+    nibble(word[2 * i]) * 16 + nibble(word[2 * i + 1])
+}
+
+// The bytes of a key, and their number; those past the eighth are not kept.
+pub fn key_in(word: &[u8]) -> Key
+    ensures { λ r. ⌜ keyIn r ≡ kept 8 (pairBytes (now (word .entry))) ⌝ }
+{
+    let len = word.len() / 2;
+    let n = at_most(len, 8);
+    let mut bytes = [0u8; 8];
+    let mut i = 0;
+    while i < n {
+        bytes[i] = pair_at(word, i);
+        i += 1;
+    }
+    Key { bytes, len }
+}
+
+// The bytes of a value, and their number; those past the sixteenth are not kept.
+pub fn value_in(word: &[u8]) -> Value
+    ensures { λ r. ⌜ valueIn r ≡ kept 16 (pairBytes (now (word .entry))) ⌝ }
+{
+    let len = word.len() / 2;
+    let n = at_most(len, 16);
+    let mut bytes = [0u8; 16];
+    let mut i = 0;
+    while i < n {
+        bytes[i] = pair_at(word, i);
+        i += 1;
+    }
+    Value { bytes, len }
+}

@@ -1,0 +1,63 @@
+// Script lines from their bytes (document 01, 'Script lines').
+use crate::lines::malformed;
+use crate::lines::with_word;
+use crate::words::word_end;
+use entries::Key;
+use entries::Value;
+ghost use mathlib.Core.Path.{_≡_};
+ghost use Rattle.model.specs.Parse.{parse};
+ghost use Rattle.parse.specs.Meaning.{lineIn, keptOf};
+
+pub mod digits;
+pub mod hexadecimals;
+pub mod lines;
+pub mod words;
+
+// A number that was read, or none.
+pub enum Number {
+    Is(u32),
+    Not,
+}
+
+// The first word of a line, or that the line is not of the forms of document 01.
+pub enum Kind {
+    Malformed,
+    Cluster,
+    Elect,
+    Get,
+    Set,
+    SetIf,
+    Del,
+    Keys,
+    Deliver,
+    Copy,
+    Lose,
+    Timeout,
+    Stop,
+}
+
+// A line that was read. `first` is its server, place or number of servers, `second` its bucket or number of buckets. A
+// key or value has its whole length, which may be above its room, and as many of its bytes as there is room for.
+pub struct Line {
+    pub kind: Kind,
+    pub first: u32,
+    pub second: u32,
+    pub key: Key,
+    pub expected: Value,
+    pub value: Value,
+}
+
+// The line of these bytes, which end before its line feed.
+pub fn parse_line(line: &[u8]) -> Line
+    ensures { λ r. ⌜ lineIn r ≡ keptOf (parse (now (line .entry))) ⌝ }
+{
+    if 120 < line.len() {
+        return malformed();
+    }
+    let end = word_end(line);
+    if end < line.len() {
+        let next = end + 1;
+        return with_word(&line[..end], &line[next..]);
+    }
+    malformed()
+}

@@ -1,0 +1,221 @@
+// Lines by the number of their words, and by the first of them.
+use crate::Kind;
+use crate::Line;
+use crate::Number;
+use crate::digits::number;
+use crate::hexadecimals::is_hexadecimal;
+use crate::hexadecimals::key_in;
+use crate::hexadecimals::value_in;
+use crate::words::same_word;
+use crate::words::word_end;
+use entries::Key;
+use entries::Value;
+ghost use mathlib.Core.Path.{_≡_};
+ghost use mathlib.Core.List.{[], _∷_};
+ghost use mathlib.Core.Option.{none};
+ghost use Rattle.model.specs.Parse.{number, hexadecimal, words, lineOf1, lineOf2, lineOf3, lineOf4, lineOf};
+ghost use Rattle.parse.specs.Digits.{present, allThree};
+ghost use Rattle.parse.specs.Kept.{keyIn, valueIn};
+ghost use Rattle.parse.specs.Meaning.{lineFor, lineIn, keptOf, numbersFor, callFor};
+
+fn blank_key() -> Key
+    ensures { λ r. ⌜ keyIn r ≡ [] ⌝ }
+{
+    let bytes = [0u8; 8];
+    Key { bytes, len: 0 }
+}
+
+fn blank_value() -> Value
+    ensures { λ r. ⌜ valueIn r ≡ [] ⌝ }
+{
+    let bytes = [0u8; 16];
+    Value { bytes, len: 0 }
+}
+
+fn of_words(kind: Kind, first: u32, second: u32, key: Key, expected: Value, value: Value) -> Line
+    ensures { λ r. ⌜ lineIn r ≡ lineFor kind first second (keyIn key) (valueIn expected) (valueIn value) ⌝ }
+{
+    Line {
+        kind,
+        first,
+        second,
+        key,
+        expected,
+        value,
+    }
+}
+
+fn of_numbers(kind: Kind, first: u32, second: u32) -> Line
+    ensures { λ r. ⌜ lineIn r ≡ lineFor kind first second [] [] [] ⌝ }
+{
+    of_words(
+        kind,
+        first,
+        second,
+        blank_key(),
+        blank_value(),
+        blank_value(),
+    )
+}
+
+// A line that is not of the forms of document 01.
+pub fn malformed() -> Line
+    ensures { λ r. ⌜ lineIn r ≡ none ⌝ }
+{
+    of_numbers(Kind::Malformed, 0, 0)
+}
+
+// A line with two numbers; where the kind has one only, the second word is any number.
+fn numbers_line(kind: Kind, first: &[u8], second: &[u8]) -> Line
+    ensures { λ r. ⌜ lineIn r ≡ numbersFor kind (number (now (first .entry))) (number (now (second .entry))) ⌝ }
+{
+    let n = number(first);
+    match n {
+        Number::Not => malformed(),
+        Number::Is(a) => {
+            let m = number(second);
+            match m {
+                Number::Not => malformed(),
+                Number::Is(b) => of_numbers(kind, a, b),
+            }
+        }
+    }
+}
+
+fn are_hexadecimal(key: &[u8], expected: &[u8], value: &[u8]) -> bool
+    ensures { λ r. ⌜ r ≡ allThree (present (hexadecimal (now (key .entry)))) (present (hexadecimal (now (expected .entry)))) (present (hexadecimal (now (value .entry)))) ⌝ }
+{
+    if is_hexadecimal(key) {
+        if is_hexadecimal(expected) {
+            return is_hexadecimal(value);
+        }
+        return false;
+    }
+    false
+}
+
+// A call with a key; where the kind has no expected value or no value, that word is any value.
+fn call_line(kind: Kind, server: &[u8], key: &[u8], expected: &[u8], value: &[u8]) -> Line
+    ensures { λ r. ⌜ lineIn r ≡ callFor kind (number (now (server .entry))) (hexadecimal (now (key .entry))) (hexadecimal (now (expected .entry))) (hexadecimal (now (value .entry))) ⌝ }
+{
+    let n = number(server);
+    match n {
+        Number::Not => malformed(),
+        Number::Is(s) => {
+            if are_hexadecimal(key, expected, value) {
+                let k = key_in(key);
+                let e = value_in(expected);
+                let v = value_in(value);
+                return of_words(kind, s, 0, k, e, v);
+            }
+            malformed()
+        }
+    }
+}
+
+fn line_of_1(word: &[u8], a: &[u8]) -> Line
+    ensures { λ r. ⌜ lineIn r ≡ keptOf (lineOf1 (now (word .entry)) (now (a .entry))) ⌝ }
+{
+    if same_word(word, b"elect") {
+        return numbers_line(Kind::Elect, a, b"0");
+    }
+    if same_word(word, b"deliver") {
+        return numbers_line(Kind::Deliver, a, b"0");
+    }
+    if same_word(word, b"copy") {
+        return numbers_line(Kind::Copy, a, b"0");
+    }
+    if same_word(word, b"lose") {
+        return numbers_line(Kind::Lose, a, b"0");
+    }
+    if same_word(word, b"stop") {
+        return numbers_line(Kind::Stop, a, b"0");
+    }
+    malformed()
+}
+
+fn line_of_2(word: &[u8], a: &[u8], b: &[u8]) -> Line
+    ensures { λ r. ⌜ lineIn r ≡ keptOf (lineOf2 (now (word .entry)) (now (a .entry)) (now (b .entry))) ⌝ }
+{
+    if same_word(word, b"cluster") {
+        return numbers_line(Kind::Cluster, a, b);
+    }
+    if same_word(word, b"get") {
+        return call_line(Kind::Get, a, b, b"-", b"-");
+    }
+    if same_word(word, b"del") {
+        return call_line(Kind::Del, a, b, b"-", b"-");
+    }
+    if same_word(word, b"keys") {
+        return numbers_line(Kind::Keys, a, b);
+    }
+    if same_word(word, b"timeout") {
+        return numbers_line(Kind::Timeout, a, b);
+    }
+    malformed()
+}
+
+fn line_of_3(word: &[u8], a: &[u8], b: &[u8], c: &[u8]) -> Line
+    ensures { λ r. ⌜ lineIn r ≡ keptOf (lineOf3 (now (word .entry)) (now (a .entry)) (now (b .entry)) (now (c .entry))) ⌝ }
+{
+    if same_word(word, b"set") {
+        return call_line(Kind::Set, a, b, b"-", c);
+    }
+    malformed()
+}
+
+fn line_of_4(word: &[u8], a: &[u8], b: &[u8], c: &[u8], d: &[u8]) -> Line
+    ensures { λ r. ⌜ lineIn r ≡ keptOf (lineOf4 (now (word .entry)) (now (a .entry)) (now (b .entry)) (now (c .entry)) (now (d .entry))) ⌝ }
+{
+    if same_word(word, b"setif") {
+        return call_line(Kind::SetIf, a, b, c, d);
+    }
+    malformed()
+}
+
+// The words before `rest` are read, and `rest` holds one more, or several.
+fn with_four(word: &[u8], a: &[u8], b: &[u8], c: &[u8], rest: &[u8]) -> Line
+    ensures { λ r. ⌜ lineIn r ≡ keptOf (lineOf (now (word .entry) ∷ (now (a .entry) ∷ (now (b .entry) ∷ (now (c .entry) ∷ (words (now (rest .entry)))))))) ⌝ }
+{
+    let end = word_end(rest);
+    if end < rest.len() {
+        return malformed();
+    }
+    line_of_4(word, a, b, c, rest)
+}
+
+// The words before `rest` are read, and `rest` holds one more, or several.
+fn with_three(word: &[u8], a: &[u8], b: &[u8], rest: &[u8]) -> Line
+    ensures { λ r. ⌜ lineIn r ≡ keptOf (lineOf (now (word .entry) ∷ (now (a .entry) ∷ (now (b .entry) ∷ (words (now (rest .entry))))))) ⌝ }
+{
+    let end = word_end(rest);
+    if end < rest.len() {
+        let next = end + 1;
+        return with_four(word, a, b, &rest[..end], &rest[next..]);
+    }
+    line_of_3(word, a, b, rest)
+}
+
+// The words before `rest` are read, and `rest` holds one more, or several.
+fn with_two(word: &[u8], a: &[u8], rest: &[u8]) -> Line
+    ensures { λ r. ⌜ lineIn r ≡ keptOf (lineOf (now (word .entry) ∷ (now (a .entry) ∷ (words (now (rest .entry)))))) ⌝ }
+{
+    let end = word_end(rest);
+    if end < rest.len() {
+        let next = end + 1;
+        return with_three(word, a, &rest[..end], &rest[next..]);
+    }
+    line_of_2(word, a, rest)
+}
+
+// The words before `rest` are read, and `rest` holds one more, or several.
+pub fn with_word(word: &[u8], rest: &[u8]) -> Line
+    ensures { λ r. ⌜ lineIn r ≡ keptOf (lineOf (now (word .entry) ∷ (words (now (rest .entry))))) ⌝ }
+{
+    let end = word_end(rest);
+    if end < rest.len() {
+        let next = end + 1;
+        return with_two(word, &rest[..end], &rest[next..]);
+    }
+    line_of_1(word, rest)
+}

@@ -1,0 +1,4 @@
+pub mod Printing
+pub mod Counting
+pub mod Texts
+pub mod Room

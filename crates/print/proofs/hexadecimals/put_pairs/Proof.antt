@@ -1,0 +1,75 @@
+-- `hexadecimals::put_pairs` meets its contract: byte by byte.
+use borrow.Author.Needs.{needs}
+use mathlib.Core.Path.{refl}
+use Prim.Native.Nat.{_-_}
+use lib.ListN.{length, length-set}
+use native.Mathlib.Omega.{arith}
+use Rattle.model.specs.Print.{hexPairs}
+use Rattle.print.proofs.Printing.{Each, each-starts, each-fits, each-goes-on, each-ends, each-size, next-pair, pairs-end, printed-two}
+use Rattle.print.proofs.hexadecimals.put_pairs.Statement.{statement}
+use Rattle.print.proofs.hexadecimals.put_pairs.Tie as tie
+
+abbrev Inv-loop : tie.InvT-loop
+Inv-loop out₀ at bytes p₀ i₀ out p i = Each hexPairs bytes out₀ at out p i
+
+abbrev μ-loop : tie.MeasureT-loop
+μ-loop out₀ at bytes p₀ i₀ out p i = length bytes - i
+
+loop-holds : tie.Need-loop-holds Inv-loop μ-loop
+loop-holds c = each-starts hexPairs _ _ _ (c .before .before .pre)
+
+shared-slice-read-b : tie.Need-shared-slice-read-b Inv-loop μ-loop
+shared-slice-read-b c = search needs
+
+hex-digit-requires : tie.Need-hex-digit-requires Inv-loop μ-loop
+hex-digit-requires c κs = omega (arith, c .shared-slice-known2 .given (c .before .before .loop .i))
+
+slice-write-out : tie.Need-slice-write-out Inv-loop μ-loop
+slice-write-out c = omega (arith, each-fits (c .before .before .before .loop .inv) (next-pair (c .before .before .before .before .before .before .args .bytes .now) (c .before .before .before .loop .i) (c .before .before .loop-test .taken)))
+
+hex-digit-requires-2 : tie.Need-hex-digit-requires-2 Inv-loop μ-loop
+hex-digit-requires-2 c κs = omega arith
+
+add-out : tie.Need-add-out Inv-loop μ-loop
+add-out c = omega (arith, each-fits (c .before .before .before .before .loop .inv) (next-pair (c .before .before .before .before .before .before .before .args .bytes .now) (c .before .before .before .before .loop .i) (c .before .before .before .loop-test .taken)))
+
+slice-write-out-2 : tie.Need-slice-write-out-2 Inv-loop μ-loop
+slice-write-out-2 c = simp length-set (omega (arith, each-fits (c .before .before .before .before .loop .inv) (next-pair (c .before .before .before .before .before .before .before .args .bytes .now) (c .before .before .before .before .loop .i) (c .before .before .before .loop-test .taken))))
+
+add-p : tie.Need-add-p Inv-loop μ-loop
+add-p c = omega (arith, each-fits (c .before .before .before .before .loop .inv) (next-pair (c .before .before .before .before .before .before .before .args .bytes .now) (c .before .before .before .before .loop .i) (c .before .before .before .loop-test .taken)))
+
+add-i : tie.Need-add-i Inv-loop μ-loop
+add-i c = search needs
+
+loop-less : tie.Need-loop-less Inv-loop μ-loop
+loop-less c = search needs
+
+loop-again : tie.Need-loop-again Inv-loop μ-loop
+loop-again c = rw (c .before .hex-digit .ensures, c .hex-digit2 .ensures) (each-goes-on (c .before .before .before .before .loop .inv) (c .before .before .before .loop-test .taken) (next-pair (c .before .before .before .before .before .before .before .args .bytes .now) (c .before .before .before .before .loop .i) (c .before .before .before .loop-test .taken)) (printed-two _ _ _ _ (each-fits (c .before .before .before .before .loop .inv) (next-pair (c .before .before .before .before .before .before .before .args .bytes .now) (c .before .before .before .before .loop .i) (c .before .before .before .loop-test .taken)))))
+
+same-length : tie.Need-same-length Inv-loop μ-loop
+same-length c = each-size (c .before .loop .inv)
+
+returns : tie.Need-returns Inv-loop μ-loop
+returns c = each-ends (c .before .loop .inv) (pairs-end) (c .loop-test .left)
+
+pub put-pairs-spec : {M : Type 1} → statement M
+put-pairs-spec =
+    tie.close
+    (tie.spec
+    Inv-loop
+    μ-loop
+    loop-holds
+    shared-slice-read-b
+    hex-digit-requires
+    slice-write-out
+    hex-digit-requires-2
+    add-out
+    slice-write-out-2
+    add-p
+    add-i
+    loop-less
+    loop-again
+    same-length
+    returns)

@@ -1,0 +1,33 @@
+-- What an answer by value stands for.
+use mathlib.Core.List.{List, [], map}
+use Prim.Native.Nat.{ℕ}
+use lib.ListN.{take}
+use Rattle.entries.specs.Decoded.{keyBytes, valueBytes}
+use Rattle.model.specs.Calls.{Result, value, listed, done, mismatch, full, notdone, unknown}
+use Rattle.model.specs.Calls.{Answer as Answered}
+use Rattle.model.specs.Print.{wordOf}
+use Rattle.print.specs.declared.Outcome.{Outcome}
+use Rattle.print.specs.declared.Outcome.the-variants as O
+use Rattle.print.specs.declared.KeyList.{KeyList}
+use Rattle.print.specs.declared.Answer.{Answer}
+
+-- a count above the room counts as all of it
+unfoldable pub keysIn : KeyList → List (List ℕ)
+keysIn l = take (l .count) (map keyBytes (l .keys))
+
+-- the result of a kind with its value or keys; what the kind does not use is not looked at
+unfoldable pub resultFor : Outcome → List ℕ → List (List ℕ) → Result
+resultFor O.Value v l = value v
+resultFor O.Keys v l = listed l
+resultFor O.Done v l = done
+resultFor O.Mismatch v l = mismatch
+resultFor O.Full v l = full
+resultFor O.NotDone v l = notdone
+resultFor O.Unknown v l = unknown
+
+unfoldable pub answerIn : Answer → Answered
+answerIn a = record { call = a .call; result = resultFor (a .outcome) (valueBytes (a .value)) (keysIn (a .keys)); rounds = a .rounds }
+
+-- the word of a result, whatever its value or keys
+unfoldable pub wordFor : Outcome → List ℕ
+wordFor o = wordOf (resultFor o [] [])

@@ -1,0 +1,4 @@
+pub mod Printed
+pub mod Figures
+pub mod Answers
+pub mod Counted

@@ -1,0 +1,41 @@
+// What is printed (document 01, 'Script lines', Output), written into a lent buffer.
+use entries::Key;
+use entries::Value;
+
+pub mod answers;
+pub mod bytes;
+pub mod decimals;
+pub mod hexadecimals;
+pub mod lines;
+
+// The figures of a number: the bytes from `from` on.
+pub struct Figures {
+    pub bytes: [u8; 10],
+    pub from: usize,
+}
+
+// The result of a call.
+pub enum Outcome {
+    Value,
+    Keys,
+    Done,
+    Mismatch,
+    Full,
+    NotDone,
+    Unknown,
+}
+
+// Keys: the first `count` of four.
+pub struct KeyList {
+    pub count: usize,
+    pub keys: [Key; 4],
+}
+
+// An answer: the call's number, its result, the number of rounds made for it, and the data of `value` and `keys`.
+pub struct Answer {
+    pub call: u32,
+    pub outcome: Outcome,
+    pub rounds: u32,
+    pub value: Value,
+    pub keys: KeyList,
+}
