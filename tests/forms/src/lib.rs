@@ -1,4 +1,4 @@
-//! The proved hash and bucket code, linked from its static libraries. Each
+//! The proved hash, bucket and datagram code, linked from its static libraries. Each
 //! exported function is wrapped in a safe one: a slice is passed as pointer
 //! and length, and no function keeps a pointer.
 
@@ -119,5 +119,67 @@ pub mod bucket {
 
     pub fn keys(bucket: &[u8], out: &mut [u8]) -> u32 {
         unsafe { exported::bucket_keys(bucket.as_ptr(), bucket.len(), out.as_mut_ptr(), out.len()) }
+    }
+}
+
+/// Calls on datagrams (crates/datagram_c).
+pub mod datagram {
+    use reference::datagram::Header;
+
+    mod exported {
+        #[link(name = "datagram_c", kind = "static")]
+        extern "C" {
+            pub fn datagram_read(bytes: *const u8, bytes_len: usize) -> u32;
+            pub fn datagram_rewrite(
+                bytes: *const u8,
+                bytes_len: usize,
+                out: *mut u8,
+                out_len: usize,
+            ) -> u32;
+            pub fn datagram_write(
+                kind: u8,
+                from: u8,
+                to: u8,
+                bucket: u8,
+                election: u16,
+                round: u32,
+                number: u16,
+                counter: u32,
+                table: *const u8,
+                table_len: usize,
+                out: *mut u8,
+                out_len: usize,
+            ) -> u32;
+        }
+    }
+
+    pub fn read(bytes: &[u8]) -> u32 {
+        unsafe { exported::datagram_read(bytes.as_ptr(), bytes.len()) }
+    }
+
+    pub fn rewrite(bytes: &[u8], out: &mut [u8]) -> u32 {
+        unsafe {
+            exported::datagram_rewrite(bytes.as_ptr(), bytes.len(), out.as_mut_ptr(), out.len())
+        }
+    }
+
+    /// The table is handed over as bucket bytes.
+    pub fn write(header: &Header, table: &[u8], out: &mut [u8]) -> u32 {
+        unsafe {
+            exported::datagram_write(
+                header.kind,
+                header.from,
+                header.to,
+                header.bucket,
+                header.number,
+                header.round,
+                header.version.number,
+                header.version.counter,
+                table.as_ptr(),
+                table.len(),
+                out.as_mut_ptr(),
+                out.len(),
+            )
+        }
     }
 }

@@ -175,3 +175,54 @@ fn reading_and_writing_agree_on_random_bytes() {
         }
     }
 }
+
+/// The entries of 113 bytes as the exported writer takes them: by the count
+/// and the lengths, each held to its greatest; offsets are not looked at.
+fn entries_in(bucket: &[u8]) -> Vec<(Vec<u8>, Vec<u8>)> {
+    let count = usize::from(bucket[0]).min(4);
+    let mut at = 1 + 4 * count;
+    let mut part = |length: u8, most: usize| {
+        let end = at + usize::from(length).min(most);
+        let bytes = bucket[at..end].to_vec();
+        at = end;
+        bytes
+    };
+    let heads = bucket[1..1 + 4 * count].chunks_exact(4);
+    heads
+        .map(|head| (part(head[1], 8), part(head[3], 16)))
+        .collect()
+}
+
+fn compare_writing(header: &Header, bucket: &[u8], room: usize) {
+    let mut expected = vec![OLD; room];
+    let entries = entries_in(bucket);
+    let entries: Vec<_> = entries.iter().map(|(k, v)| (&k[..], &v[..])).collect();
+    let written = reference::datagram::write(header, &entries, &mut expected);
+    let number = u32::from(written.err().unwrap_or(0));
+    let mut out = vec![OLD; room];
+    let answer = forms::datagram::write(header, bucket, &mut out);
+    assert_eq!((answer, out), (number, expected), "{header:?} {entries:?}");
+}
+
+/// Headers of small numbers, with tables that have a form or have none.
+#[test]
+fn writing_agrees_on_random_headers_and_tables() {
+    let mut random = Random::new(27);
+    for _ in 0..100_000 {
+        let mut small = |most| random.within(0, most);
+        let header = Header {
+            kind: small(10) as u8,
+            from: small(7) as u8,
+            to: small(7) as u8,
+            bucket: small(8) as u8,
+            number: small(2) as u16,
+            round: small(2) as u32,
+            version: Version {
+                number: small(2) as u16,
+                counter: small(1) as u32,
+            },
+        };
+        let bucket = laid_out(&any_entries(&mut random));
+        compare_writing(&header, &bucket, room(&mut random));
+    }
+}
