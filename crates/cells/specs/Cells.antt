@@ -2,9 +2,9 @@
 -- touch nothing else, so the code loads and stores a front and a cell.
 use mathlib.Core.List.{List}
 use mathlib.Core.Bool.{Bool}
-use mathlib.Core.Option.{Option, none}
+use mathlib.Core.Option.{Option}
 use Prim.Native.Nat.{ℕ, _<_}
-use lib.ListN.{length, getD, set}
+use lib.ListN.{length, set}
 use Rattle.model.specs.Calls.{Answer}
 use Rattle.model.specs.Cluster.{Copy, copyAt, Role, Round, Call, roundAt, callAt, Server, Message}
 use Rattle.model.specs.Leader.{Reaction, reaction}

@@ -1,19 +1,19 @@
 -- The model's rules for a call are those of a front and a cell.
-use mathlib.Core.Path.{_≡_, refl, sym, _∙_, ap}
-use mathlib.Core.List.{List, [], _∷_, _++_}
+use mathlib.Core.Path.{_≡_, refl}
+use mathlib.Core.List.{List}
 use mathlib.Core.Bool.{Bool, true, false}
 use mathlib.Core.Option.{Option, none, some}
 use Prim.Native.Nat.{ℕ, _+_}
 use lib.Dec.{eqb}
-use lib.ListN.{length, getD, set}
+use lib.ListN.{set}
 use lib.Seq.{getD-set-same, set-set, set-getD}
 use Rattle.entries.specs.Entries.{Entry}
 use Rattle.model.specs.Calls.{Words, Result, done, Effect, answers, writes, effect}
 use Rattle.model.specs.Cluster.{version, above, Copy, freshCopy, copyAt, Purpose, recoveryRead, recoveryWrite, check, ownWrite, Round, Call, roundAt, callAt, Server, Message}
 use Rattle.model.specs.Replica.{Request, reading, writing, requestBody, accepting, storing, voting}
-use Rattle.model.specs.Leader.{Reaction, reaction, broadcast, isOwn, oneMore, closes, newRound, opening, openRound, finish, nextVersion, applying, afterRead, checking, recovering, startRead, closed, beginCall, withRound, fails, cease, counting}
+use Rattle.model.specs.Leader.{Reaction, broadcast, isOwn, oneMore, closes, newRound, opening, openRound, finish, nextVersion, applying, afterRead, checking, recovering, startRead, closed, beginCall, withRound, fails, counting}
 use Rattle.cells.specs.Cells.{Front, Cell, front, cell, putCell, Inside, Move, lift}
-use Rattle.cells.specs.Moves.{finishing, keeping, roundFor, frontAfter, cellAfter, openingRound, doing, afterReading, checkingRound, recoveryOf, readingBucket, closing, beginning, Counting, goesOn, failed, countingReply, reactionTo}
+use Rattle.cells.specs.Moves.{finishing, keeping, roundFor, frontAfter, cellAfter, openingRound, doing, afterReading, checkingRound, recoveryOf, readingBucket, closing, beginning, countingReply, reactionTo}
 
 module _ (s : Server) (b : ℕ) (h : Inside s b) where
   -- a server is its front and its cells

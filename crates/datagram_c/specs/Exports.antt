@@ -7,7 +7,7 @@ use lib.ListN.{length}
 use Rattle.entries.specs.Entries.{Entry}
 use Rattle.table.specs.Form.{tableOf}
 use Rattle.bucket.specs.Answers.{Answer, answer}
-use Rattle.fields.specs.Form.{Datagram, Parsed, taken, refused, readDatagram, writeDatagram}
+use Rattle.fields.specs.Form.{Datagram, Parsed, taken, refused, writeDatagram}
 
 -- 0, or the number of the refusal
 unfoldable pub parsedNumber : Parsed → ℕ

@@ -1,17 +1,16 @@
 -- No rule sees more of a line than is kept of it: a line and what is kept of it are performed alike.
-use mathlib.Core.Path.{_≡_, refl, sym, ap, ap₂, _∙_}
-use mathlib.Core.List.{List, [], _∷_, _++_, append-nil}
+use mathlib.Core.Path.{_≡_, refl, ap, ap₂, _∙_}
+use mathlib.Core.List.{List, append-nil}
 use mathlib.Core.Bool.{Bool, true, false}
 use mathlib.Core.Option.{Option, none, some}
-use Prim.Native.Nat.{ℕ, _≤_, _+_, _-_, min}
+use Prim.Native.Nat.{ℕ, _≤_, _-_}
 use native.Mathlib.Omega.{arith}
-use lib.Dec.{ltb, eqb}
-use lib.ListN.{length, take, replicate, length-append, length-take, length-replicate}
+use lib.ListN.{length, length-append, length-take, length-replicate}
 use lib.Seq.{take-all}
 use borrow.Author.Tests.{ltb-false}
 use Rattle.model.specs.Calls.{Words, get, set, setif, del, keys}
 use Rattle.model.specs.Cluster.{Cluster}
-use Rattle.model.specs.Lines.{Line, cluster, elect, call, deliver, copy, lose, timeout, stop, State, LineResult, refuse, either, noServer, noBucketFor, badKey, badValue, badWords, firstOf, conditions, inCluster, createCluster, perform}
+use Rattle.model.specs.Lines.{Line, cluster, elect, call, deliver, copy, lose, timeout, stop, State, either, noServer, noBucketFor, badKey, badValue, badWords, firstOf, conditions, inCluster, createCluster, perform}
 use Rattle.parse.specs.Kept.{kept}
 use Rattle.parse.specs.Meaning.{keptWords, keptLine}
 

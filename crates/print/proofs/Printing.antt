@@ -1,10 +1,10 @@
 -- A text printed piece by piece: what is written of it, and what is still to be written.
 use mathlib.Core.Path.{_≡_, refl, sym, ap, _∙_}
 use mathlib.Core.List.{List, [], _∷_, _++_, append-nil}
-use Prim.Native.Nat.{ℕ, suc, _≤_, _<_, _+_, _/_, _%_}
+use Prim.Native.Nat.{ℕ, _≤_, _<_, _+_, _/_, _%_}
 use native.Mathlib.Omega.{arith}
 use native.Mathlib.Numerals.{add-one}
-use lib.ListN.{length, take, drop, getD, set, length-append, take-append-drop, drop-of-length-le}
+use lib.ListN.{length, drop, getD, set, length-append, take-append-drop, drop-of-length-le}
 use lib.Seq.{sets, sets-eq, length-sets, drop-cons}
 use Rattle.table.proofs.Filling.{sets-append}
 use Rattle.model.specs.Text.{bytes}

@@ -1,12 +1,11 @@
 -- How long the texts of lines are at most, by the number of figures in their numbers.
-use mathlib.Core.List.{List, [], _++_}
 use Prim.Native.Nat.{ℕ, _≤_, _<_, _+_, _*_, _^_}
 use native.Mathlib.Omega.{arith}
 use lib.ListN.{length, length-append}
 use Rattle.model.specs.Text.{bytes}
 use Rattle.model.specs.Calls.{Result, value, listed, done, mismatch, full, notdone, unknown, Answer}
 use Rattle.model.specs.Lines.{Tally, refusal}
-use Rattle.model.specs.Print.{decimal, wordOf, dataOf, answerText, outcomeText, tallyText}
+use Rattle.model.specs.Print.{wordOf, dataOf, answerText, outcomeText, tallyText}
 use Rattle.print.proofs.Counting.{length-decimal}
 
 pub refusal-room : (k m l r : ℕ) → 1 ≤ k → 1 ≤ m → l < 10 ^ k → r < 10 ^ m → length (outcomeText l (refusal r)) ≤ 15 + k + m

@@ -1,7 +1,7 @@
 -- What the rules of rounds make of a round and of its sender's head stands for what document 01's definitions make of them.
 use mathlib.Core.Path.{_≡_, refl, sym, ap, ap₂, _∙_}
 use mathlib.Core.Bool.{Bool, true, false}
-use mathlib.Core.List.{List, [], _∷_, map}
+use mathlib.Core.List.{List}
 use mathlib.Core.Option.{Option, none, some}
 use Prim.Native.Nat.{ℕ, _+_, _<_, _%_, _^_, min}
 use native.Mathlib.Nat.{mod-eq-of-lt}
@@ -13,13 +13,13 @@ use Rattle.entries.specs.Entries.{Entry}
 use Rattle.model.specs.Cluster as cluster
 use Rattle.model.specs.Cluster.{above, copyAt, freshCopy, roundAt}
 use Rattle.model.specs.Replica.{Request, reading, writing, voting, storing, accepting}
-use Rattle.model.specs.Leader.{Reaction, noReaction, oneMore, isOwn, reportTo, newRound, opening, better, markedBy, counted, counting, onReply}
+use Rattle.model.specs.Leader.{Reaction, noReaction, reportTo, newRound, opening, better, markedBy, counted, counting, onReply}
 use Rattle.server.specs.declared.Version.{Version}
 use Rattle.server.specs.declared.Head.{Head}
 use Rattle.server.specs.declared.Round.{Round}
 use Rattle.server.specs.declared.Counted.{Counted}
 use Rattle.server.specs.Views.{Beside, storedIn, serverIn, besideIn, flagIn, roleIn, votesIn, marksIn, purposeIn, markIn, versionIn, among, openIn, roundIn}
-use Rattle.rounds.specs.Rounds.{isSilent, pickVersion, noVersion, reported, newRoundOf, openedHead, improves, countedWith, countedOf, pickTable, matching}
+use Rattle.rounds.specs.Rounds.{isSilent, pickVersion, reported, newRoundOf, openedHead, improves, countedWith, countedOf, pickTable, matching}
 use Rattle.server.proofs.Counting.{set-viewed, replicate-viewed}
 
 -- ---- what is reported

@@ -1,5 +1,5 @@
 -- How a server handles a message, by its kind number, and by the definitions' bodies.
-use mathlib.Core.Bool.{Bool, true, false}
+use mathlib.Core.Bool.{true, false}
 use Prim.Native.Nat.{ℕ}
 use lib.Dec.{eqb}
 use Rattle.model.specs.Cluster as cluster

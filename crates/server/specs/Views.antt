@@ -1,6 +1,6 @@
 -- What the structs of a server stand for in the definitions of document 01. Every number stands for something.
 -- `n` is the number of servers: votes and marks past the first n stand for nothing.
-use mathlib.Core.List.{List, [], _∷_, map}
+use mathlib.Core.List.{List, map}
 use mathlib.Core.Bool.{Bool, true, false}
 use mathlib.Core.Option.{Option, none, some}
 use Prim.Native.Nat.{ℕ}

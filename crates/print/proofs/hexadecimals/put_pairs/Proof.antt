@@ -1,6 +1,5 @@
 -- `hexadecimals::put_pairs` meets its contract: byte by byte.
 use borrow.Author.Needs.{needs}
-use mathlib.Core.Path.{refl}
 use Prim.Native.Nat.{_-_}
 use lib.ListN.{length, length-set}
 use native.Mathlib.Omega.{arith}

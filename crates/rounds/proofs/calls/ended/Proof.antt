@@ -1,7 +1,6 @@
 -- `calls::ended` meets its contract.
 use mathlib.Core.Path.{_≡_, ap, _∙_}
 use borrow.Author.Needs.{needs}
-use Rattle.server.specs.declared.Answer.{Answer}
 use Rattle.server.specs.Views.{answerIn}
 use Rattle.rounds.specs.Calls.{endedOf, answerWith}
 use Rattle.rounds.proofs.CallLaws.{ended-means}

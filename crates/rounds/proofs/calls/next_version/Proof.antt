@@ -1,7 +1,6 @@
 -- `calls::next_version` meets its contract.
 use mathlib.Core.Path.{_≡_, ap, _∙_}
 use borrow.Author.Needs.{needs}
-use Rattle.server.specs.declared.Version.{Version}
 use Rattle.server.specs.Views.{versionIn}
 use Rattle.rounds.specs.Calls.{versionOf, nextVersionOf}
 use Rattle.rounds.proofs.CallLaws.{next-version-means}

@@ -1,6 +1,5 @@
 -- `opening::new_round` meets its contract.
 use mathlib.Core.Path.{_≡_, ap, ap₂, _∙_}
-use mathlib.Core.List.{List}
 use borrow.Author.Needs.{needs}
 use Rattle.model.specs.Cluster.{copyAt}
 use Rattle.model.specs.Leader.{reportTo}

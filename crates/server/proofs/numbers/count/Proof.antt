@@ -1,7 +1,7 @@
 -- `numbers::count` meets its contract: the loop has counted the places that it passed.
 use mathlib.Core.Path.{_≡_, refl, ap, _∙_}
 use mathlib.Core.Logic.{⊎-elim}
-use Prim.Native.Nat.{ℕ, _≤_, _+_, _-_, min}
+use Prim.Native.Nat.{_≤_, _+_, _-_, min}
 use borrow.Author.Tests.{eq-eqb, ne-eqb}
 use native.Mathlib.Omega.{arith}
 use borrow.Author.Needs.{needs}

@@ -1,6 +1,6 @@
 -- `numbers::place_at` meets its contract: past the first n, and past seven places, there is nothing.
 use mathlib.Core.Path.{_≡_, sym, _∙_}
-use Prim.Native.Nat.{_≤_, _<_}
+use Prim.Native.Nat.{_<_}
 use native.Mathlib.Omega.{arith}
 use borrow.Author.Needs.{needs}
 use lib.ListN.{length, take, length-take, List·getD-eq-default}

@@ -1,5 +1,5 @@
 -- `votes::after_vote` meets its contract: both make the same test.
-use mathlib.Core.Path.{_≡_, refl, ap, _∙_}
+use mathlib.Core.Path.{_≡_, ap, _∙_}
 use borrow.Author.Needs.{needs}
 use borrow.Author.Tests.{lt-ltb, le-ltb}
 use Rattle.server.specs.Views.{serverIn}

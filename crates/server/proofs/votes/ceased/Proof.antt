@@ -1,6 +1,6 @@
 -- `votes::ceased` meets its contract: a head has seven votes, and none is left.
-use mathlib.Core.Path.{_≡_, refl}
-use lib.ListN.{length, length-map}
+use mathlib.Core.Path.{refl}
+use lib.ListN.{length-map}
 use Rattle.server.proofs.HeadLaws.{ceased-means}
 use Rattle.server.proofs.votes.ceased.Statement.{statement}
 use Rattle.server.proofs.votes.ceased.Tie as tie
