@@ -116,7 +116,7 @@ perform-comes-out-at : (s : State) (l : Line) (o : Option Cluster) → s .cluste
 perform-comes-out-at s l none e = creation-comes-out s l e
 perform-comes-out-at s l (some c) e = in-cluster-comes-out s c l e
 
-perform-comes-out : (s : State) (l : Line) → ComesOut s (some l) (perform s l)
+pub perform-comes-out : (s : State) (l : Line) → ComesOut s (some l) (perform s l)
 unfolding perform
 perform-comes-out s l = perform-comes-out-at s l (s .cluster) refl
 

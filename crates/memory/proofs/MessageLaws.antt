@@ -8,7 +8,7 @@ use lib.ListN.{length, getD, set, take, drop, length-take}
 use lib.Seq.{sets}
 use Rattle.blocks.specs.Blocks.{blocks, block, without, refilled}
 use Rattle.blocks.proofs.Laws.{length-blocks, blocks-split, set-last, sets-stored, blocks-stored, getD-blocks, blocks-removed, length-removed}
-use Rattle.memory.specs.declared.Message.{Message}
+use Rattle.server.specs.declared.Message.{Message}
 use Rattle.memory.specs.Layout.{messageSize, contentSize, contentBytes, messageOf, messageRow, messageAt, putMessage, contentAt, putContent}
 use Rattle.memory.specs.Messages.{Sent, sent, messagesAt, closedUp}
 use Rattle.memory.proofs.Rows.{row-part, putRow-sets}

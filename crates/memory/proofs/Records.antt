@@ -10,7 +10,7 @@ use Rattle.server.specs.declared.Version.{Version}
 use Rattle.server.specs.declared.Head.{Head}
 use Rattle.server.specs.declared.Round.{Round}
 use Rattle.server.specs.declared.Call.{Call}
-use Rattle.memory.specs.declared.Message.{Message}
+use Rattle.server.specs.declared.Message.{Message}
 use Rattle.memory.specs.declared.Numbers.{Numbers}
 use Rattle.memory.specs.declared.Counts.{Counts}
 use Rattle.memory.specs.Rows.{Bytes}

@@ -15,7 +15,7 @@ use Rattle.server.specs.declared.Head.{Head}
 use Rattle.server.specs.declared.Round.{Round}
 use Rattle.server.specs.declared.Call.{Call}
 use Rattle.server.specs.declared.Words.{Words}
-use Rattle.memory.specs.declared.Message.{Message}
+use Rattle.server.specs.declared.Message.{Message}
 use Rattle.memory.specs.declared.Numbers.{Numbers}
 use Rattle.memory.specs.declared.Counts.{Counts}
 use Rattle.memory.specs.Rows.{row, putRow, bytes}

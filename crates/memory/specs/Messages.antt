@@ -4,7 +4,7 @@ use mathlib.Core.List.{List, zipWith}
 use Prim.Native.Nat.{ℕ}
 use lib.ListN.{take}
 use Rattle.blocks.specs.Blocks.{blocks, without, refilled}
-use Rattle.memory.specs.declared.Message.{Message}
+use Rattle.server.specs.declared.Message.{Message}
 use Rattle.memory.specs.Layout.{messageSize, contentSize, contentBytes, messageOf, putMessage, putContent}
 
 -- a message in flight: its header and 113 bytes of content, which count where its kind has a content

@@ -21,17 +21,6 @@ pub const CONTENT: usize = 128;
 
 pub const TEXT: usize = 64;
 
-// A message without its content.
-pub struct Message {
-    pub kind: u32,
-    pub sender: u32,
-    pub receiver: u32,
-    pub bucket: u32,
-    pub election: u32,
-    pub round: u32,
-    pub version: Version,
-}
-
 // The words of a call without their bytes: kind, bucket, and how long the key, the expected value and the new value are.
 pub struct Numbers {
     pub kind: u32,

@@ -2,10 +2,10 @@
 // and their contents in 8192 lent bytes, in blocks of 128.
 use crate::CONTENT;
 use crate::HEADER;
-use crate::Message;
 use blocks::copy_block_within_bytes;
 use blocks::remove_block_bytes;
 use blocks::remove_block_words;
+use server::Message;
 use server::Version;
 ghost use mathlib.Core.Path.{_≡_};
 ghost use Prim.Native.Nat.{_+_, _*_, _<_, _≤_};

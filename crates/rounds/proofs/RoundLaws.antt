@@ -40,7 +40,7 @@ others-do-not purpose c e =
     ])
 
 -- no version is above all: (0, 0) is above none
-fresh-below : (v : cluster.Version) → above (cluster.version 0 0) v ≡ false
+pub fresh-below : (v : cluster.Version) → above (cluster.version 0 0) v ≡ false
 unfolding above
 fresh-below v =
     elim (eqb 0 (v .election)) as (λ b. elim b [ true ↦ ltb (v .counter) 0 | false ↦ ltb (v .election) 0 ] ≡ false)

@@ -69,6 +69,17 @@ pub struct Effect {
     pub table: Decoded,
 }
 
+// A message without its content.
+pub struct Message {
+    pub kind: u32,
+    pub sender: u32,
+    pub receiver: u32,
+    pub bucket: u32,
+    pub election: u32,
+    pub round: u32,
+    pub version: Version,
+}
+
 // How a server handles a message.
 pub enum Handling {
     // a vote message: 1 PLEASEVOTE, 2 ACKVOTE, 3 NACKVOTE

@@ -1,0 +1,2 @@
+-- What the exported call leaves.
+pub mod Exports

@@ -1,0 +1,70 @@
+-- The parts of a step, put together, are the run of specs/Runs.antt in crate `runs`.
+use mathlib.Core.Path.{_≡_, sym, ap, _∙_}
+use mathlib.Core.Bool.{Bool, true, false}
+use mathlib.Core.List.{List}
+use Prim.Native.Nat.{ℕ, _+_, _-_, _≤_}
+use native.Mathlib.Omega.{arith}
+use lib.Dec.{leb}
+use Rattle.entries.specs.Entries.{Entry}
+use Rattle.server.specs.declared.Effect.{Effect}
+use Rattle.memory.specs.declared.Counts.{Counts}
+use Rattle.memory.specs.Layout.{putCounts}
+use Rattle.moves.specs.declared.Move.{Move}
+use Rattle.moves.specs.Moves.{chosen}
+use Rattle.views.specs.Memory.{memory, slotOf}
+use Rattle.views.specs.Changes.{moved}
+use Rattle.views.specs.Queue.{Flight, flight, withoutMessage, sent, sendCount}
+use Rattle.steps.specs.Stored.{Flown}
+use Rattle.plans.specs.declared.Step.{Step}
+use Rattle.plans.specs.Plans.{placesLeft}
+use Rattle.runs.specs.Runs.{ran, carriedRun, nextCounts}
+use Rattle.machine.specs.Contracts.{ServerChanged}
+use borrow.Author.Tests.{lt-leb}
+use native.Mathlib.Decide.{decLe}
+
+leb-le : (a b : ℕ) → leb a b ≡ true → a ≤ b
+leb-le a b e = go (decLe a b)
+  where
+    go : Dec (a ≤ b) → a ≤ b
+    go (yes h) = h
+    go (no h) = let z : _≡_ {A = Bool} true false = sym e ∙ lt-leb a b (omega arith) in let w : _≡_ {A = ℕ} 0 1 = cc in absurd (omega arith)
+
+-- once the message handed over has left, there are places for what is sent
+pub room-left : (c : Counts) (removes : Bool) (i kind : ℕ) (q l q′ l′ : List ℕ) (r : ℕ)
+    → Flown (withoutMessage removes i (flight q l (c .messages))) q′ l′ r → placesLeft c removes kind ≡ true → r + sendCount (c .servers) kind ≤ 64
+unfolding withoutMessage chosen
+room-left c true i kind q l q′ l′ r f e =
+    let n : r ≡ c .messages - 1 = ap (λ x. x .count) (f .is) in
+    let h : c .messages - 1 + sendCount (c .servers) kind ≤ 64 = leb-le _ _ e in
+    omega arith
+room-left c false i kind q l q′ l′ r f e =
+    let n : r ≡ c .messages = ap (λ x. x .count) (f .is) in
+    let h : c .messages - 0 + sendCount (c .servers) kind ≤ 64 = leb-le _ _ e in
+    omega arith
+
+-- what the parts of a step leave
+pub carried-out : (counts heads slots copies works texts queue loads l : List ℕ) (c : Counts) (x : Step) (v : Move) (f : Effect) (made : List Entry)
+    (counts′ heads′ slots′ copies′ works′ queue′ loads′ l′ : List ℕ) (written count n : ℕ)
+    → ServerChanged heads slots copies works loads l c x v made heads′ slots′ copies′ works′ l′ written
+    → Flown (sent (c .servers) (x .server) (x .bucket) (slotOf (x .server) (x .bucket)) (x .asked) v works′ copies′ (withoutMessage (x .removes) (x .message) (flight queue loads (c .messages)))) queue′ loads′ count
+    → counts′ ≡ putCounts counts (nextCounts c count (x .calls)) → n ≡ sendCount (c .servers) (v .sends)
+    → ran (memory counts′ heads′ slots′ copies′ works′ texts queue′ loads′) l′ (record { refusal = 0; answers = written; sent = n; copied = x .copied; delivered = x .delivered; lost = 0; messages = count; effect = f })
+    ≡ carriedRun (memory counts heads slots copies works texts queue loads) l c x v made
+unfolding carriedRun moved
+carried-out counts heads slots copies works texts queue loads l c x v f made counts′ heads′ slots′ copies′ works′ queue′ loads′ l′ written count n s y e d =
+    let k = slotOf (x .server) (x .bucket) in
+    let m = s .moves in
+    let z : List ℕ → List ℕ → Flight = λ works copies. sent (c .servers) (x .server) (x .bucket) k (x .asked) v works copies (withoutMessage (x .removes) (x .message) (flight queue loads (c .messages))) in
+    rw (
+      e,
+      d,
+      m .head,
+      m .slot,
+      ap (λ a. a .answers) (s .listed .is),
+      ap (λ a. a .count) (s .listed .is),
+      ap (λ a. a .queue) (y .is),
+      ap (λ a. a .loads) (y .is),
+      ap (λ a. a .count) (y .is),
+      m .copy,
+      m .work,
+    )

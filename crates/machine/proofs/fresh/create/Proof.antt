@@ -1,0 +1,33 @@
+-- `fresh::create` meets its contract: array by array.
+use borrow.Author.Needs.{needs}
+use Rattle.machine.proofs.fresh.create.Statement.{statement}
+use Rattle.machine.proofs.fresh.create.Tie as tie
+
+zero-words-requires : tie.Need-zero-words-requires
+zero-words-requires c κs = search needs
+
+zero-words-requires-2 : tie.Need-zero-words-requires-2
+zero-words-requires-2 c κs = search needs
+
+zero-bytes-requires : tie.Need-zero-bytes-requires
+zero-bytes-requires c κs = search needs
+
+fresh-counts-requires : tie.Need-fresh-counts-requires
+fresh-counts-requires c κs = search needs
+
+store-counts-requires : tie.Need-store-counts-requires
+store-counts-requires c κs = search needs
+
+returns : tie.Need-returns
+returns c = record { counted = rw (c .store-counts .ensures, c .before .fresh-counts .ensures); heads = c .before .before .before .before .before .before .before .zero-words .ensures; slots = c .before .before .before .before .before .zero-words2 .ensures; copies = c .before .before .before .zero-bytes .ensures }
+
+pub create-spec : {M : Type 1} → statement M
+create-spec =
+    tie.close
+    (tie.spec
+    zero-words-requires
+    zero-words-requires-2
+    zero-bytes-requires
+    fresh-counts-requires
+    store-counts-requires
+    returns)

@@ -1,0 +1,232 @@
+-- `lines::plan_line` meets its contract: kind by kind.
+use Rattle.runs.specs.Runs.{wordsOf}
+use Rattle.machine.proofs.Planning.{malformed-planned, cluster-planned, elect-planned, timeout-planned, stop-planned, lose-planned, get-planned, set-planned, setif-planned, del-planned, keys-planned, deliver-planned, copy-planned}
+use borrow.Author.Needs.{needs}
+use Rattle.machine.proofs.lines.plan_line.Statement.{statement}
+use Rattle.machine.proofs.lines.plan_line.Tie as tie
+
+enum-told : tie.Need-enum-told
+enum-told c = search needs
+
+no-effect-requires : tie.Need-no-effect-requires
+no-effect-requires c κs = search needs
+
+refused-plan-requires : tie.Need-refused-plan-requires
+refused-plan-requires c κs = search needs
+
+enum-told-2 : tie.Need-enum-told-2
+enum-told-2 c = search needs
+
+no-effect-requires-2 : tie.Need-no-effect-requires-2
+no-effect-requires-2 c κs = search needs
+
+refused-plan-requires-2 : tie.Need-refused-plan-requires-2
+refused-plan-requires-2 c κs = search needs
+
+enum-told-3 : tie.Need-enum-told-3
+enum-told-3 c = search needs
+
+plan-elect-requires : tie.Need-plan-elect-requires
+plan-elect-requires c κs = search needs
+
+enum-told-4 : tie.Need-enum-told-4
+enum-told-4 c = search needs
+
+no-value-requires : tie.Need-no-value-requires
+no-value-requires c κs = search needs
+
+no-value-requires-2 : tie.Need-no-value-requires-2
+no-value-requires-2 c κs = search needs
+
+words-requires : tie.Need-words-requires
+words-requires c κs = search needs
+
+plan-call-requires : tie.Need-plan-call-requires
+plan-call-requires c κs = search needs
+
+enum-told-5 : tie.Need-enum-told-5
+enum-told-5 c = search needs
+
+no-value-requires-3 : tie.Need-no-value-requires-3
+no-value-requires-3 c κs = search needs
+
+words-requires-2 : tie.Need-words-requires-2
+words-requires-2 c κs = search needs
+
+plan-call-requires-2 : tie.Need-plan-call-requires-2
+plan-call-requires-2 c κs = search needs
+
+enum-told-6 : tie.Need-enum-told-6
+enum-told-6 c = search needs
+
+words-requires-3 : tie.Need-words-requires-3
+words-requires-3 c κs = search needs
+
+plan-call-requires-3 : tie.Need-plan-call-requires-3
+plan-call-requires-3 c κs = search needs
+
+enum-told-7 : tie.Need-enum-told-7
+enum-told-7 c = search needs
+
+no-value-requires-4 : tie.Need-no-value-requires-4
+no-value-requires-4 c κs = search needs
+
+no-value-requires-5 : tie.Need-no-value-requires-5
+no-value-requires-5 c κs = search needs
+
+words-requires-4 : tie.Need-words-requires-4
+words-requires-4 c κs = search needs
+
+plan-call-requires-4 : tie.Need-plan-call-requires-4
+plan-call-requires-4 c κs = search needs
+
+enum-told-8 : tie.Need-enum-told-8
+enum-told-8 c = search needs
+
+no-key-requires : tie.Need-no-key-requires
+no-key-requires c κs = search needs
+
+no-value-requires-6 : tie.Need-no-value-requires-6
+no-value-requires-6 c κs = search needs
+
+no-value-requires-7 : tie.Need-no-value-requires-7
+no-value-requires-7 c κs = search needs
+
+words-requires-5 : tie.Need-words-requires-5
+words-requires-5 c κs = search needs
+
+plan-call-requires-5 : tie.Need-plan-call-requires-5
+plan-call-requires-5 c κs = search needs
+
+enum-told-9 : tie.Need-enum-told-9
+enum-told-9 c = search needs
+
+plan-hand-requires : tie.Need-plan-hand-requires
+plan-hand-requires c κs = search needs
+
+enum-told-10 : tie.Need-enum-told-10
+enum-told-10 c = search needs
+
+plan-hand-requires-2 : tie.Need-plan-hand-requires-2
+plan-hand-requires-2 c κs = search needs
+
+enum-told-11 : tie.Need-enum-told-11
+enum-told-11 c = search needs
+
+plan-lose-requires : tie.Need-plan-lose-requires
+plan-lose-requires c κs = search needs
+
+enum-told-12 : tie.Need-enum-told-12
+enum-told-12 c = search needs
+
+plan-timeout-requires : tie.Need-plan-timeout-requires
+plan-timeout-requires c κs = search needs
+
+enum-told-13 : tie.Need-enum-told-13
+enum-told-13 c = search needs
+
+plan-stop-requires : tie.Need-plan-stop-requires
+plan-stop-requires c κs = search needs
+
+returns : tie.Need-returns
+returns c = malformed-planned _ _ _ _ _ _ _ _ _ (c .before .before .enum-told .given .1) (c .refused-plan .ensures)
+
+returns-2 : tie.Need-returns-2
+returns-2 c = cluster-planned _ _ _ _ _ _ _ _ _ (c .before .before .enum-told2 .given .1) (c .refused-plan2 .ensures)
+
+returns-3 : tie.Need-returns-3
+returns-3 c = elect-planned _ _ _ _ _ _ _ _ (c .before .enum-told3 .given .1) (c .plan-elect .ensures)
+
+returns-4 : tie.Need-returns-4
+unfolding wordsOf
+returns-4 c = get-planned _ _ _ _ _ _ _ _ (c .before .before .before .before .enum-told4 .given .1) (rw (c .before .words .ensures, c .before .before .before .no-value .ensures, c .before .before .no-value2 .ensures) at (c .plan-call .ensures))
+
+returns-5 : tie.Need-returns-5
+unfolding wordsOf
+returns-5 c = set-planned _ _ _ _ _ _ _ _ (c .before .before .before .enum-told5 .given .1) (rw (c .before .words2 .ensures, c .before .before .no-value3 .ensures) at (c .plan-call2 .ensures))
+
+returns-6 : tie.Need-returns-6
+unfolding wordsOf
+returns-6 c = setif-planned _ _ _ _ _ _ _ _ (c .before .before .enum-told6 .given .1) (rw (c .before .words3 .ensures) at (c .plan-call3 .ensures))
+
+returns-7 : tie.Need-returns-7
+unfolding wordsOf
+returns-7 c = del-planned _ _ _ _ _ _ _ _ (c .before .before .before .before .enum-told7 .given .1) (rw (c .before .words4 .ensures, c .before .before .before .no-value4 .ensures, c .before .before .no-value5 .ensures) at (c .plan-call4 .ensures))
+
+returns-8 : tie.Need-returns-8
+unfolding wordsOf
+returns-8 c = keys-planned _ _ _ _ _ _ _ _ (c .before .before .before .before .before .enum-told8 .given .1) (rw (c .before .words5 .ensures, c .before .before .before .before .no-key .ensures, c .before .before .before .no-value6 .ensures, c .before .before .no-value7 .ensures) at (c .plan-call5 .ensures))
+
+returns-9 : tie.Need-returns-9
+returns-9 c = deliver-planned _ _ _ _ _ _ _ _ (c .before .enum-told9 .given .1) (c .plan-hand .ensures)
+
+returns-10 : tie.Need-returns-10
+returns-10 c = copy-planned _ _ _ _ _ _ _ _ (c .before .enum-told10 .given .1) (c .plan-hand2 .ensures)
+
+returns-11 : tie.Need-returns-11
+returns-11 c = lose-planned _ _ _ _ _ _ _ _ (c .before .enum-told11 .given .1) (c .plan-lose .ensures)
+
+returns-12 : tie.Need-returns-12
+returns-12 c = timeout-planned _ _ _ _ _ _ _ _ (c .before .enum-told12 .given .1) (c .plan-timeout .ensures)
+
+returns-13 : tie.Need-returns-13
+returns-13 c = stop-planned _ _ _ _ _ _ _ _ (c .before .enum-told13 .given .1) (c .plan-stop .ensures)
+
+pub plan-line-spec : {M : Type 1} → statement M
+plan-line-spec =
+    tie.close
+    (tie.spec
+    enum-told
+    no-effect-requires
+    refused-plan-requires
+    enum-told-2
+    no-effect-requires-2
+    refused-plan-requires-2
+    enum-told-3
+    plan-elect-requires
+    enum-told-4
+    no-value-requires
+    no-value-requires-2
+    words-requires
+    plan-call-requires
+    enum-told-5
+    no-value-requires-3
+    words-requires-2
+    plan-call-requires-2
+    enum-told-6
+    words-requires-3
+    plan-call-requires-3
+    enum-told-7
+    no-value-requires-4
+    no-value-requires-5
+    words-requires-4
+    plan-call-requires-4
+    enum-told-8
+    no-key-requires
+    no-value-requires-6
+    no-value-requires-7
+    words-requires-5
+    plan-call-requires-5
+    enum-told-9
+    plan-hand-requires
+    enum-told-10
+    plan-hand-requires-2
+    enum-told-11
+    plan-lose-requires
+    enum-told-12
+    plan-timeout-requires
+    enum-told-13
+    plan-stop-requires
+    returns
+    returns-2
+    returns-3
+    returns-4
+    returns-5
+    returns-6
+    returns-7
+    returns-8
+    returns-9
+    returns-10
+    returns-11
+    returns-12
+    returns-13)

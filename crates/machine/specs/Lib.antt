@@ -1,0 +1,3 @@
+-- What the contracts of `machine` cite.
+pub mod Contracts
+pub mod Meaning

@@ -1,0 +1,53 @@
+-- What a line does to the state that memory and tally stand for: document 01's step.
+use mathlib.Core.Path.{_≡_}
+use mathlib.Core.Bool.{true, false}
+use mathlib.Core.List.{List}
+use Prim.Native.Nat.{ℕ, _+_, _%_, _^_}
+use lib.Dec.{eqb}
+use Rattle.entries.specs.Decoded.{tableIn, valueBytes}
+use Rattle.model.specs.Lines as lines
+use Rattle.limits.specs.Always.{Measured}
+use Rattle.views.specs.Memory.{Memory, clusterIn}
+use Rattle.views.specs.Changes.{answersAt}
+use Rattle.parse.specs.declared.Line.{Line}
+use Rattle.parse.specs.Meaning.{lineIn}
+use Rattle.runs.specs.declared.Report.{Report}
+use Rattle.runs.specs.Meaning.{stateIn, performed}
+use Rattle.machine.specs.declared.Tally.{Tally}
+use Rattle.machine.specs.declared.Stepped.{Stepped}
+use Rattle.machine.specs.Contracts.{RanLine}
+
+abbrev pub tallyIn : Tally → lines.Tally
+tallyIn t = record { sent = t .sent; copied = t .copied; delivered = t .delivered; lost = t .lost; inFlight = t .flight }
+
+-- the tally after a line, number by number; the counts wrap at 2 ^ 32
+unfoldable pub tallyAfter : Tally → Report → Tally
+tallyAfter t r =
+    elim (eqb (r .refusal) 0) [
+      | true ↦
+          record {
+            sent = (t .sent + r .sent) % 2 ^ 32;
+            copied = (t .copied + r .copied) % 2 ^ 32;
+            delivered = (t .delivered + r .delivered) % 2 ^ 32;
+            lost = (t .lost + r .lost) % 2 ^ 32;
+            flight = r .messages;
+          }
+      | false ↦ t
+    ]
+
+-- the refusal, or the answers, with the data of the effect that was asked for
+unfoldable pub outcomeIn : Report → List ℕ → lines.Outcome
+outcomeIn r l =
+    elim (eqb (r .refusal) 0) [
+      | true ↦ lines.printed (answersAt (r .answers) l (valueBytes (r .effect .value)) (tableIn (r .effect .table)))
+      | false ↦ lines.refusal (r .refusal)
+    ]
+
+-- a line: every word and byte that it leaves, the tally, and, for every state within the measures of document 01, the definition's step,
+-- which leaves such a state
+pub record Performed (m : Memory) (l : List ℕ) (t : Tally) (x : Line) (m′ : Memory) (l′ : List ℕ) (r : Stepped) : Type 0 where
+  pub leaves : RanLine m l x m′ l′ (r .report)
+  pub tally : r .tally ≡ tallyAfter t (r .report)
+  pub means : Measured (clusterIn m) (tallyIn t)
+      → performed (stateIn m (tallyIn t)) (lineIn x) ≡ record { state = stateIn m′ (tallyIn (r .tally)); outcome = outcomeIn (r .report) l′ }
+  pub measured : Measured (clusterIn m) (tallyIn t) → Measured (clusterIn m′) (tallyIn (r .tally))

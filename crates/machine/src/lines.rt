@@ -1,0 +1,266 @@
+// One line: refused, or a cluster made, or its plan carried out.
+use crate::carrying::execute;
+use crate::carrying::refused;
+use crate::fresh::create;
+use entries::Key;
+use entries::Value;
+use memory::Counts;
+use memory::counters::load_counts;
+use parse::Kind;
+use parse::Line;
+use plans::Plan;
+use plans::calls::plan_call;
+use plans::deliveries::plan_hand;
+use plans::deliveries::plan_lose;
+use plans::parts::no_effect;
+use plans::parts::refused_plan;
+use plans::servers::plan_elect;
+use plans::servers::plan_stop;
+use plans::servers::plan_timeout;
+use runs::Report;
+use server::Words;
+ghost use mathlib.Core.Path.{_≡_};
+ghost use Rattle.table.specs.Form.{within};
+ghost use Rattle.views.specs.Memory.{memory, standing};
+ghost use Rattle.plans.specs.Plans.{noKey, noValue};
+ghost use Rattle.plans.specs.Arrays.{Measured};
+ghost use Rattle.runs.specs.Runs.{wordsWith};
+ghost use Rattle.machine.specs.Contracts.{LinePlanned, Clustered, RanPlan, RanLine, sortOf};
+
+// A number from 1 to top.
+fn within(top: u32, n: u32) -> bool
+    ensures { λ r. ⌜ r ≡ within top n ⌝ }
+{
+    if n < 1 {
+        return false;
+    }
+    n <= top
+}
+
+// Whether a cluster stands: its measures are those of document 01.
+fn standing(c: Counts) -> bool
+    ensures { λ r. ⌜ r ≡ standing c ⌝ }
+{
+    if within(7, c.servers) {
+        if within(8, c.buckets) {
+            return c.messages <= 64;
+        }
+    }
+    false
+}
+
+fn no_key() -> Key
+    ensures { λ r. ⌜ r ≡ noKey ⌝ }
+{
+    Key {
+        bytes: [0u8; 8],
+        len: 0,
+    }
+}
+
+fn no_value() -> Value
+    ensures { λ r. ⌜ r ≡ noValue ⌝ }
+{
+    Value {
+        bytes: [0u8; 16],
+        len: 0,
+    }
+}
+
+fn words(kind: u32, bucket: u32, key: Key, expected: Value, value: Value) -> Words
+    ensures { λ r. ⌜ r ≡ wordsWith kind bucket key expected value ⌝ }
+{
+    Words {
+        kind,
+        bucket,
+        key,
+        expected,
+        value,
+    }
+}
+
+// What a line would do, by its kind.
+fn plan_line(
+    heads: &[u32; 112],
+    slots: &[u32; 1792],
+    copies: &[u8; 7168],
+    texts: &[u8; 3584],
+    queue: &[u32; 512],
+    c: Counts,
+    line: Line,
+) -> Plan
+    requires { ⌜ Measured c ⌝ }
+    ensures { λ p. ⌜ LinePlanned (now (heads .entry)) (now (slots .entry)) (now (copies .entry)) (now (texts .entry)) (now (queue .entry)) c line p ⌝ }
+{
+    let kind = line.kind;
+    let s = line.first;
+    let key = line.key;
+    let value = line.value;
+    match kind {
+        Kind::Malformed => refused_plan(1, no_effect()),
+        Kind::Cluster => refused_plan(2, no_effect()),
+        Kind::Elect => plan_elect(heads, slots, c, s),
+        Kind::Get => plan_call(
+            heads,
+            slots,
+            copies,
+            c,
+            s,
+            words(1, 0, key, no_value(), no_value()),
+        ),
+        Kind::Set => plan_call(
+            heads,
+            slots,
+            copies,
+            c,
+            s,
+            words(2, 0, key, no_value(), value),
+        ),
+        Kind::SetIf => plan_call(
+            heads,
+            slots,
+            copies,
+            c,
+            s,
+            words(3, 0, key, line.expected, value),
+        ),
+        Kind::Del => plan_call(
+            heads,
+            slots,
+            copies,
+            c,
+            s,
+            words(4, 0, key, no_value(), no_value()),
+        ),
+        Kind::Keys => plan_call(
+            heads,
+            slots,
+            copies,
+            c,
+            s,
+            words(5, line.second, no_key(), no_value(), no_value()),
+        ),
+        Kind::Deliver => plan_hand(heads, slots, copies, texts, queue, c, s, true),
+        Kind::Copy => plan_hand(heads, slots, copies, texts, queue, c, s, false),
+        Kind::Lose => plan_lose(c, s),
+        Kind::Timeout => plan_timeout(heads, slots, c, s, line.second),
+        Kind::Stop => plan_stop(heads, slots, c, s),
+    }
+}
+
+// 0 for a malformed line, 1 for a cluster line, 2 for the others.
+fn sort(kind: Kind) -> u32
+    ensures { λ r. ⌜ r ≡ sortOf kind ⌝ }
+{
+    match kind {
+        Kind::Malformed => 0,
+        Kind::Cluster => 1,
+        Kind::Elect => 2,
+        Kind::Get => 2,
+        Kind::Set => 2,
+        Kind::SetIf => 2,
+        Kind::Del => 2,
+        Kind::Keys => 2,
+        Kind::Deliver => 2,
+        Kind::Copy => 2,
+        Kind::Lose => 2,
+        Kind::Timeout => 2,
+        Kind::Stop => 2,
+    }
+}
+
+// The cluster line: 2 where its numbers are out of range or a cluster stands.
+fn cluster_line(
+    counts: &mut [u32; 8],
+    heads: &mut [u32; 112],
+    slots: &mut [u32; 1792],
+    copies: &mut [u8; 7168],
+    n: u32,
+    b: u32,
+) -> u32
+    ensures { λ r. ⌜ Clustered (now (counts .entry)) (now (heads .entry)) (now (slots .entry)) (now (copies .entry)) n b (now (counts .exit)) (now (heads .exit)) (now (slots .exit)) (now (copies .exit)) r ⌝ }
+{
+    if standing(load_counts(counts)) {
+        return 2;
+    }
+    if within(7, n) {
+        if within(8, b) {
+            create(counts, heads, slots, copies, n, b);
+            return 0;
+        }
+    }
+    2
+}
+
+// A line that needs a cluster.
+fn planned_line(
+    counts: &mut [u32; 8],
+    heads: &mut [u32; 112],
+    slots: &mut [u32; 1792],
+    copies: &mut [u8; 7168],
+    works: &mut [u8; 7168],
+    texts: &mut [u8; 3584],
+    queue: &mut [u32; 512],
+    loads: &mut [u8; 8192],
+    answers: &mut [u32; 32],
+    line: Line,
+) -> Report
+    ensures { λ r. ⌜ RanPlan (memory (now (counts .entry)) (now (heads .entry)) (now (slots .entry)) (now (copies .entry)) (now (works .entry)) (now (texts .entry)) (now (queue .entry)) (now (loads .entry))) (now (answers .entry)) line (memory (now (counts .exit)) (now (heads .exit)) (now (slots .exit)) (now (copies .exit)) (now (works .exit)) (now (texts .exit)) (now (queue .exit)) (now (loads .exit))) (now (answers .exit)) r ⌝ }
+{
+    let c = load_counts(counts);
+    if standing(c) {
+        let p = plan_line(heads, slots, copies, texts, queue, c, line);
+        return execute(
+            counts,
+            heads,
+            slots,
+            copies,
+            works,
+            texts,
+            queue,
+            loads,
+            answers,
+            c,
+            p,
+        );
+    }
+    refused(2, no_effect())
+}
+
+// One line of a script.
+pub fn run_line(
+    counts: &mut [u32; 8],
+    heads: &mut [u32; 112],
+    slots: &mut [u32; 1792],
+    copies: &mut [u8; 7168],
+    works: &mut [u8; 7168],
+    texts: &mut [u8; 3584],
+    queue: &mut [u32; 512],
+    loads: &mut [u8; 8192],
+    answers: &mut [u32; 32],
+    line: Line,
+) -> Report
+    ensures { λ r. ⌜ RanLine (memory (now (counts .entry)) (now (heads .entry)) (now (slots .entry)) (now (copies .entry)) (now (works .entry)) (now (texts .entry)) (now (queue .entry)) (now (loads .entry))) (now (answers .entry)) line (memory (now (counts .exit)) (now (heads .exit)) (now (slots .exit)) (now (copies .exit)) (now (works .exit)) (now (texts .exit)) (now (queue .exit)) (now (loads .exit))) (now (answers .exit)) r ⌝ }
+{
+    let kind = line.kind;
+    let k = sort(kind);
+    if k == 0 {
+        return refused(1, no_effect());
+    }
+    if k == 1 {
+        let r = cluster_line(counts, heads, slots, copies, line.first, line.second);
+        return refused(r, no_effect());
+    }
+    planned_line(
+        counts,
+        heads,
+        slots,
+        copies,
+        works,
+        texts,
+        queue,
+        loads,
+        answers,
+        line,
+    )
+}

@@ -1,0 +1,8 @@
+-- Laws that belong to no one function: what each move stands for in the definitions of document 01.
+pub mod Ceasing
+pub mod Opening
+pub mod CallMoves
+pub mod ReplyMoves
+pub mod VoterMoves
+pub mod LineMoves
+pub mod Handled

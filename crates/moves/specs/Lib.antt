@@ -1,0 +1,3 @@
+-- What the contracts of `moves` cite.
+pub mod Moves
+pub mod Reactions

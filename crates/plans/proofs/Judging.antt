@@ -1,0 +1,245 @@
+-- Plans keep the effect that they are given, and what refusals tell of a line.
+use mathlib.Core.Path.{_≡_, refl, sym, ap, _∙_}
+use mathlib.Core.Bool.{Bool, true, false, true≢false}
+use mathlib.Core.List.{List}
+use native.Mathlib.Omega.{arith}
+use native.Mathlib.Nat.{min-le-left}
+use Prim.Native.Nat.{ℕ, _+_, _*_, _≤_, _<_}
+use borrow.Author.Tests.{leb-false, eq-eqb, ne-eqb}
+use lib.Dec.{eqb, leb}
+use Rattle.model.specs.Measures.{maxAccepted, maxElection}
+use Rattle.model.specs.Calls as calls
+use Rattle.server.specs.declared.Message.{Message}
+use Rattle.server.specs.declared.Words.{Words}
+use Rattle.server.specs.declared.Effect.{Effect}
+use Rattle.server.specs.Views.{among, effectIn, wordsIn}
+use Rattle.memory.specs.declared.Counts.{Counts}
+use Rattle.memory.specs.Layout.{messageAt, wordsAt}
+use Rattle.moves.specs.declared.Local.{Local}
+use Rattle.moves.specs.Moves.{readsTable}
+use Rattle.views.specs.Memory.{Memory, slotOf, localAt, tableAt}
+use Rattle.plans.specs.declared.Step.{Step}
+use Rattle.plans.specs.declared.Plan.{Plan}
+use Rattle.plans.specs.Plans.{refusedPlan, placesLeft, roomy, unless, electPlan, timeoutPlan, stopPlan, inside, electAt, timeoutAt, stopAt, badLengths, callBucket, callPlan, callAt, messageRefusal, messageStep, gone, handPlan, receiverAt, handAt, loseAt}
+use Rattle.plans.specs.Arrays.{Measured, servers, Called, CallPlanned, receivers, Handed, HandPlanned}
+
+-- ---- the effect of a plan
+
+-- a plan that keeps its effect f is the same with its own
+pub told : (P : Effect → Plan) (f : Effect) (p : Plan) → ((g : Effect) → P g .effect ≡ g) → p ≡ P f → p ≡ P (p .effect)
+told P f p keeps q = q ∙ ap P (sym (ap (λ x. x .effect) q ∙ keeps f))
+
+abbrev either : Bool → Plan → Plan → Plan
+either b p q = elim b [ true ↦ p | false ↦ q ]
+
+either-keeps : (b : Bool) (p q : Plan) (f : Effect) → p .effect ≡ f → q .effect ≡ f → either b p q .effect ≡ f
+either-keeps true p q f hp hq = hp
+either-keeps false p q f hp hq = hq
+
+roomy-keeps : (c : Counts) (p : Plan) → roomy c p .effect ≡ p .effect
+unfolding roomy
+roomy-keeps c p = either-keeps (placesLeft c (p .step .removes) (p .next .sends)) p (refusedPlan 12 (p .effect)) (p .effect) refl refl
+
+unless-keeps : (r : ℕ) (f : Effect) (p : Plan) → p .effect ≡ f → unless r f p .effect ≡ f
+unfolding unless
+unless-keeps r f p h = either-keeps (eqb r 0) p (refusedPlan r f) f h refl
+
+elect-keeps : (c : Counts) (s : ℕ) (l : Local) (f : Effect) → electPlan c s l f .effect ≡ f
+unfolding electPlan
+elect-keeps c s l f = unless-keeps _ f _ (either-keeps (leb maxElection (l .head .number)) _ _ f refl (roomy-keeps c _))
+
+timeout-keeps : (c : Counts) (s b : ℕ) (l : Local) (f : Effect) → timeoutPlan c s b l f .effect ≡ f
+unfolding timeoutPlan
+timeout-keeps c s b l f = unless-keeps _ f _ (either-keeps (among 4 (l .round .purpose)) _ _ f (roomy-keeps c _) refl)
+
+stop-keeps : (c : Counts) (s : ℕ) (l : Local) (f : Effect) → stopPlan c s l f .effect ≡ f
+unfolding stopPlan
+stop-keeps c s l f = unless-keeps _ f _ (roomy-keeps c _)
+
+pub elect-at-keeps : (m : Memory) (c : Counts) (s : ℕ) (f : Effect) → electAt m c s f .effect ≡ f
+unfolding electAt
+elect-at-keeps m c s f = either-keeps (inside c s 0) _ _ f (elect-keeps c s _ f) refl
+
+pub timeout-at-keeps : (m : Memory) (c : Counts) (s b : ℕ) (f : Effect) → timeoutAt m c s b f .effect ≡ f
+unfolding timeoutAt
+timeout-at-keeps m c s b f = either-keeps (inside c s b) _ _ f (timeout-keeps c s b _ f) refl
+
+pub stop-at-keeps : (m : Memory) (c : Counts) (s : ℕ) (f : Effect) → stopAt m c s f .effect ≡ f
+unfolding stopAt
+stop-at-keeps m c s f = either-keeps (inside c s 0) _ _ f (stop-keeps c s _ f) refl
+
+call-keeps : (c : Counts) (s b : ℕ) (w : Words) (l : Local) (f : Effect) → callPlan c s b w l f .effect ≡ f
+unfolding callPlan
+call-keeps c s b w l f = unless-keeps _ f _ (roomy-keeps c _)
+
+call-at-keeps : (m : Memory) (c : Counts) (s : ℕ) (w : Words) (f : Effect) → callAt m c s w f .effect ≡ f
+unfolding callAt
+call-at-keeps m c s w f =
+    either-keeps (inside c s (callBucket c w)) _ _ f (either-keeps (badLengths w) _ _ f refl (call-keeps c s _ w _ f)) refl
+
+hand-keeps : (c : Counts) (x : Step) (m : Message) (l : Local) (f : Effect) → handPlan c x m l f .effect ≡ f
+unfolding handPlan
+hand-keeps c x m l f = either-keeps (gone c x l) _ _ f refl (roomy-keeps c _)
+
+hand-at-keeps : (m : Memory) (c : Counts) (i : ℕ) (removes : Bool) (f : Effect) → handAt m c i removes f .effect ≡ f
+unfolding handAt
+hand-at-keeps m c i removes f = unless-keeps _ f _ (hand-keeps c _ _ _ f)
+
+pub lose-at-keeps : (c : Counts) (i : ℕ) (f : Effect) → loseAt c i f .effect ≡ f
+unfolding loseAt
+lose-at-keeps c i f = unless-keeps _ f _ refl
+
+-- ---- refusals
+
+pub unless-none : (r : ℕ) (f : Effect) (p : Plan) → r ≡ 0 → unless r f p ≡ p
+unfolding unless
+unless-none r f p h = rw (unless, eq-eqb r 0 h)
+
+pub unless-some : (r : ℕ) (f : Effect) (p : Plan) → (r ≡ 0 → ⊥) → unless r f p ≡ refusedPlan r f
+unfolding unless
+unless-some r f p h = rw (unless, ne-eqb r 0 h)
+
+neither : (t u : Bool) → elim t [ true ↦ false | false ↦ elim u [ true ↦ false | false ↦ true ] ] ≡ true → (t ≡ false) × (u ≡ false)
+neither true u h = absurd (true≢false (sym h))
+neither false true h = absurd (true≢false (sym h))
+neither false false h = (refl, refl)
+
+pub inside-there : (c : Counts) (s b : ℕ) → inside c s b ≡ true → (s < c .servers) × (b < c .buckets)
+unfolding inside
+inside-there c s b h = let n = neither (leb (c .servers) s) (leb (c .buckets) b) h in (leb-false _ _ (n .0), leb-false _ _ (n .1))
+
+-- a server and a bucket that are there have a place in the arrays
+pub inside-room : (c : Counts) (s b : ℕ) → Measured c → inside c s b ≡ true → (s < 7) × (b < 8)
+inside-room c s b m h =
+    let n = inside-there c s b h in
+    (omega (arith, n .0, m .servers), omega (arith, n .1, m .buckets))
+
+pub inside-slot : (c : Counts) (s b : ℕ) → Measured c → inside c s b ≡ true → (s < 7) × (s * 8 + b < 56)
+inside-slot c s b m h =
+    let n = inside-room c s b m h in
+    (n .0, omega (arith, n .0, n .1))
+
+pub inside-first : (c : Counts) (s : ℕ) → Measured c → inside c s 0 ≡ true → (s < 7) × (s * 8 < 56)
+inside-first c s m h = let n = inside-room c s 0 m h in (n .0, omega (arith, n .0))
+
+refused-or : (t u : Bool) → _≡_ {A = ℕ} (elim t [ true ↦ 5 | false ↦ elim u [ true ↦ 7 | false ↦ 0 ] ]) 0 → u ≡ false
+refused-or true u h = absurd (omega (arith, h))
+refused-or false true h = absurd (omega (arith, h))
+refused-or false false h = refl
+
+-- a message that is not refused is in the list
+pub in-list : (c : Counts) (i : ℕ) → messageRefusal c i ≡ 0 → i < c .messages
+unfolding messageRefusal
+in-list c i h = leb-false _ _ (refused-or (leb maxAccepted (c .lines)) (leb (c .messages) i) h)
+
+pub listed : (c : Counts) (i : ℕ) → Measured c → messageRefusal c i ≡ 0 → i < 64
+listed c i m h = omega (arith, in-list c i h, m .messages)
+
+-- the server and the bucket that a message names have a place in the arrays
+pub step-slot : (c : Counts) (i : ℕ) (removes : Bool) (m : Message) (x : Step) → x ≡ messageStep c i removes m → (x .server < 7) × (x .server * 8 + x .bucket < 56)
+step-slot c i removes m x e =
+    let s : x .server ≤ 6 = rw (ap (λ y. y .server) e) (min-le-left 6 (m .receiver)) in
+    let b : x .bucket ≤ 7 = rw (ap (λ y. y .bucket) e) (min-le-left 7 (m .bucket)) in
+    (omega arith, omega arith)
+
+-- ---- calls
+
+module _ (heads slots copies : List ℕ) (c : Counts) (s : ℕ) (w : Words) (p : Plan) where
+  call-at-inside : inside c s (callBucket c w) ≡ true → badLengths w ≡ false → (f : Effect)
+      → callAt (servers heads slots) c s w f ≡ callPlan c s (callBucket c w) w (localAt (servers heads slots) s (slotOf s (callBucket c w))) f
+  unfolding callAt
+  call-at-inside h k f = rw (callAt, h, k)
+
+  pub call-nowhere : (b : ℕ) (f : Effect) → b ≡ callBucket c w → inside c s b ≡ false → p ≡ refusedPlan 3 f → CallPlanned heads slots copies c s w p
+  unfolding callAt
+  call-nowhere b f e h q =
+      let h′ : inside c s (callBucket c w) ≡ false = ap (inside c s) (sym e) ∙ h in
+      record {
+        is = told (callAt (servers heads slots) c s w) f p (call-at-keeps (servers heads slots) c s w) (rw (callAt, h′) q);
+        effect = λ one r. let z : _≡_ {A = ℕ} 3 0 = sym (ap (λ x. x .refusal) q) ∙ r in absurd (omega arith);
+      }
+
+  pub call-unfit : (b : ℕ) (f : Effect) → b ≡ callBucket c w → inside c s b ≡ true → badLengths w ≡ true → p ≡ refusedPlan 4 f → CallPlanned heads slots copies c s w p
+  unfolding callAt
+  call-unfit b f e h k q =
+      let h′ : inside c s (callBucket c w) ≡ true = ap (inside c s) (sym e) ∙ h in
+      record {
+        is = told (callAt (servers heads slots) c s w) f p (call-at-keeps (servers heads slots) c s w) (rw (callAt, h′, k) q);
+        effect = λ one r. let z : _≡_ {A = ℕ} 4 0 = sym (ap (λ x. x .refusal) q) ∙ r in absurd (omega arith);
+      }
+
+  pub called : (b : ℕ) (l : Local) (f : Effect)
+      → l ≡ localAt (servers heads slots) s (slotOf s b)
+      → (c .servers ≤ 1 → effectIn f ≡ calls.effect (wordsIn w) (tableAt copies (slotOf s b)))
+      → p ≡ callPlan c s b w l f
+      → Called heads slots copies c s b w p
+  called b l f e g q = record {
+    is =
+        told (callPlan c s b w (localAt (servers heads slots) s (slotOf s b))) f p (call-keeps c s b w (localAt (servers heads slots) s (slotOf s b)))
+        (q ∙ ap (λ x. callPlan c s b w x f) e);
+    effect = λ one. ap effectIn (ap (λ x. x .effect) q ∙ call-keeps c s b w l f) ∙ g one;
+  }
+
+  pub call-fit : (b : ℕ) → b ≡ callBucket c w → inside c s b ≡ true → badLengths w ≡ false → Called heads slots copies c s b w p → CallPlanned heads slots copies c s w p
+  call-fit b e h k x =
+      let h′ : inside c s (callBucket c w) ≡ true = ap (inside c s) (sym e) ∙ h in
+      record {
+        is = x .is ∙ ap (λ y. callPlan c s y w (localAt (servers heads slots) s (slotOf s y)) (p .effect)) e ∙ sym (call-at-inside h′ k (p .effect));
+        effect = λ one r. x .effect one ∙ ap (λ y. calls.effect (wordsIn w) (tableAt copies (slotOf s y))) e;
+      }
+
+-- ---- messages
+
+module _ (heads slots copies texts queue : List ℕ) (c : Counts) (i : ℕ) (removes : Bool) (p : Plan) where
+  -- what is handed over, and to whom
+  abbrev step : Step
+  step = messageStep c i removes (messageAt queue i)
+
+  abbrev to : Local
+  to = receiverAt (receivers heads slots queue) i
+
+  abbrev localOf : Step → Local
+  localOf x = localAt (receivers heads slots queue) (x .server) (slotOf (x .server) (x .bucket))
+
+  abbrev effectOf : Step → calls.Effect
+  effectOf x = calls.effect (wordsIn (wordsAt slots texts (slotOf (x .server) (x .bucket)))) (tableAt copies (slotOf (x .server) (x .bucket)))
+
+  handed-to : (x : Step) (l : Local) (f : Effect)
+      → x ≡ step → l ≡ to → (readsTable (c .servers) (messageAt queue i) l ≡ true → effectIn f ≡ effectOf x)
+      → p ≡ handPlan c x (messageAt queue i) l f → Handed heads slots copies texts queue c i removes p
+  handed-to x l f e at g q = record {
+    is =
+        told (handPlan c step (messageAt queue i) to) f p (hand-keeps c step (messageAt queue i) to)
+        (q ∙ ap (λ y. handPlan c y (messageAt queue i) l f) e ∙ ap (λ y. handPlan c step (messageAt queue i) y f) at);
+    effect = λ h.
+        ap effectIn (ap (λ y. y .effect) q ∙ hand-keeps c x (messageAt queue i) l f)
+        ∙ g (ap (readsTable (c .servers) (messageAt queue i)) at ∙ h)
+        ∙ ap effectOf e;
+  }
+
+  pub handed : (m : Message) (x : Step) (l : Local) (f : Effect)
+      → m ≡ messageAt queue i
+      → x ≡ messageStep c i removes m
+      → l ≡ localOf x
+      → (readsTable (c .servers) m l ≡ true → effectIn f ≡ effectOf x)
+      → p ≡ handPlan c x m l f
+      → Handed heads slots copies texts queue c i removes p
+  handed m x l f em ex el g q =
+      let e : x ≡ step = ex ∙ ap (messageStep c i removes) em in
+      handed-to x l f e (el ∙ ap localOf e) (λ h. g (ap (λ y. readsTable (c .servers) y l) em ∙ h)) (q ∙ ap (λ y. handPlan c x y l f) em)
+
+  pub hand-listed : messageRefusal c i ≡ 0 → Handed heads slots copies texts queue c i removes p → HandPlanned heads slots copies texts queue c i removes p
+  unfolding handAt
+  hand-listed h x = record {
+    is = x .is ∙ sym (unless-none (messageRefusal c i) (p .effect) _ h);
+    effect = λ z reads. x .effect reads;
+  }
+
+  pub hand-refused : (r : ℕ) (f : Effect) → r ≡ messageRefusal c i → (r ≡ 0 → ⊥) → p ≡ refusedPlan r f → HandPlanned heads slots copies texts queue c i removes p
+  unfolding handAt
+  hand-refused r f e h q = record {
+    is =
+        told (handAt (receivers heads slots queue) c i removes) f p (hand-at-keeps (receivers heads slots queue) c i removes)
+        (q ∙ sym (unless-some r f _ h) ∙ ap (λ y. unless y f (handPlan c step (messageAt queue i) to f)) e);
+    effect = λ z reads. absurd (h (e ∙ z));
+  }

@@ -1,0 +1,3 @@
+-- What the proofs of `plans` share.
+pub mod Lent
+pub mod Judging

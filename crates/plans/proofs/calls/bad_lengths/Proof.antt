@@ -1,0 +1,29 @@
+-- `calls::bad_lengths` meets its contract: both make the same tests.
+use mathlib.Core.Path.{sym, _∙_}
+use borrow.Author.Tests.{eq-eqb, ne-eqb, lt-ltb, le-ltb}
+use Rattle.plans.specs.Plans.{badLengths}
+use borrow.Author.Needs.{needs}
+use Rattle.plans.proofs.calls.bad_lengths.Statement.{statement}
+use Rattle.plans.proofs.calls.bad_lengths.Tie as tie
+
+returns : tie.Need-returns
+unfolding badLengths
+returns c = rw (badLengths, eq-eqb _ _ (c .if1 .taken))
+
+bad-key-requires : tie.Need-bad-key-requires
+bad-key-requires c κs = search needs
+
+returns-2 : tie.Need-returns-2
+unfolding badLengths
+returns-2 c = rw (badLengths, ne-eqb _ _ (c .before .before .if1 .left), sym (c .before .bad-key .ensures) ∙ c .if2 .taken)
+
+returns-3 : tie.Need-returns-3
+unfolding badLengths
+returns-3 c = rw (badLengths, ne-eqb _ _ (c .before .before .before .before .if1 .left), sym (c .before .before .before .bad-key .ensures) ∙ c .before .before .if2 .left, lt-ltb _ _ (c .if3 .taken))
+
+returns-4 : tie.Need-returns-4
+unfolding badLengths
+returns-4 c = rw (badLengths, ne-eqb _ _ (c .before .before .before .before .before .if1 .left), sym (c .before .before .before .before .bad-key .ensures) ∙ c .before .before .before .if2 .left, le-ltb _ _ (c .before .if3 .left))
+
+pub bad-lengths-spec : {M : Type 1} → statement M
+bad-lengths-spec = tie.close (tie.spec returns bad-key-requires returns-2 returns-3 returns-4)

@@ -1,0 +1,3 @@
+-- What the contracts of `plans` cite.
+pub mod Plans
+pub mod Arrays

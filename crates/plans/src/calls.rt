@@ -1,0 +1,205 @@
+// The five calls: `get`, `set`, `setif`, `del` and `keys`.
+use crate::Plan;
+use crate::Step;
+use crate::limits::inside;
+use crate::limits::roomy;
+use crate::limits::server_refusal;
+use crate::parts::no_effect;
+use crate::parts::no_message;
+use crate::parts::refused_plan;
+use crate::parts::take_plan;
+use crate::servers::load_local;
+use effects::effect;
+use entries::Key;
+use entries::keys::key_length;
+use hash::bucket_of;
+use memory::CONTENT;
+use memory::Counts;
+use moves::Local;
+use moves::leading::begun_move;
+use server::Effect;
+use server::Words;
+use std::num::wrapping_add_u32;
+use table::decoding::decode;
+ghost use mathlib.Core.Path.{_≡_};
+ghost use Prim.Native.Nat.{_<_, _≤_, _*_};
+ghost use lib.ListN.{length};
+ghost use Rattle.hash.specs.Fnv.{bucketOf};
+ghost use Rattle.entries.specs.Decoded.{keyBytes};
+ghost use Rattle.model.specs.Calls as calls;
+ghost use Rattle.server.specs.Views.{among, effectIn, wordsIn};
+ghost use Rattle.memory.specs.Layout.{serverRoom, slotRoom, contentSize};
+ghost use Rattle.views.specs.Memory.{tableAt};
+ghost use Rattle.plans.specs.Plans.{badKey, badLengths, callBucket, callStep, callRefusal, callPlan};
+ghost use Rattle.plans.specs.Arrays.{Measured, Called, CallPlanned};
+
+fn bad_key(len: usize) -> bool
+    ensures { λ r. ⌜ r ≡ badKey len ⌝ }
+{
+    if len == 0 {
+        return true;
+    }
+    8 < len
+}
+
+// 4: a key or value of wrong length.
+fn bad_lengths(w: Words) -> bool
+    ensures { λ r. ⌜ r ≡ badLengths w ⌝ }
+{
+    let key = w.key;
+    let expected = w.expected;
+    let value = w.value;
+    if w.kind == 5 {
+        return false;
+    }
+    if bad_key(key.len) {
+        return true;
+    }
+    if 16 < expected.len {
+        return true;
+    }
+    16 < value.len
+}
+
+fn key_bucket(k: Key, buckets: u32) -> u32
+    ensures { λ r. ⌜ r ≡ bucketOf buckets (keyBytes k) ⌝ }
+{
+    let n = key_length(k);
+    let bytes = k.bytes;
+    bucket_of(&bytes[..n], buckets)
+}
+
+// A key's bucket, or the one named.
+fn call_bucket(c: Counts, w: Words) -> u32
+    ensures { λ r. ⌜ r ≡ callBucket c w ⌝ }
+{
+    if w.kind == 5 {
+        return w.bucket;
+    }
+    key_bucket(w.key, c.buckets)
+}
+
+fn is_taken(kind: u32) -> bool
+    ensures { λ r. ⌜ r ≡ among 5 kind ⌝ }
+{
+    if kind < 1 {
+        return false;
+    }
+    kind <= 5
+}
+
+// 5, 6, 8 and 9, or 0.
+fn call_refusal(c: Counts, l: Local) -> u32
+    ensures { λ r. ⌜ r ≡ callRefusal c l ⌝ }
+{
+    let h = l.head;
+    let k = l.call;
+    let r = server_refusal(c, h);
+    if r == 0 {
+        if h.role == 2 {
+            return if is_taken(k.kind) { 9 } else { 0 };
+        }
+        return 8;
+    }
+    r
+}
+
+fn call_step(c: Counts, s: u32, b: u32) -> Step
+    ensures { λ r. ⌜ r ≡ callStep c s b ⌝ }
+{
+    Step {
+        server: s,
+        bucket: b,
+        message: 0,
+        removes: false,
+        asked: no_message(),
+        copied: 0,
+        delivered: 0,
+        calls: wrapping_add_u32(c.calls, 1),
+    }
+}
+
+// 5 to 12, or the call.
+fn call_plan(c: Counts, s: u32, b: u32, w: Words, l: Local, f: Effect) -> Plan
+    requires { ⌜ Measured c ⌝ }
+    ensures { λ r. ⌜ r ≡ callPlan c s b w l f ⌝ }
+{
+    let r = call_refusal(c, l);
+    if r == 0 {
+        let x = call_step(c, s, b);
+        let v = begun_move(c.servers, s, x.calls, w.kind, f.result, l);
+        return roomy(c, take_plan(x, w, v, f));
+    }
+    refused_plan(r, f)
+}
+
+// What a call does to the table of content k.
+fn effect_on(copies: &[u8], k: usize, w: Words) -> Effect
+    requires { ⌜ (k < slotRoom) × (length (now copies) ≡ slotRoom * contentSize) ⌝ }
+    ensures { λ r. ⌜ effectIn r ≡ calls.effect (wordsIn w) (tableAt (now (copies .entry)) k) ⌝ }
+{
+    let from = k * CONTENT;
+    let end = from + 113;
+    let t = decode(&copies[from..end]);
+    effect(w, t)
+}
+
+// The same in the array of the copies.
+pub fn effect_of(copies: &[u8; 7168], k: usize, w: Words) -> Effect
+    requires { ⌜ k < slotRoom ⌝ }
+    ensures { λ r. ⌜ effectIn r ≡ calls.effect (wordsIn w) (tableAt (now (copies .entry)) k) ⌝ }
+{
+    effect_on(copies, k, w)
+}
+
+// The same where one server is alone, whose calls end at once; with more nothing is asked for.
+fn call_effect(copies: &[u8; 7168], c: Counts, k: usize, w: Words) -> Effect
+    requires { ⌜ k < slotRoom ⌝ }
+    ensures { λ r. ⌜ (c .servers ≤ 1 → effectIn r ≡ calls.effect (wordsIn w) (tableAt (now (copies .entry)) k)) ⌝ }
+{
+    if c.servers <= 1 {
+        return effect_of(copies, k, w);
+    }
+    no_effect()
+}
+
+// 5 to 12, or the call, at a server and a bucket that are there.
+fn plan_at(
+    heads: &[u32; 112],
+    slots: &[u32; 1792],
+    copies: &[u8; 7168],
+    c: Counts,
+    s: u32,
+    b: u32,
+    w: Words,
+) -> Plan
+    requires { ⌜ Measured c × ((s < serverRoom) × (b < 8)) ⌝ }
+    ensures { λ p. ⌜ Called (now (heads .entry)) (now (slots .entry)) (now (copies .entry)) c s b w p ⌝ }
+{
+    let at = s as usize;
+    let k = at * 8 + b as usize;
+    let l = load_local(heads, slots, at, k);
+    let f = call_effect(copies, c, k, w);
+    call_plan(c, s, b, w, l, f)
+}
+
+pub fn plan_call(
+    heads: &[u32; 112],
+    slots: &[u32; 1792],
+    copies: &[u8; 7168],
+    c: Counts,
+    s: u32,
+    w: Words,
+) -> Plan
+    requires { ⌜ Measured c ⌝ }
+    ensures { λ p. ⌜ CallPlanned (now (heads .entry)) (now (slots .entry)) (now (copies .entry)) c s w p ⌝ }
+{
+    let b = call_bucket(c, w);
+    if inside(c, s, b) {
+        if bad_lengths(w) {
+            return refused_plan(4, no_effect());
+        }
+        return plan_at(heads, slots, copies, c, s, b, w);
+    }
+    refused_plan(3, no_effect())
+}

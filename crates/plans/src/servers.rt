@@ -1,0 +1,126 @@
+// Lines that name a server: `elect`, `timeout` and `stop`.
+use crate::Plan;
+use crate::limits::inside;
+use crate::limits::roomy;
+use crate::limits::server_refusal;
+use crate::limits::unless;
+use crate::parts::line_step;
+use crate::parts::move_plan;
+use crate::parts::no_effect;
+use crate::parts::refused_plan;
+use memory::Counts;
+use memory::heads::load_head;
+use memory::slots::load_call;
+use memory::slots::load_round;
+use memory::slots::load_version;
+use moves::Local;
+use moves::lines::elected_move;
+use moves::lines::stopped_move;
+use moves::lines::timed_out_move;
+use rounds::replies::is_open;
+use server::Effect;
+ghost use mathlib.Core.Path.{_≡_};
+ghost use Prim.Native.Nat.{_<_};
+ghost use Rattle.memory.specs.Layout.{serverRoom, slotRoom, headAt, versionAt, roundAt, callAt};
+ghost use Rattle.moves.specs.Moves.{local};
+ghost use Rattle.plans.specs.Plans.{electPlan, timeoutPlan, stopPlan};
+ghost use Rattle.plans.specs.Arrays.{Measured, electIn, timeoutIn, stopIn};
+
+// The head of server s with slot k.
+pub fn load_local(heads: &[u32; 112], slots: &[u32; 1792], s: usize, k: usize) -> Local
+    requires { ⌜ (s < serverRoom) × (k < slotRoom) ⌝ }
+    ensures { λ r. ⌜ r ≡ local (headAt (now (heads .entry)) s) (versionAt (now (slots .entry)) k) (roundAt (now (slots .entry)) k) (callAt (now (slots .entry)) k) ⌝ }
+{
+    Local {
+        head: load_head(heads, s),
+        version: load_version(slots, k),
+        round: load_round(slots, k),
+        call: load_call(slots, k),
+    }
+}
+
+// 5, 6, 11 and 12, or the election.
+fn elect_plan(c: Counts, s: u32, l: Local, f: Effect) -> Plan
+    requires { ⌜ Measured c ⌝ }
+    ensures { λ r. ⌜ r ≡ electPlan c s l f ⌝ }
+{
+    let h = l.head;
+    let r = server_refusal(c, h);
+    if r == 0 {
+        if 65535 <= h.number {
+            return refused_plan(11, f);
+        }
+        return roomy(
+            c,
+            move_plan(line_step(c, s, 0), elected_move(c.servers, s, l), f),
+        );
+    }
+    refused_plan(r, f)
+}
+
+pub fn plan_elect(heads: &[u32; 112], slots: &[u32; 1792], c: Counts, s: u32) -> Plan
+    requires { ⌜ Measured c ⌝ }
+    ensures { λ r. ⌜ r ≡ electIn (now (heads .entry)) (now (slots .entry)) c s (r .effect) ⌝ }
+{
+    let f = no_effect();
+    if inside(c, s, 0) {
+        let at = s as usize;
+        let l = load_local(heads, slots, at, at * 8);
+        return elect_plan(c, s, l, f);
+    }
+    refused_plan(3, f)
+}
+
+// 5, 6, 10 and 12, or the end of leading.
+fn timeout_plan(c: Counts, s: u32, b: u32, l: Local, f: Effect) -> Plan
+    requires { ⌜ Measured c ⌝ }
+    ensures { λ r. ⌜ r ≡ timeoutPlan c s b l f ⌝ }
+{
+    let r = server_refusal(c, l.head);
+    if r == 0 {
+        if is_open(l.round) {
+            return roomy(c, move_plan(line_step(c, s, b), timed_out_move(l), f));
+        }
+        return refused_plan(10, f);
+    }
+    refused_plan(r, f)
+}
+
+pub fn plan_timeout(heads: &[u32; 112], slots: &[u32; 1792], c: Counts, s: u32, b: u32) -> Plan
+    requires { ⌜ Measured c ⌝ }
+    ensures { λ r. ⌜ r ≡ timeoutIn (now (heads .entry)) (now (slots .entry)) c s b (r .effect) ⌝ }
+{
+    let f = no_effect();
+    if inside(c, s, b) {
+        let at = s as usize;
+        let l = load_local(heads, slots, at, at * 8 + b as usize);
+        return timeout_plan(c, s, b, l, f);
+    }
+    refused_plan(3, f)
+}
+
+// 5, 6 and 12, or the stop.
+fn stop_plan(c: Counts, s: u32, l: Local, f: Effect) -> Plan
+    requires { ⌜ Measured c ⌝ }
+    ensures { λ r. ⌜ r ≡ stopPlan c s l f ⌝ }
+{
+    let r = server_refusal(c, l.head);
+    unless(
+        r,
+        f,
+        roomy(c, move_plan(line_step(c, s, 0), stopped_move(l), f)),
+    )
+}
+
+pub fn plan_stop(heads: &[u32; 112], slots: &[u32; 1792], c: Counts, s: u32) -> Plan
+    requires { ⌜ Measured c ⌝ }
+    ensures { λ r. ⌜ r ≡ stopIn (now (heads .entry)) (now (slots .entry)) c s (r .effect) ⌝ }
+{
+    let f = no_effect();
+    if inside(c, s, 0) {
+        let at = s as usize;
+        let l = load_local(heads, slots, at, at * 8);
+        return stop_plan(c, s, l, f);
+    }
+    refused_plan(3, f)
+}

@@ -1,0 +1,51 @@
+-- What the memory and a line's run stand for in the definitions of document 01.
+use mathlib.Core.Path.{_≡_}
+use mathlib.Core.Bool.{true, false}
+use mathlib.Core.Option.{Option, none, some}
+use Prim.Native.Nat.{_+_}
+use lib.Dec.{eqb}
+use lib.ListN.{length}
+use Rattle.entries.specs.Decoded.{tableIn, valueBytes}
+use Rattle.model.specs.Lines as lines
+use Rattle.server.specs.declared.Effect.{Effect}
+use Rattle.views.specs.Memory.{Memory, clusterIn}
+use Rattle.views.specs.Changes.{answersAt}
+use Rattle.parse.specs.declared.Line.{Line}
+use Rattle.runs.specs.Runs.{Ran}
+
+abbrev pub stateIn : Memory → lines.Tally → lines.State
+stateIn m t = record { cluster = clusterIn m; tally = t }
+
+-- a line that was read, or one that is not of the forms of document 01
+unfoldable pub performed : lines.State → Option lines.Line → lines.LineResult
+performed s none = lines.refuse s 1
+performed s (some x) = lines.perform s x
+
+-- the tally after a line that was accepted
+abbrev pub talliedBy : lines.Tally → Ran → lines.Tally
+talliedBy t x =
+    record {
+      sent = t .sent + x .sent;
+      copied = t .copied + x .copied;
+      delivered = t .delivered + x .delivered;
+      lost = t .lost + x .lost;
+      inFlight = x .messages;
+    }
+
+-- the result of a line, with the data of the effect that it asked for
+unfoldable pub resultOf : lines.Tally → Ran → Effect → lines.LineResult
+resultOf t x f =
+    elim (eqb (x .refusal) 0) [
+      | true ↦
+          record {
+            state = stateIn (x .memory) (talliedBy t x);
+            outcome = lines.printed (answersAt (x .count) (x .answers) (valueBytes (f .value)) (tableIn (f .table)));
+          }
+      | false ↦ lines.refuse (stateIn (x .memory) t) (x .refusal)
+    ]
+
+-- a line whose key and values are arrays of eight, sixteen and sixteen bytes
+pub record WholeLine (x : Line) : Type 0 where
+  pub key : length (x .key .bytes) ≡ 8
+  pub expected : length (x .expected .bytes) ≡ 16
+  pub value : length (x .value .bytes) ≡ 16

@@ -1,0 +1,4 @@
+-- What the proofs of `steps` share.
+pub mod Loops
+pub mod Sends
+pub mod Tables

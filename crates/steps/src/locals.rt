@@ -1,0 +1,153 @@
+// A server's head and one of its slots: loaded together, stored together, and cleared when leading ends.
+use crate::contents::fill_work;
+use crate::contents::keep_copy;
+use entries::Decoded;
+use memory::heads::load_head;
+use memory::heads::store_head;
+use memory::slots::load_call;
+use memory::slots::load_round;
+use memory::slots::load_version;
+use memory::slots::store_call;
+use memory::slots::store_round;
+use memory::slots::store_version;
+use moves::Local;
+use moves::Move;
+use server::Call;
+use server::Round;
+use server::Version;
+ghost use mathlib.Core.Path.{_≡_};
+ghost use Prim.Native.Nat.{_<_, _≤_};
+ghost use Rattle.memory.specs.Layout.{serverRoom, slotRoom, messageRoom, headAt, versionAt, roundAt, callAt};
+ghost use Rattle.entries.specs.Decoded.{tableIn};
+ghost use Rattle.moves.specs.Moves.{local, noRound, noCall};
+ghost use Rattle.views.specs.Changes.{isIdle, clearedSlot, clearedSlots};
+ghost use Rattle.steps.specs.Stored.{Stored, putSlot, Settled, MovedServer};
+
+// The head of server s with slot k.
+pub fn load_local(heads: &[u32; 112], slots: &[u32; 1792], s: usize, k: usize) -> Local
+    requires { ⌜ (s < serverRoom) × (k < slotRoom) ⌝ }
+    ensures { λ r. ⌜ r ≡ local (headAt (now (heads .entry)) s) (versionAt (now (slots .entry)) k) (roundAt (now (slots .entry)) k) (callAt (now (slots .entry)) k) ⌝ }
+{
+    Local {
+        head: load_head(heads, s),
+        version: load_version(slots, k),
+        round: load_round(slots, k),
+        call: load_call(slots, k),
+    }
+}
+
+// Server s gets this head, slot k the rest.
+pub fn store_local(heads: &mut [u32; 112], slots: &mut [u32; 1792], s: usize, k: usize, l: Local)
+    requires { ⌜ (s < serverRoom) × (k < slotRoom) ⌝ }
+    ensures { λ _. ⌜ Stored (now (heads .entry)) (now (slots .entry)) s k l (now (heads .exit)) (now (slots .exit)) ⌝ }
+{
+    store_head(heads, s, l.head);
+    store_slot(slots, k, l.version, l.round, l.call);
+}
+
+fn store_slot(slots: &mut [u32; 1792], k: usize, v: Version, r: Round, c: Call)
+    requires { ⌜ k < slotRoom ⌝ }
+    ensures { λ _. ⌜ now (slots .exit) ≡ putSlot (now (slots .entry)) k v r c ⌝ }
+{
+    store_version(slots, k, v);
+    store_round(slots, k, r);
+    store_call(slots, k, c);
+}
+
+// Whether there is neither a round nor a call.
+fn is_idle(r: Round, c: Call) -> bool
+    ensures { λ x. ⌜ x ≡ isIdle r c ⌝ }
+{
+    if r.purpose == 0 {
+        return c.kind == 0;
+    }
+    false
+}
+
+// Slot k has no round and no call any more.
+fn clear_slot(slots: &mut [u32; 1792], k: usize)
+    requires { ⌜ k < slotRoom ⌝ }
+    ensures { λ _. ⌜ now (slots .exit) ≡ clearedSlot (now (slots .entry)) k ⌝ }
+{
+    let r = load_round(slots, k);
+    let c = load_call(slots, k);
+    if is_idle(r, c) {
+        return;
+    }
+    store_round(slots, k, no_round());
+    store_call(slots, k, no_call());
+}
+
+fn no_round() -> Round
+    ensures { λ r. ⌜ r ≡ noRound ⌝ }
+{
+    let best = Version {
+        election: 0,
+        counter: 0,
+    };
+    Round {
+        purpose: 0,
+        number: 0,
+        election: 0,
+        best,
+        marks: [0u8; 7],
+    }
+}
+
+fn no_call() -> Call
+    ensures { λ r. ⌜ r ≡ noCall ⌝ }
+{
+    Call {
+        kind: 0,
+        number: 0,
+        rounds: 0,
+        sent: 0,
+    }
+}
+
+// The first `most` slots of server s have no round and no call any more.
+pub fn clear_slots(slots: &mut [u32; 1792], s: usize, most: usize)
+    requires { ⌜ (s < serverRoom) × (most ≤ 8) ⌝ }
+    ensures { λ _. ⌜ now (slots .exit) ≡ clearedSlots (now (slots .entry)) s most ⌝ }
+{
+    let mut b = 0;
+    while b < most {
+        clear_slot(slots, s * 8 + b);
+        b += 1;
+    }
+}
+
+// A server's head and slots after a move.
+fn settle(heads: &mut [u32; 112], slots: &mut [u32; 1792], most: usize, s: usize, k: usize, v: Move)
+    requires { ⌜ (s < serverRoom) × ((k < slotRoom) × (most ≤ 8)) ⌝ }
+    ensures { λ _. ⌜ Settled (now (heads .entry)) (now (slots .entry)) most s k v (now (heads .exit)) (now (slots .exit)) ⌝ }
+{
+    store_local(heads, slots, s, k, v.local);
+    if v.ceases {
+        clear_slots(slots, s, most);
+        return;
+    }
+}
+
+// A move at server s and bucket b; i is the place of the message handed over, t the new table of the call's effect.
+pub fn move_server(
+    heads: &mut [u32; 112],
+    slots: &mut [u32; 1792],
+    copies: &mut [u8; 7168],
+    works: &mut [u8; 7168],
+    loads: &[u8; 8192],
+    most: usize,
+    s: usize,
+    b: usize,
+    i: usize,
+    v: Move,
+    t: Decoded,
+)
+    requires { ⌜ (s < serverRoom) × ((b < 8) × ((most ≤ 8) × (i < messageRoom))) ⌝ }
+    ensures { λ _. ⌜ MovedServer (now (heads .entry)) (now (slots .entry)) (now (copies .entry)) (now (works .entry)) (now (loads .entry)) most s b i v (tableIn t) (now (heads .exit)) (now (slots .exit)) (now (copies .exit)) (now (works .exit)) ⌝ }
+{
+    let k = s * 8 + b;
+    fill_work(works, copies, loads, k, i, v.fills, t);
+    keep_copy(copies, works, loads, k, i, v.keeps);
+    settle(heads, slots, most, s, k, v);
+}

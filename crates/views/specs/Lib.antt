@@ -1,0 +1,4 @@
+-- What the contracts of the machine cite.
+pub mod Memory
+pub mod Changes
+pub mod Queue
