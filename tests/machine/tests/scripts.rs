@@ -1,0 +1,222 @@
+//! Random scripts on the proved machine and on the independent bench: after
+//! every line the answers or the refusal, the messages under way and the tally
+//! are the same.
+
+use machine::compare::{Pair, View};
+use reference::scripts::{generate, Kind, Random};
+
+/// What the scripts met, so that an idle comparison is noticed.
+#[derive(Default)]
+struct Met {
+    lines: usize,
+    printed: Vec<u8>,
+    /// Scripts with so many servers, and with so many buckets.
+    servers: [usize; 8],
+    buckets: [usize; 9],
+    /// Lines with so many messages under way after them.
+    under_way: Vec<usize>,
+}
+
+impl Met {
+    fn add(&mut self, view: &View) {
+        self.lines += 1;
+        self.printed.extend_from_slice(&view.printed);
+        self.under_way.resize(65, 0);
+        self.under_way[view.messages.len()] += 1;
+    }
+
+    fn end(&mut self, pair: &Pair) {
+        if let Some(cluster) = pair.script.cluster() {
+            self.servers[cluster.size()] += 1;
+            self.buckets[cluster.buckets()] += 1;
+        }
+    }
+
+    /// Answers and refusals whose second and third words are these.
+    fn count(&self, second: &str, third: Option<&str>) -> usize {
+        let lines = self.printed.split(|&byte| byte == b'\n');
+        let found = lines.filter(|line| {
+            let words: Vec<&[u8]> = line.split(|&byte| byte == b' ').collect();
+            match third {
+                // `line L refused R`
+                Some(number) => {
+                    words.get(2) == Some(&second.as_bytes())
+                        && words.get(3) == Some(&number.as_bytes())
+                }
+                None => words.get(1) == Some(&second.as_bytes()),
+            }
+        });
+        found.count()
+    }
+
+    fn result(&self, word: &str) -> usize {
+        self.count(word, None)
+    }
+
+    fn refusal(&self, number: u32) -> usize {
+        self.count("refused", Some(&number.to_string()))
+    }
+}
+
+/// Bytes that the lent arrays hold at first: zeros or not, they do not matter.
+fn old(seed: u64) -> u8 {
+    [0, 0xaa, 0x01, 0xff][seed as usize % 4]
+}
+
+fn run(text: &[u8], old: u8, met: &mut Met) {
+    let mut pair = Pair::new(old);
+    let text = text.strip_suffix(b"\n").unwrap_or(text);
+    for line in text.split(|&byte| byte == b'\n') {
+        met.add(&pair.line(line));
+    }
+    met.end(&pair);
+}
+
+#[test]
+fn random_scripts() {
+    let mut random = Random::new(20_260_101);
+    let mut met = Met::default();
+    for seed in 0..120 {
+        for kind in [
+            Kind::Ordinary,
+            Kind::Rivals,
+            Kind::Crowded,
+            Kind::Hostile,
+            Kind::Long,
+        ] {
+            let lines = random.within(50, 500);
+            run(&generate(kind, seed, lines), old(seed), &mut met);
+        }
+    }
+    assert!(met.lines >= 100_000, "{} lines", met.lines);
+    for word in [
+        "value", "keys", "done", "mismatch", "full", "notdone", "unknown",
+    ] {
+        assert!(met.result(word) > 100, "{word}: {}", met.result(word));
+    }
+    for number in [1, 2, 3, 4, 6, 7, 8, 9, 10, 12] {
+        assert!(
+            met.refusal(number) > 50,
+            "{number}: {}",
+            met.refusal(number)
+        );
+    }
+    assert!(met.servers[1..].iter().all(|&scripts| scripts > 10));
+    assert!(met.buckets[1..].iter().all(|&scripts| scripts > 10));
+    assert!(met.under_way[58..].iter().all(|&lines| lines > 100));
+}
+
+/// Lines drawn without a look at the state, apart from the number of messages.
+fn blind_line(random: &mut Random, size: usize, buckets: usize, count: usize) -> String {
+    let past = usize::from(random.chance(10));
+    let server = match random.chance(600) {
+        true => 0,
+        false => random.below(size + past),
+    };
+    let bucket = random.below(buckets + past);
+    let place = match random.below(10) {
+        0..=6 => 0,
+        7 | 8 => random.below(count.max(1)),
+        _ => random.below(count + 2),
+    };
+    let key = ["61", "62", "63", "6100", "6162", "65", "ff00ff00ff00ff00"][random.below(7)];
+    let value = ["-", "01", "0202", "000102030405060708090a0b0c0d0e0f"];
+    let (expected, value) = (value[random.below(4)], value[random.below(4)]);
+    match random.below(1000) {
+        0..=11 => format!("elect {server}"),
+        12..=79 => format!("get {server} {key}"),
+        80..=159 => format!("set {server} {key} {value}"),
+        160..=209 => format!("setif {server} {key} {expected} {value}"),
+        210..=229 => format!("del {server} {key}"),
+        230..=249 => format!("keys {server} {bucket}"),
+        250..=289 => format!("copy {place}"),
+        290..=304 => format!("lose {place}"),
+        305..=309 => format!("timeout {server} {bucket}"),
+        310 => format!("stop {server}"),
+        311..=314 => format!("deliver {place} "),
+        // With nothing under way there is little to deliver.
+        315..=399 if count == 0 => format!("elect {server}"),
+        400..=599 if count == 0 => format!("get {server} {key}"),
+        600..=899 if count == 0 => format!("set {server} {key} {value}"),
+        _ => format!("deliver {place}"),
+    }
+}
+
+#[test]
+fn blind_scripts() {
+    let mut random = Random::new(7);
+    let mut met = Met::default();
+    for seed in 0..150 {
+        let (size, buckets) = (random.within(1, 7), random.within(1, 8));
+        let mut pair = Pair::new(old(seed));
+        met.add(&pair.line(format!("cluster {size} {buckets}").as_bytes()));
+        for _ in 0..random.within(50, 500) {
+            let count = pair.proved.under_way();
+            let line = blind_line(&mut random, size, buckets, count);
+            met.add(&pair.line(line.as_bytes()));
+        }
+        met.end(&pair);
+    }
+    assert!(met.lines >= 30_000, "{} lines", met.lines);
+    for word in ["value", "keys", "done", "mismatch", "notdone", "unknown"] {
+        assert!(met.result(word) > 30, "{word}: {}", met.result(word));
+    }
+}
+
+#[test]
+fn the_last_election() {
+    let mut met = Met::default();
+    let mut text = b"cluster 1 1\n".to_vec();
+    text.extend(b"elect 0\n".repeat(65_537));
+    text.extend(b"set 0 61 62\nget 0 61\nelect 0\nget 0 61");
+    run(&text, 0xaa, &mut met);
+    assert_eq!(met.refusal(11), 3);
+    assert_eq!(met.result("value"), 2);
+}
+
+/// One server completes every call in its line, so 1,000,000 accepted lines are
+/// reached quickly.
+#[test]
+fn the_last_line() {
+    let mut pair = Pair::new(0xaa);
+    pair.line(b"cluster 1 2");
+    pair.line(b"elect 0");
+    let calls: [&[u8]; 8] = [
+        b"set 0 61 6869",
+        b"get 0 61",
+        b"setif 0 61 6869 01",
+        b"keys 0 0",
+        b"del 0 61",
+        b"get 0 61",
+        b"setif 0 62 01 02",
+        b"elect 0",
+    ];
+    for at in 1..1_000_000 {
+        // An election in 64 lines: none is the last.
+        let line = if at % 64 == 63 { 7 } else { at % 7 };
+        pair.line(calls[line]);
+    }
+    assert_eq!(pair.script.accepted(), 1_000_000);
+    for (line, refusal) in [
+        ("elect", 1),
+        ("cluster 1 2", 2),
+        ("elect 1", 3),
+        ("keys 0 2", 3),
+        ("get 0 -", 4),
+        ("get 0 61", 5),
+        ("set 0 61 62", 5),
+        ("setif 0 61 - 62", 5),
+        ("del 0 61", 5),
+        ("keys 0 1", 5),
+        ("elect 0", 5),
+        ("deliver 0", 5),
+        ("copy 0", 5),
+        ("lose 0", 5),
+        ("timeout 0 0", 5),
+        ("stop 0", 5),
+    ] {
+        let printed = pair.line(line.as_bytes()).printed;
+        let end = format!(" refused {refusal}\n");
+        assert!(printed.ends_with(end.as_bytes()), "{line}");
+    }
+}
