@@ -4,6 +4,7 @@ use mathlib.Core.Bool.{Bool, true, false}
 use mathlib.Core.List.{List}
 use Prim.Native.Nat.{ℕ}
 use native.Mathlib.Omega.{arith}
+use Rattle.server.specs.declared.Words.{Words}
 use Rattle.server.specs.declared.Effect.{Effect}
 use Rattle.memory.specs.declared.Counts.{Counts}
 use Rattle.memory.specs.Layout.{countsAt}
@@ -51,25 +52,35 @@ module _ (heads slots copies texts queue : List ℕ) (c : Counts) (x : Line) (p 
   unfolding linePlan
   lose-planned e h = simply K.Lose e h tt
 
-  pub get-planned : x .kind ≡ K.Get → CallPlanned heads slots copies c (x .first) (wordsOf K.Get x) p → LinePlanned heads slots copies texts queue c x p
+  pub get-planned : (w : Words) → x .kind ≡ K.Get → w ≡ wordsOf (x .kind) x → CallPlanned heads slots copies c (x .first) w p → LinePlanned heads slots copies texts queue c x p
   unfolding linePlan callAt
-  get-planned e h = simply K.Get e (h .is) (λ n z. h .effect n (ap (λ q. q .refusal) (h .is) ∙ z))
+  get-planned w e q g =
+      let h : CallPlanned heads slots copies c (x .first) (wordsOf K.Get x) p = subst (λ v. CallPlanned heads slots copies c (x .first) v p) (q ∙ ap (λ k. wordsOf k x) e) g in
+      simply K.Get e (h .is) (λ n z. h .effect n (ap (λ r. r .refusal) (h .is) ∙ z))
 
-  pub set-planned : x .kind ≡ K.Set → CallPlanned heads slots copies c (x .first) (wordsOf K.Set x) p → LinePlanned heads slots copies texts queue c x p
+  pub set-planned : (w : Words) → x .kind ≡ K.Set → w ≡ wordsOf (x .kind) x → CallPlanned heads slots copies c (x .first) w p → LinePlanned heads slots copies texts queue c x p
   unfolding linePlan callAt
-  set-planned e h = simply K.Set e (h .is) (λ n z. h .effect n (ap (λ q. q .refusal) (h .is) ∙ z))
+  set-planned w e q g =
+      let h : CallPlanned heads slots copies c (x .first) (wordsOf K.Set x) p = subst (λ v. CallPlanned heads slots copies c (x .first) v p) (q ∙ ap (λ k. wordsOf k x) e) g in
+      simply K.Set e (h .is) (λ n z. h .effect n (ap (λ r. r .refusal) (h .is) ∙ z))
 
-  pub setif-planned : x .kind ≡ K.SetIf → CallPlanned heads slots copies c (x .first) (wordsOf K.SetIf x) p → LinePlanned heads slots copies texts queue c x p
+  pub setif-planned : (w : Words) → x .kind ≡ K.SetIf → w ≡ wordsOf (x .kind) x → CallPlanned heads slots copies c (x .first) w p → LinePlanned heads slots copies texts queue c x p
   unfolding linePlan callAt
-  setif-planned e h = simply K.SetIf e (h .is) (λ n z. h .effect n (ap (λ q. q .refusal) (h .is) ∙ z))
+  setif-planned w e q g =
+      let h : CallPlanned heads slots copies c (x .first) (wordsOf K.SetIf x) p = subst (λ v. CallPlanned heads slots copies c (x .first) v p) (q ∙ ap (λ k. wordsOf k x) e) g in
+      simply K.SetIf e (h .is) (λ n z. h .effect n (ap (λ r. r .refusal) (h .is) ∙ z))
 
-  pub del-planned : x .kind ≡ K.Del → CallPlanned heads slots copies c (x .first) (wordsOf K.Del x) p → LinePlanned heads slots copies texts queue c x p
+  pub del-planned : (w : Words) → x .kind ≡ K.Del → w ≡ wordsOf (x .kind) x → CallPlanned heads slots copies c (x .first) w p → LinePlanned heads slots copies texts queue c x p
   unfolding linePlan callAt
-  del-planned e h = simply K.Del e (h .is) (λ n z. h .effect n (ap (λ q. q .refusal) (h .is) ∙ z))
+  del-planned w e q g =
+      let h : CallPlanned heads slots copies c (x .first) (wordsOf K.Del x) p = subst (λ v. CallPlanned heads slots copies c (x .first) v p) (q ∙ ap (λ k. wordsOf k x) e) g in
+      simply K.Del e (h .is) (λ n z. h .effect n (ap (λ r. r .refusal) (h .is) ∙ z))
 
-  pub keys-planned : x .kind ≡ K.Keys → CallPlanned heads slots copies c (x .first) (wordsOf K.Keys x) p → LinePlanned heads slots copies texts queue c x p
+  pub keys-planned : (w : Words) → x .kind ≡ K.Keys → w ≡ wordsOf (x .kind) x → CallPlanned heads slots copies c (x .first) w p → LinePlanned heads slots copies texts queue c x p
   unfolding linePlan callAt
-  keys-planned e h = simply K.Keys e (h .is) (λ n z. h .effect n (ap (λ q. q .refusal) (h .is) ∙ z))
+  keys-planned w e q g =
+      let h : CallPlanned heads slots copies c (x .first) (wordsOf K.Keys x) p = subst (λ v. CallPlanned heads slots copies c (x .first) v p) (q ∙ ap (λ k. wordsOf k x) e) g in
+      simply K.Keys e (h .is) (λ n z. h .effect n (ap (λ r. r .refusal) (h .is) ∙ z))
 
   pub deliver-planned : x .kind ≡ K.Deliver → HandPlanned heads slots copies texts queue c (x .first) true p → LinePlanned heads slots copies texts queue c x p
   unfolding linePlan handAt

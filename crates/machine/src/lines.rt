@@ -13,6 +13,7 @@ use plans::calls::plan_call;
 use plans::deliveries::plan_hand;
 use plans::deliveries::plan_lose;
 use plans::parts::no_effect;
+use plans::parts::no_words;
 use plans::parts::refused_plan;
 use plans::servers::plan_elect;
 use plans::servers::plan_stop;
@@ -24,7 +25,7 @@ ghost use Rattle.table.specs.Form.{within};
 ghost use Rattle.views.specs.Memory.{memory, standing};
 ghost use Rattle.plans.specs.Plans.{noKey, noValue};
 ghost use Rattle.plans.specs.Arrays.{Measured};
-ghost use Rattle.runs.specs.Runs.{wordsWith};
+ghost use Rattle.runs.specs.Runs.{wordsWith, wordsOf};
 ghost use Rattle.machine.specs.Contracts.{LinePlanned, Clustered, RanPlan, RanLine, sortOf};
 
 // A number from 1 to top.
@@ -79,6 +80,32 @@ fn words(kind: u32, bucket: u32, key: Key, expected: Value, value: Value) -> Wor
     }
 }
 
+// The words of a call: what its kind does not use is none.
+fn words_of(line: Line) -> Words
+    ensures { λ r. ⌜ r ≡ wordsOf (line .kind) line ⌝ }
+{
+    let kind = line.kind;
+    let key = line.key;
+    let expected = line.expected;
+    let value = line.value;
+    let none = no_value();
+    match kind {
+        Kind::Malformed => no_words(),
+        Kind::Cluster => no_words(),
+        Kind::Elect => no_words(),
+        Kind::Get => words(1, 0, key, none, none),
+        Kind::Set => words(2, 0, key, none, value),
+        Kind::SetIf => words(3, 0, key, expected, value),
+        Kind::Del => words(4, 0, key, none, none),
+        Kind::Keys => words(5, line.second, no_key(), none, none),
+        Kind::Deliver => no_words(),
+        Kind::Copy => no_words(),
+        Kind::Lose => no_words(),
+        Kind::Timeout => no_words(),
+        Kind::Stop => no_words(),
+    }
+}
+
 // What a line would do, by its kind.
 fn plan_line(
     heads: &[u32; 112],
@@ -94,52 +121,16 @@ fn plan_line(
 {
     let kind = line.kind;
     let s = line.first;
-    let key = line.key;
-    let value = line.value;
+    let w = words_of(line);
     match kind {
         Kind::Malformed => refused_plan(1, no_effect()),
         Kind::Cluster => refused_plan(2, no_effect()),
         Kind::Elect => plan_elect(heads, slots, c, s),
-        Kind::Get => plan_call(
-            heads,
-            slots,
-            copies,
-            c,
-            s,
-            words(1, 0, key, no_value(), no_value()),
-        ),
-        Kind::Set => plan_call(
-            heads,
-            slots,
-            copies,
-            c,
-            s,
-            words(2, 0, key, no_value(), value),
-        ),
-        Kind::SetIf => plan_call(
-            heads,
-            slots,
-            copies,
-            c,
-            s,
-            words(3, 0, key, line.expected, value),
-        ),
-        Kind::Del => plan_call(
-            heads,
-            slots,
-            copies,
-            c,
-            s,
-            words(4, 0, key, no_value(), no_value()),
-        ),
-        Kind::Keys => plan_call(
-            heads,
-            slots,
-            copies,
-            c,
-            s,
-            words(5, line.second, no_key(), no_value(), no_value()),
-        ),
+        Kind::Get => plan_call(heads, slots, copies, c, s, w),
+        Kind::Set => plan_call(heads, slots, copies, c, s, w),
+        Kind::SetIf => plan_call(heads, slots, copies, c, s, w),
+        Kind::Del => plan_call(heads, slots, copies, c, s, w),
+        Kind::Keys => plan_call(heads, slots, copies, c, s, w),
         Kind::Deliver => plan_hand(heads, slots, copies, texts, queue, c, s, true),
         Kind::Copy => plan_hand(heads, slots, copies, texts, queue, c, s, false),
         Kind::Lose => plan_lose(c, s),

@@ -1,9 +1,11 @@
 -- `lines::plan_line` meets its contract: kind by kind.
-use Rattle.runs.specs.Runs.{wordsOf}
 use Rattle.machine.proofs.Planning.{malformed-planned, cluster-planned, elect-planned, timeout-planned, stop-planned, lose-planned, get-planned, set-planned, setif-planned, del-planned, keys-planned, deliver-planned, copy-planned}
 use borrow.Author.Needs.{needs}
 use Rattle.machine.proofs.lines.plan_line.Statement.{statement}
 use Rattle.machine.proofs.lines.plan_line.Tie as tie
+
+words-of-requires : tie.Need-words-of-requires
+words-of-requires c κs = search needs
 
 enum-told : tie.Need-enum-told
 enum-told c = search needs
@@ -32,26 +34,11 @@ plan-elect-requires c κs = search needs
 enum-told-4 : tie.Need-enum-told-4
 enum-told-4 c = search needs
 
-no-value-requires : tie.Need-no-value-requires
-no-value-requires c κs = search needs
-
-no-value-requires-2 : tie.Need-no-value-requires-2
-no-value-requires-2 c κs = search needs
-
-words-requires : tie.Need-words-requires
-words-requires c κs = search needs
-
 plan-call-requires : tie.Need-plan-call-requires
 plan-call-requires c κs = search needs
 
 enum-told-5 : tie.Need-enum-told-5
 enum-told-5 c = search needs
-
-no-value-requires-3 : tie.Need-no-value-requires-3
-no-value-requires-3 c κs = search needs
-
-words-requires-2 : tie.Need-words-requires-2
-words-requires-2 c κs = search needs
 
 plan-call-requires-2 : tie.Need-plan-call-requires-2
 plan-call-requires-2 c κs = search needs
@@ -59,41 +46,17 @@ plan-call-requires-2 c κs = search needs
 enum-told-6 : tie.Need-enum-told-6
 enum-told-6 c = search needs
 
-words-requires-3 : tie.Need-words-requires-3
-words-requires-3 c κs = search needs
-
 plan-call-requires-3 : tie.Need-plan-call-requires-3
 plan-call-requires-3 c κs = search needs
 
 enum-told-7 : tie.Need-enum-told-7
 enum-told-7 c = search needs
 
-no-value-requires-4 : tie.Need-no-value-requires-4
-no-value-requires-4 c κs = search needs
-
-no-value-requires-5 : tie.Need-no-value-requires-5
-no-value-requires-5 c κs = search needs
-
-words-requires-4 : tie.Need-words-requires-4
-words-requires-4 c κs = search needs
-
 plan-call-requires-4 : tie.Need-plan-call-requires-4
 plan-call-requires-4 c κs = search needs
 
 enum-told-8 : tie.Need-enum-told-8
 enum-told-8 c = search needs
-
-no-key-requires : tie.Need-no-key-requires
-no-key-requires c κs = search needs
-
-no-value-requires-6 : tie.Need-no-value-requires-6
-no-value-requires-6 c κs = search needs
-
-no-value-requires-7 : tie.Need-no-value-requires-7
-no-value-requires-7 c κs = search needs
-
-words-requires-5 : tie.Need-words-requires-5
-words-requires-5 c κs = search needs
 
 plan-call-requires-5 : tie.Need-plan-call-requires-5
 plan-call-requires-5 c κs = search needs
@@ -138,24 +101,19 @@ returns-3 : tie.Need-returns-3
 returns-3 c = elect-planned _ _ _ _ _ _ _ _ (c .before .enum-told3 .given .1) (c .plan-elect .ensures)
 
 returns-4 : tie.Need-returns-4
-unfolding wordsOf
-returns-4 c = get-planned _ _ _ _ _ _ _ _ (c .before .before .before .before .enum-told4 .given .1) (rw (c .before .words .ensures, c .before .before .before .no-value .ensures, c .before .before .no-value2 .ensures) at (c .plan-call .ensures))
+returns-4 c = get-planned _ _ _ _ _ _ _ _ _ (c .before .enum-told4 .given .1) (c .before .before .before .words-of .ensures) (c .plan-call .ensures)
 
 returns-5 : tie.Need-returns-5
-unfolding wordsOf
-returns-5 c = set-planned _ _ _ _ _ _ _ _ (c .before .before .before .enum-told5 .given .1) (rw (c .before .words2 .ensures, c .before .before .no-value3 .ensures) at (c .plan-call2 .ensures))
+returns-5 c = set-planned _ _ _ _ _ _ _ _ _ (c .before .enum-told5 .given .1) (c .before .before .before .words-of .ensures) (c .plan-call2 .ensures)
 
 returns-6 : tie.Need-returns-6
-unfolding wordsOf
-returns-6 c = setif-planned _ _ _ _ _ _ _ _ (c .before .before .enum-told6 .given .1) (rw (c .before .words3 .ensures) at (c .plan-call3 .ensures))
+returns-6 c = setif-planned _ _ _ _ _ _ _ _ _ (c .before .enum-told6 .given .1) (c .before .before .before .words-of .ensures) (c .plan-call3 .ensures)
 
 returns-7 : tie.Need-returns-7
-unfolding wordsOf
-returns-7 c = del-planned _ _ _ _ _ _ _ _ (c .before .before .before .before .enum-told7 .given .1) (rw (c .before .words4 .ensures, c .before .before .before .no-value4 .ensures, c .before .before .no-value5 .ensures) at (c .plan-call4 .ensures))
+returns-7 c = del-planned _ _ _ _ _ _ _ _ _ (c .before .enum-told7 .given .1) (c .before .before .before .words-of .ensures) (c .plan-call4 .ensures)
 
 returns-8 : tie.Need-returns-8
-unfolding wordsOf
-returns-8 c = keys-planned _ _ _ _ _ _ _ _ (c .before .before .before .before .before .enum-told8 .given .1) (rw (c .before .words5 .ensures, c .before .before .before .before .no-key .ensures, c .before .before .before .no-value6 .ensures, c .before .before .no-value7 .ensures) at (c .plan-call5 .ensures))
+returns-8 c = keys-planned _ _ _ _ _ _ _ _ _ (c .before .enum-told8 .given .1) (c .before .before .before .words-of .ensures) (c .plan-call5 .ensures)
 
 returns-9 : tie.Need-returns-9
 returns-9 c = deliver-planned _ _ _ _ _ _ _ _ (c .before .enum-told9 .given .1) (c .plan-hand .ensures)
@@ -176,6 +134,7 @@ pub plan-line-spec : {M : Type 1} → statement M
 plan-line-spec =
     tie.close
     (tie.spec
+    words-of-requires
     enum-told
     no-effect-requires
     refused-plan-requires
@@ -185,27 +144,14 @@ plan-line-spec =
     enum-told-3
     plan-elect-requires
     enum-told-4
-    no-value-requires
-    no-value-requires-2
-    words-requires
     plan-call-requires
     enum-told-5
-    no-value-requires-3
-    words-requires-2
     plan-call-requires-2
     enum-told-6
-    words-requires-3
     plan-call-requires-3
     enum-told-7
-    no-value-requires-4
-    no-value-requires-5
-    words-requires-4
     plan-call-requires-4
     enum-told-8
-    no-key-requires
-    no-value-requires-6
-    no-value-requires-7
-    words-requires-5
     plan-call-requires-5
     enum-told-9
     plan-hand-requires
