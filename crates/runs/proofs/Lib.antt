@@ -13,3 +13,4 @@ pub mod Handing
 pub mod Wording
 pub mod Calling
 pub mod LineMeans
+pub mod Reading

@@ -1,6 +1,6 @@
 -- `text` meets its contract: read, performed, and told.
 use mathlib.Core.Path.{refl, _∙_}
-use Rattle.lent.proofs.Reading.{step-read}
+use Rattle.runs.proofs.Reading.{step-read}
 use borrow.Author.Needs.{needs}
 use Rattle.lent.proofs.text.Statement.{statement}
 use Rattle.lent.proofs.text.Tie as tie

@@ -1,0 +1,64 @@
+-- Every way of cutting a script into parts, with an output of any room for each of them, prints what the definition's run prints for the
+-- whole script, and leaves its state and tally.
+use mathlib.Core.Path.{_≡_, refl, sym, ap, subst, _∙_}
+use mathlib.Core.List.{List, [], _∷_, _++_, flatten, append-assoc}
+use Prim.Native.Nat.{ℕ, _≤_}
+use native.Mathlib.Omega.{arith}
+use lib.ListN.{length, take, drop}
+use lib.Seq.{take-append-seam}
+use Rattle.model.specs.Lines.{initialState}
+use Rattle.model.specs.Run.{linesOf, stateAfter, run}
+use Rattle.input.specs.Reading.{Reading, start, fed, fedText, finished, finishedText}
+use Rattle.input.proofs.Parts.{fed-append, fedText-append}
+use Rattle.input.proofs.Whole.{printed-whole, state-whole}
+use Rattle.feed.specs.Worlds.{World, readingIn}
+use Rattle.feed.specs.Entry.{MeasuredIn, WorldFed, finishRoom, Finished}
+use Rattle.feed.proofs.Starting.{zeros, zeros-start, zeros-measured}
+
+-- calls of `feed`, one after the other: the bytes taken so far, and the bytes written
+pub data Calls (w : World) : List ℕ → List ℕ → World → Type 0 where
+  begins : Calls w [] [] w
+  feeds : {script text : List ℕ} {v : World} → Calls w script text v → (input out : List ℕ) (u : World) (out′ : List ℕ) (taken written : ℕ)
+      → WorldFed v input out u out′ taken written → Calls w (script ++ take taken input) (text ++ take written out′) u
+
+record CallsMean (w : World) (script text : List ℕ) (v : World) : Type 0 where
+  reads : fed (readingIn w) script ≡ readingIn v
+  prints : fedText (readingIn w) script ≡ text
+  measured : MeasuredIn v
+
+-- what a call wrote is its text
+written : (w : World) (input out : List ℕ) (u : World) (out′ : List ℕ) (taken n : ℕ) (f : WorldFed w input out u out′ taken n) → take n out′ ≡ f .leaves .text
+written w input out u out′ taken n f = rw (f .leaves .wrote, f .leaves .count) (take-append-seam (f .leaves .text) (drop (length (f .leaves .text)) out))
+
+calls-mean : (w : World) {script text : List ℕ} {v : World} → MeasuredIn w → Calls w script text v → CallsMean w script text v
+unfolding fed fedText
+calls-mean w m begins = record { reads = refl; prints = refl; measured = m }
+calls-mean w m (feeds {script = script} {text = text} {v = v} c input out u out′ taken n f) =
+    let k = calls-mean w m c in
+    let p = f .means (k .measured) in
+    record {
+      reads = fed-append (readingIn w) script (take taken input) ∙ ap (λ (r : Reading). fed r (take taken input)) (k .reads) ∙ p .reads;
+      prints = fedText-append (readingIn w) script (take taken input) ∙ rw (k .reads, k .prints, p .prints, written v input out u out′ taken n f);
+      measured = p .measured;
+    }
+
+-- what is printed, and the state and the tally
+pub record Whole (script text : List ℕ) (u : World) : Type 0 where
+  pub prints : text ≡ run script
+  pub leaves : readingIn u .state ≡ stateAfter initialState (linesOf script)
+
+pub script-whole : (heads slots copies works texts queue loads answers line : List ℕ) {script text : List ℕ} {v : World}
+    → Calls (zeros heads slots copies works texts queue loads answers line) script text v
+    → (out : List ℕ) (u : World) (out′ : List ℕ) (r : ℕ) → finishRoom ≤ length out → Finished v out u out′ r
+    → Whole script (text ++ take r out′) u
+script-whole heads slots copies works texts queue loads answers line {script} {text} {v} c out u out′ r room f =
+    let z = zeros-start heads slots copies works texts queue loads answers line in
+    let k = calls-mean (zeros heads slots copies works texts queue loads answers line) (zeros-measured heads slots copies works texts queue loads answers line) c in
+    let m = f .means room (k .measured) in
+    let reads : fed start script ≡ readingIn v = ap (λ (x : Reading). fed x script) (sym z) ∙ k .reads in
+    let prints : fedText start script ≡ text = ap (λ (x : Reading). fedText x script) (sym z) ∙ k .prints in
+    let last : take r out′ ≡ finishedText (readingIn v) = rw (m .wrote, m .count) (take-append-seam (finishedText (readingIn v)) (drop (length (finishedText (readingIn v))) out)) in
+    record {
+      prints = rw (last, ← prints, ← reads) (printed-whole script);
+      leaves = ap (λ (x : Reading). x .state) (sym (m .reads)) ∙ ap (λ (x : Reading). finished x .state) (sym reads) ∙ state-whole script;
+    }

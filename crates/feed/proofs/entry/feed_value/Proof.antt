@@ -1,0 +1,38 @@
+-- `entry::feed_value` meets its contract.
+use Rattle.feed.proofs.Entering.{part-fed}
+use borrow.Author.Needs.{needs}
+use Rattle.feed.proofs.entry.feed_value.Statement.{statement}
+use Rattle.feed.proofs.entry.feed_value.Tie as tie
+
+sizes-requires : tie.Need-sizes-requires
+sizes-requires c κs = search needs
+
+element-copy-out-lines : tie.Need-element-copy-out-lines
+element-copy-out-lines c = search needs
+
+element-copy-out-count : tie.Need-element-copy-out-count
+element-copy-out-count c = search needs
+
+feed-part-requires : tie.Need-feed-part-requires
+feed-part-requires c κs = search needs
+
+put-reader-requires : tie.Need-put-reader-requires
+put-reader-requires c κs = search needs
+
+same-length : tie.Need-same-length
+same-length c = search needs
+
+returns : tie.Need-returns
+returns c = part-fed _ _ (c .before .before .before .before .before .before .before .before .before .before .before .before .before .before .before .before .before .before .before .before .before .before .before .before .before .before .args .reader .now) _ _ _ _ _ _ _ _ (c .before .before .before .before .before .feed-part .result) _ (c .before .before .before .before .before .before .before .before .before .before .before .before .before .before .before .before .before .before .before .sizes .ensures .0) (c .before .before .before .before .before .before .before .before .before .before .before .before .before .before .before .before .before .before .before .sizes .ensures .1) (c .before .before .before .before .before .feed-part .ensures) (c .before .put-reader .ensures)
+
+pub feed-value-spec : {M : Type 1} → statement M
+feed-value-spec =
+    tie.close
+    (tie.spec
+    sizes-requires
+    element-copy-out-lines
+    element-copy-out-count
+    feed-part-requires
+    put-reader-requires
+    same-length
+    returns)

@@ -1,0 +1,201 @@
+// The public calls: a part of the input, and its end, on lent arrays and with a lent tally.
+use crate::Answer;
+use crate::endings::finish_line;
+use crate::parts::feed_part;
+use machine::Tally;
+use output::put_end;
+ghost use mathlib.Core.Path.{_≡_};
+ghost use lib.ListN.{length, set};
+ghost use Rattle.views.specs.Memory.{memory};
+ghost use Rattle.feed.specs.Entry.{Feeds, Finishes};
+
+// The sizes of two arrays, for the caller's proof: it does nothing.
+fn sizes(reader: &[usize], line: &[u8])
+    requires { ⌜ (length (now reader) ≡ 3) × (length (now line) ≡ 121) ⌝ }
+    ensures { λ _. ⌜ (length (now (reader .entry)) ≡ 3) × (length (now (line .entry)) ≡ 121) ⌝ }
+{}
+
+// What is kept between parts, as three words.
+fn put_reader(reader: &mut [usize; 3], lines: usize, held: usize, written: usize)
+    ensures { λ _. ⌜ now (reader .exit) ≡ set (set (set (now (reader .entry)) 0 lines) 1 held) 2 written ⌝ }
+{
+    reader[0] = lines;
+    reader[1] = held;
+    reader[2] = written;
+}
+
+// A part of the input, with the tally by value.
+pub fn feed_value(
+    counts: &mut [u32; 8],
+    heads: &mut [u32; 112],
+    slots: &mut [u32; 1792],
+    copies: &mut [u8; 7168],
+    works: &mut [u8; 7168],
+    texts: &mut [u8; 3584],
+    queue: &mut [u32; 512],
+    loads: &mut [u8; 8192],
+    answers: &mut [u32; 32],
+    reader: &mut [usize; 3],
+    line: &mut [u8; 121],
+    t: Tally,
+    input: &[u8],
+    out: &mut [u8],
+) -> Answer
+    ensures { λ r. ⌜ Feeds (now (counts .entry)) (now (heads .entry)) (now (slots .entry)) (now (copies .entry)) (now (works .entry)) (now (texts .entry)) (now (queue .entry)) (now (loads .entry)) (now (answers .entry)) (now (reader .entry)) (now (line .entry)) t (now (input .entry)) (now (out .entry)) (now (counts .exit)) (now (heads .exit)) (now (slots .exit)) (now (copies .exit)) (now (works .exit)) (now (texts .exit)) (now (queue .exit)) (now (loads .exit)) (now (answers .exit)) (now (reader .exit)) (now (line .exit)) (now (out .exit)) r ⌝ }
+{
+    sizes(reader, line);
+    let lines = reader[0];
+    let count = reader[1];
+    let p = feed_part(
+        counts,
+        heads,
+        slots,
+        copies,
+        works,
+        texts,
+        queue,
+        loads,
+        answers,
+        line,
+        out,
+        input,
+        t,
+        lines,
+        count,
+    );
+    put_reader(reader, p.lines, p.held, p.written);
+    let tally = p.tally;
+    Answer {
+        tally,
+        taken: p.taken,
+    }
+}
+
+// The end of the input, with the tally by value: 0 where the output has no room, else how many bytes it wrote.
+pub fn finish_value(
+    counts: &mut [u32; 8],
+    heads: &mut [u32; 112],
+    slots: &mut [u32; 1792],
+    copies: &mut [u8; 7168],
+    works: &mut [u8; 7168],
+    texts: &mut [u8; 3584],
+    queue: &mut [u32; 512],
+    loads: &mut [u8; 8192],
+    answers: &mut [u32; 32],
+    reader: &mut [usize; 3],
+    line: &mut [u8; 121],
+    t: Tally,
+    out: &mut [u8],
+) -> Answer
+    ensures { λ r. ⌜ Finishes (now (counts .entry)) (now (heads .entry)) (now (slots .entry)) (now (copies .entry)) (now (works .entry)) (now (texts .entry)) (now (queue .entry)) (now (loads .entry)) (now (answers .entry)) (now (reader .entry)) (now (line .entry)) t (now (out .entry)) (now (counts .exit)) (now (heads .exit)) (now (slots .exit)) (now (copies .exit)) (now (works .exit)) (now (texts .exit)) (now (queue .exit)) (now (loads .exit)) (now (answers .exit)) (now (reader .exit)) (now (line .exit)) (now (out .exit)) r ⌝ }
+{
+    sizes(reader, line);
+    if out.len() < 1088 {
+        return Answer { tally: t, taken: 0 };
+    }
+    let lines = reader[0];
+    let count = reader[1];
+    let p = finish_line(
+        counts,
+        heads,
+        slots,
+        copies,
+        works,
+        texts,
+        queue,
+        loads,
+        answers,
+        line,
+        out,
+        t,
+        lines,
+        count,
+    );
+    let tally = p.tally;
+    let written = put_end(out, p.written, tally);
+    put_reader(reader, p.lines, p.held, written);
+    Answer {
+        tally,
+        taken: written,
+    }
+}
+
+// A part of the input: how many bytes of it were taken. Bytes are left only from a line feed on, where the output has no room for
+// what a line can print (1,024 bytes); the bytes written are counted in `reader[2]`.
+#[no_mangle]
+pub extern "C" fn feed(
+    counts: &mut [u32; 8],
+    heads: &mut [u32; 112],
+    slots: &mut [u32; 1792],
+    copies: &mut [u8; 7168],
+    works: &mut [u8; 7168],
+    texts: &mut [u8; 3584],
+    queue: &mut [u32; 512],
+    loads: &mut [u8; 8192],
+    answers: &mut [u32; 32],
+    reader: &mut [usize; 3],
+    line: &mut [u8; 121],
+    tally: &mut Tally,
+    input: &[u8],
+    out: &mut [u8],
+) -> usize
+    ensures { λ r. ⌜ Feeds (now (counts .entry)) (now (heads .entry)) (now (slots .entry)) (now (copies .entry)) (now (works .entry)) (now (texts .entry)) (now (queue .entry)) (now (loads .entry)) (now (answers .entry)) (now (reader .entry)) (now (line .entry)) (now (tally .entry)) (now (input .entry)) (now (out .entry)) (now (counts .exit)) (now (heads .exit)) (now (slots .exit)) (now (copies .exit)) (now (works .exit)) (now (texts .exit)) (now (queue .exit)) (now (loads .exit)) (now (answers .exit)) (now (reader .exit)) (now (line .exit)) (now (out .exit)) (record { tally = now (tally .exit); taken = r }) ⌝ }
+{
+    let a = feed_value(
+        counts,
+        heads,
+        slots,
+        copies,
+        works,
+        texts,
+        queue,
+        loads,
+        answers,
+        reader,
+        line,
+        *tally,
+        input,
+        out,
+    );
+    *tally = a.tally;
+    a.taken
+}
+
+// The end of the input: a last line without line feed, then the tally. It answers how many bytes it wrote, or 0 and does nothing
+// where the output has no room for them (1,088 bytes).
+#[no_mangle]
+pub extern "C" fn finish(
+    counts: &mut [u32; 8],
+    heads: &mut [u32; 112],
+    slots: &mut [u32; 1792],
+    copies: &mut [u8; 7168],
+    works: &mut [u8; 7168],
+    texts: &mut [u8; 3584],
+    queue: &mut [u32; 512],
+    loads: &mut [u8; 8192],
+    answers: &mut [u32; 32],
+    reader: &mut [usize; 3],
+    line: &mut [u8; 121],
+    tally: &mut Tally,
+    out: &mut [u8],
+) -> usize
+    ensures { λ r. ⌜ Finishes (now (counts .entry)) (now (heads .entry)) (now (slots .entry)) (now (copies .entry)) (now (works .entry)) (now (texts .entry)) (now (queue .entry)) (now (loads .entry)) (now (answers .entry)) (now (reader .entry)) (now (line .entry)) (now (tally .entry)) (now (out .entry)) (now (counts .exit)) (now (heads .exit)) (now (slots .exit)) (now (copies .exit)) (now (works .exit)) (now (texts .exit)) (now (queue .exit)) (now (loads .exit)) (now (answers .exit)) (now (reader .exit)) (now (line .exit)) (now (out .exit)) (record { tally = now (tally .exit); taken = r }) ⌝ }
+{
+    let a = finish_value(
+        counts,
+        heads,
+        slots,
+        copies,
+        works,
+        texts,
+        queue,
+        loads,
+        answers,
+        reader,
+        line,
+        *tally,
+        out,
+    );
+    *tally = a.tally;
+    a.taken
+}

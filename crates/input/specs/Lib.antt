@@ -1,0 +1,2 @@
+-- An input in parts.
+pub mod Reading

@@ -1,0 +1,37 @@
+// What is printed for a line, from the machine's report of it (document 01, 'Script lines', Output).
+use crate::answers::put_answers;
+use machine::Tally;
+use print::lines::put_refusal;
+use print::lines::put_tally;
+use runs::Report;
+ghost use Prim.Native.Nat.{_≤_, _+_};
+ghost use lib.ListN.{length};
+ghost use Rattle.model.specs.Print.{outcomeText, tallyText};
+ghost use Rattle.machine.specs.Meaning.{outcomeIn, tallyIn};
+ghost use Rattle.print.specs.Printed.{Printed};
+ghost use Rattle.output.specs.Told.{Told};
+
+pub mod answers;
+
+// The refusal, or the answers.
+pub fn put_outcome(out: &mut [u8], at: usize, line: u32, r: Report, answers: &[u32; 32]) -> usize
+    requires { ⌜ (at + 1024 ≤ length (now out)) × (r .answers ≤ 8) ⌝ }
+    ensures { λ p. ⌜ Told (outcomeText line (outcomeIn r (now (answers .entry)))) (now (out .entry)) at (now (out .exit)) p ⌝ }
+{
+    if r.refusal != 0 {
+        return put_refusal(out, at, line, r.refusal);
+    }
+    if r.answers == 0 {
+        return at;
+    }
+    let f = r.effect;
+    put_answers(out, at, r.answers as usize, answers, f.value, f.table)
+}
+
+// The tally, after the last line.
+pub fn put_end(out: &mut [u8], at: usize, t: Tally) -> usize
+    requires { ⌜ at + 64 ≤ length (now out) ⌝ }
+    ensures { λ p. ⌜ Printed (tallyText (tallyIn t)) (now (out .entry)) at (now (out .exit)) p × (p ≤ at + 64) ⌝ }
+{
+    put_tally(out, at, t.sent, t.copied, t.delivered, t.lost, t.flight)
+}
