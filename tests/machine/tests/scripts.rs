@@ -3,6 +3,7 @@
 //! are the same.
 
 use machine::compare::{Pair, View};
+use reference::printed::{refusals, results};
 use reference::scripts::{generate, Kind, Random};
 
 /// What the scripts met, so that an idle comparison is noticed.
@@ -32,29 +33,12 @@ impl Met {
         }
     }
 
-    /// Answers and refusals whose second and third words are these.
-    fn count(&self, second: &str, third: Option<&str>) -> usize {
-        let lines = self.printed.split(|&byte| byte == b'\n');
-        let found = lines.filter(|line| {
-            let words: Vec<&[u8]> = line.split(|&byte| byte == b' ').collect();
-            match third {
-                // `line L refused R`
-                Some(number) => {
-                    words.get(2) == Some(&second.as_bytes())
-                        && words.get(3) == Some(&number.as_bytes())
-                }
-                None => words.get(1) == Some(&second.as_bytes()),
-            }
-        });
-        found.count()
-    }
-
     fn result(&self, word: &str) -> usize {
-        self.count(word, None)
+        results(&self.printed, word)
     }
 
     fn refusal(&self, number: u32) -> usize {
-        self.count("refused", Some(&number.to_string()))
+        refusals(&self.printed, number)
     }
 }
 
@@ -106,56 +90,13 @@ fn random_scripts() {
     assert!(met.under_way[58..].iter().all(|&lines| lines > 100));
 }
 
-/// Lines drawn without a look at the state, apart from the number of messages.
-fn blind_line(random: &mut Random, size: usize, buckets: usize, count: usize) -> String {
-    let past = usize::from(random.chance(10));
-    let server = match random.chance(600) {
-        true => 0,
-        false => random.below(size + past),
-    };
-    let bucket = random.below(buckets + past);
-    let place = match random.below(10) {
-        0..=6 => 0,
-        7 | 8 => random.below(count.max(1)),
-        _ => random.below(count + 2),
-    };
-    let key = ["61", "62", "63", "6100", "6162", "65", "ff00ff00ff00ff00"][random.below(7)];
-    let value = ["-", "01", "0202", "000102030405060708090a0b0c0d0e0f"];
-    let (expected, value) = (value[random.below(4)], value[random.below(4)]);
-    match random.below(1000) {
-        0..=11 => format!("elect {server}"),
-        12..=79 => format!("get {server} {key}"),
-        80..=159 => format!("set {server} {key} {value}"),
-        160..=209 => format!("setif {server} {key} {expected} {value}"),
-        210..=229 => format!("del {server} {key}"),
-        230..=249 => format!("keys {server} {bucket}"),
-        250..=289 => format!("copy {place}"),
-        290..=304 => format!("lose {place}"),
-        305..=309 => format!("timeout {server} {bucket}"),
-        310 => format!("stop {server}"),
-        311..=314 => format!("deliver {place} "),
-        // With nothing under way there is little to deliver.
-        315..=399 if count == 0 => format!("elect {server}"),
-        400..=599 if count == 0 => format!("get {server} {key}"),
-        600..=899 if count == 0 => format!("set {server} {key} {value}"),
-        _ => format!("deliver {place}"),
-    }
-}
-
 #[test]
 fn blind_scripts() {
     let mut random = Random::new(7);
     let mut met = Met::default();
     for seed in 0..150 {
-        let (size, buckets) = (random.within(1, 7), random.within(1, 8));
-        let mut pair = Pair::new(old(seed));
-        met.add(&pair.line(format!("cluster {size} {buckets}").as_bytes()));
-        for _ in 0..random.within(50, 500) {
-            let count = pair.proved.under_way();
-            let line = blind_line(&mut random, size, buckets, count);
-            met.add(&pair.line(line.as_bytes()));
-        }
-        met.end(&pair);
+        let lines = random.within(50, 500);
+        run(&generate(Kind::Blind, seed, lines), old(seed), &mut met);
     }
     assert!(met.lines >= 30_000, "{} lines", met.lines);
     for word in ["value", "keys", "done", "mismatch", "notdone", "unknown"] {

@@ -7,6 +7,7 @@ pub mod bucket;
 pub mod cluster;
 pub mod datagram;
 pub mod hash;
+pub mod printed;
 pub mod refusal;
 pub mod script;
 pub mod scripts;

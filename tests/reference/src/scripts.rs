@@ -1,7 +1,9 @@
 //! Random scripts, the same for the same seed. The bench runs alongside, so
 //! that most lines fit the state that they meet.
 
+mod blind;
 mod calm;
+mod damaged;
 mod hostile;
 mod maker;
 mod random;
@@ -31,10 +33,14 @@ pub enum Kind {
     Speed,
     /// Servers that take turns in leading, with much that arrives late.
     Rivals,
+    /// Drawn without a look at the state.
+    Blind,
+    /// A script of another kind, damaged as bytes, or noise.
+    Damaged,
 }
 
 impl Kind {
-    pub const ALL: [(&'static str, Kind); 8] = [
+    pub const ALL: [(&'static str, Kind); 10] = [
         ("ordinary", Kind::Ordinary),
         ("crowded", Kind::Crowded),
         ("hostile", Kind::Hostile),
@@ -43,6 +49,8 @@ impl Kind {
         ("limit", Kind::Limit),
         ("speed", Kind::Speed),
         ("rivals", Kind::Rivals),
+        ("blind", Kind::Blind),
+        ("damaged", Kind::Damaged),
     ];
 
     pub fn named(name: &str) -> Option<Kind> {
@@ -64,6 +72,8 @@ pub fn generate(kind: Kind, seed: u64, lines: usize) -> Vec<u8> {
         Kind::Limit => maker.limit(lines),
         Kind::Speed => maker.speed(lines),
         Kind::Rivals => maker.rivals(lines),
+        Kind::Blind => maker.blind(lines),
+        Kind::Damaged => return damaged::damaged(&mut maker.random, lines),
     }
     maker.into_text()
 }

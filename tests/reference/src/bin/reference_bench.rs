@@ -6,6 +6,14 @@ use std::io::{self, ErrorKind, Read, Write};
 const CHUNK: usize = 1 << 16;
 
 fn main() -> io::Result<()> {
+    match run() {
+        // Nobody reads the output any more.
+        Err(error) if error.kind() == ErrorKind::BrokenPipe => Ok(()),
+        ran => ran,
+    }
+}
+
+fn run() -> io::Result<()> {
     let mut input = io::stdin().lock();
     let mut output = io::stdout().lock();
     let mut script = Script::new();
