@@ -52,6 +52,11 @@ fn check_document(name: &str) -> usize {
 }
 
 #[test]
+fn the_readme() {
+    assert_eq!(check_document("README.md"), 1);
+}
+
+#[test]
 fn the_tour() {
     assert_eq!(check_document("docs/TOUR.md"), 9);
 }
