@@ -19,8 +19,9 @@ use Rattle.entries.proofs.Shifts.{map-take}
 use Rattle.entries.proofs.Views.{table-whole}
 use Rattle.entries.proofs.Comparison.{order-same}
 use Rattle.entries.proofs.Changes.{by-order, absent-value, absent-remove}
-use Rattle.checks.specs.Tests.{sound}
+use Rattle.checks.specs.Tests.{soundSlots, sound}
 use Rattle.table.specs.Form.{maxKey, bucketSize, within, fits, bucketBytes, tableOf, readBucket, sameBytes}
+use Rattle.table.specs.Steps.{Bounded, Decodes}
 use Rattle.table.proofs.Fitting.{within-parts, within-from, fits-parts}
 use Rattle.table.proofs.Reading.{Capped, sized-capped, length-bucket, one-form, read-taken, read-unfit, bytes-same}
 use Rattle.bucket.specs.declared.Outcome.the-variants.{Accepted, Malformed}
@@ -31,32 +32,42 @@ use Rattle.bucket.specs.Answers.{answer, outcomeNumber, readingOf, readN
 
 pub reading-refused : (b : List ℕ) (r : Reading) → Refused r → readBucket 4 16 b ≡ none → Read b r
 unfolding readingOf readNumber tableRead outcomeNumber
-reading-refused b r o e = record { is = rw (readingOf, o .outcome, e); number = rw (o .outcome, readNumber, e); table = rw (tableRead, e) (o .table) }
+reading-refused b r o e = record { is = rw (readingOf, o .outcome, e); number = rw (o .outcome, readNumber, e); table = rw (tableRead, e) (o .table .table); sound = o .table .sound }
 
-pub reading-taken : (b : List ℕ) (t : Decoded) (u : List Entry) → tableIn t ≡ u → readBucket 4 16 b ≡ some u → Read b (record { outcome = Accepted; table = t })
+pub reading-taken : (b : List ℕ) (t : Decoded) (u : List Entry) → tableIn t ≡ u → sound t ≡ true → readBucket 4 16 b ≡ some u → Read b (record { outcome = Accepted; table = t })
 unfolding readingOf readNumber tableRead outcomeNumber
-reading-taken b t u h e = record { is = ap some h ∙ sym e; number = rw (readNumber, e); table = rw (tableRead, e) h }
+reading-taken b t u h s e = record { is = ap some h ∙ sym e; number = rw (readNumber, e); table = rw (tableRead, e) h; sound = s }
+
+-- a decoded table is sound
+bounded-sound : (l : List Slot) → Bounded l → soundSlots l ≡ true
+unfolding soundSlots
+bounded-sound [] w = refl
+bounded-sound (s ∷ l) w = rw (soundSlots, le-leb (s .key .len) 8 (w .0), le-leb (s .value .len) 16 (w .1 .0)) (bounded-sound l (w .1 .1))
+
+decoded-sound : (b : List ℕ) (t : Decoded) → Decodes b t → sound t ≡ true
+unfolding sound
+decoded-sound b t d = rw (sound, le-leb (t .count) 4 (d .count)) (bounded-sound (take (t .count) (t .slots)) (d .lengths))
 
 -- the reader's way: the decoded table is encoded again, and the two are compared
-module _ (b : List ℕ) (t : Decoded) (d : tableIn t ≡ tableOf 4 16 b) where
+module _ (b : List ℕ) (t : Decoded) (d : Decodes b t) where
   pub reading-unfit : (r : Reading) → Refused r → fits 4 16 (tableIn t) ≡ false → Read b r
-  reading-unfit r o f = reading-refused b r o (read-unfit 4 16 b (ap (fits 4 16) (sym d) ∙ f))
+  reading-unfit r o f = reading-refused b r o (read-unfit 4 16 b (ap (fits 4 16) (sym (d .table)) ∙ f))
 
   module _ (form : List ℕ) (f : fits 4 16 (tableIn t) ≡ true) (e : form ≡ bucketBytes 4 16 (tableIn t) ++ []) where
     encoded : form ≡ bucketBytes 4 16 (tableOf 4 16 b)
-    encoded = e ∙ append-nil (bucketBytes 4 16 (tableIn t)) ∙ ap (bucketBytes 4 16) d
+    encoded = e ∙ append-nil (bucketBytes 4 16 (tableIn t)) ∙ ap (bucketBytes 4 16) (d .table)
 
     -- all 113 bytes of both
     whole : length b ≡ 113 → length form ≡ 113 → sameBytes (take 113 b) (take 113 form) ≡ sameBytes b form
     whole l m = ap₂ sameBytes (take-all 113 b (omega arith)) (take-all 113 form (omega arith))
 
     pub reading-same : length b ≡ 113 → length form ≡ 113 → sameBytes (take 113 b) (take 113 form) ≡ true → Read b (record { outcome = Accepted; table = t })
-    reading-same l m s = reading-taken b t (tableOf 4 16 b) d (read-taken 4 16 b (ap (fits 4 16) (sym d) ∙ f) (bytes-same b form (sym (whole l m) ∙ s) ∙ encoded))
+    reading-same l m s = reading-taken b t (tableOf 4 16 b) (d .table) (decoded-sound b t d) (read-taken 4 16 b (ap (fits 4 16) (sym (d .table)) ∙ f) (bytes-same b form (sym (whole l m) ∙ s) ∙ encoded))
 
     pub reading-other : (r : Reading) → Refused r → length b ≡ 113 → length form ≡ 113 → sameBytes (take 113 b) (take 113 form) ≡ false → Read b r
     unfolding readBucket
     reading-other r o l m s =
-        let g : fits 4 16 (tableOf 4 16 b) ≡ true = ap (fits 4 16) (sym d) ∙ f in
+        let g : fits 4 16 (tableOf 4 16 b) ≡ true = ap (fits 4 16) (sym (d .table)) ∙ f in
         let n : sameBytes b (bucketBytes 4 16 (tableOf 4 16 b)) ≡ false = ap (sameBytes b) (sym encoded) ∙ sym (whole l m) ∙ s in
         reading-refused b r o (rw (readBucket, g, n))
 

@@ -59,15 +59,21 @@ readNumber b = elim (readBucket 4 16 b) [ none ↦ 13 | some t ↦ 0 ]
 unfoldable pub tableRead : List ℕ → List Entry
 tableRead b = elim (readBucket 4 16 b) [ none ↦ [] | some t ↦ t ]
 
+-- no entries; every table that a call gives can be written as it stands
+pub record Empty (t : Decoded) : Type 0 where
+  pub table : tableIn t ≡ []
+  pub sound : sound t ≡ true
+
 -- the number, and the table, which has no entries where the bytes are refused; slots that are not in use may hold anything
 pub record Read (b : List ℕ) (r : Reading) : Type 0 where
   pub is : readingOf r ≡ readBucket 4 16 b
   pub number : outcomeNumber (r .outcome) ≡ readNumber b
   pub table : tableIn (r .table) ≡ tableRead b
+  pub sound : sound (r .table) ≡ true
 
 pub record Refused (r : Reading) : Type 0 where
   pub outcome : r .outcome ≡ Malformed
-  pub table : tableIn (r .table) ≡ []
+  pub table : Empty (r .table)
 
 -- ---- writing
 

@@ -14,13 +14,12 @@ use entries::slots::store;
 use table::decoding::decode;
 use table::encoding::encode;
 ghost use mathlib.Core.Path.{_≡_};
-ghost use mathlib.Core.List.{[]};
 ghost use Prim.Native.Nat.{_≤_};
 ghost use lib.ListN.{length, take};
 ghost use Rattle.entries.specs.Entries.{valueOf};
 ghost use Rattle.entries.specs.Decoded.{keyBytes, valueBytes, tableIn};
 ghost use Rattle.table.specs.Form.{readBucket, sameBytes};
-ghost use Rattle.bucket.specs.Answers.{slotKeys, answer, outcomeNumber, writtenNumber, changeNumber, Read, Refused, keysIn, listed, writeOf, lookOf, storable, putIn, putOf, removeOf, listOf};
+ghost use Rattle.bucket.specs.Answers.{slotKeys, answer, outcomeNumber, writtenNumber, changeNumber, Empty, Read, Refused, keysIn, listed, writeOf, lookOf, storable, putIn, putOf, removeOf, listOf};
 
 // Whether bucket bytes are taken. Document 01's number for each case is `outcomeNumber`.
 pub enum Outcome {
@@ -42,7 +41,7 @@ pub enum Change {
     Malformed,
 }
 
-// The table that was read, where the outcome is Accepted.
+// The table that was read, where the outcome is Accepted; no entries else. Its count and lengths are within its arrays.
 pub struct Reading {
     pub outcome: Outcome,
     pub table: Decoded,
@@ -77,8 +76,8 @@ fn same_bytes(a: &[u8], b: &[u8], n: usize) -> bool
 }
 
 // A table of no entries.
-fn no_table() -> Decoded
-    ensures { λ r. ⌜ tableIn r ≡ [] ⌝ }
+pub fn no_table() -> Decoded
+    ensures { λ r. ⌜ Empty r ⌝ }
 {
     let s = blank_slot();
     let slots = [s; 4];

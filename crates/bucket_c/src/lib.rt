@@ -123,7 +123,7 @@ fn slot_from(lengths: &[u8], bytes: &[u8], i: usize) -> Slot
 }
 
 // The table of two slices, whatever its count.
-fn table_from(count: usize, lengths: &[u8], bytes: &[u8]) -> Decoded
+pub fn table_from(count: usize, lengths: &[u8], bytes: &[u8]) -> Decoded
     ensures { λ r. ⌜ r ≡ tableFrom count (now (lengths .entry)) (now (bytes .entry)) ⌝ }
 {
     let a = slot_from(lengths, bytes, 0);

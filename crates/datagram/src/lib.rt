@@ -1,14 +1,13 @@
 // Datagrams: read from lent bytes, and written to them.
+use bucket::no_table;
 use entries::Decoded;
 use fields::addressed;
 use fields::content;
 use fields::four;
 use fields::has_form;
 use fields::no_round;
-use fields::no_table;
 use fields::put_header;
 use fields::put_version;
-use fields::trim;
 use fields::two;
 ghost use mathlib.Core.Path.{_≡_};
 ghost use mathlib.Core.List.{_++_};
@@ -165,7 +164,7 @@ fn read_full(bytes: &[u8]) -> Reading
         let t = r.table;
         let o = r.outcome;
         match o {
-            bucket::Outcome::Accepted => return read_version(bytes, trim(t)),
+            bucket::Outcome::Accepted => return read_version(bytes, t),
             bucket::Outcome::Malformed => return refused(Outcome::BadBucket),
         }
     }

@@ -1,16 +1,16 @@
 // The calls on datagrams for programs in other languages: numbers and slices only.
+use bucket_c::table_from;
 use datagram::Datagram;
 use datagram::Outcome;
 use datagram::Written;
 use datagram::read;
 use datagram::write;
-use fields::trim;
-use table::decoding::decode;
 ghost use mathlib.Core.Path.{_≡_};
 ghost use Rattle.bucket.specs.Answers.{answer};
-ghost use Rattle.fields.specs.Form.{version, readDatagram};
-ghost use Rattle.datagram.specs.Answers.{outcomeNumber, writtenNumber};
-ghost use Rattle.datagram_c.specs.Exports.{parsedNumber, rewritten, writtenFrom};
+ghost use Rattle.bucket_c.specs.Exports.{tableFrom};
+ghost use Rattle.fields.specs.Form.{readDatagram};
+ghost use Rattle.datagram.specs.Answers.{outcomeNumber, writtenNumber, writeOf};
+ghost use Rattle.datagram_c.specs.Exports.{parsedNumber, rewritten};
 
 fn outcome_number(o: Outcome) -> u32
     ensures { λ r. ⌜ r ≡ outcomeNumber o ⌝ }
@@ -61,7 +61,7 @@ pub extern "C" fn datagram_rewrite(bytes: &[u8], out: &mut [u8]) -> u32
     }
 }
 
-// A datagram of numbers, with a table of 113 bytes, which are read by the count and the lengths in them.
+// A datagram of numbers, with a table of `count` entries, whose lengths and bytes stand in two slices as for `bucket_write`.
 #[no_mangle]
 pub extern "C" fn datagram_write(
     kind: u8,
@@ -72,26 +72,25 @@ pub extern "C" fn datagram_write(
     round: u32,
     number: u16,
     counter: u32,
-    table: &[u8],
+    count: usize,
+    lengths: &[u8],
+    bytes: &[u8],
     out: &mut [u8],
 ) -> u32
-    ensures { λ r. ⌜ answer r (now (out .exit)) ≡ writtenFrom (λ t. record { kind = kind; from = from; to = to; bucket = bucket; election = election; round = round; version = version number counter; table = t }) (now (table .entry)) (now (out .entry)) ⌝ }
+    ensures { λ r. ⌜ answer r (now (out .exit)) ≡ writeOf (record { kind = kind; from = from; to = to; bucket = bucket; election = election; round = round; «version_election» = number; «version_counter» = counter; table = tableFrom count (now (lengths .entry)) (now (bytes .entry)) }) (now (out .entry)) ⌝ }
 {
-    if table.len() == 113 {
-        let t = trim(decode(table));
-        let d = Datagram {
-            kind,
-            from,
-            to,
-            bucket,
-            election,
-            round,
-            version_election: number,
-            version_counter: counter,
-            table: t,
-        };
-        let w = write(d, out);
-        return written_number(w);
-    }
-    13
+    let table = table_from(count, lengths, bytes);
+    let d = Datagram {
+        kind,
+        from,
+        to,
+        bucket,
+        election,
+        round,
+        version_election: number,
+        version_counter: counter,
+        table,
+    };
+    let w = write(d, out);
+    written_number(w)
 }

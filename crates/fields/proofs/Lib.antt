@@ -3,4 +3,3 @@ pub mod Rules
 pub mod Parsing
 pub mod Numbers
 pub mod OneForm
-pub mod Trimming

@@ -1,11 +1,5 @@
 // The fields of a datagram: the rules on them, and numbers in bytes, the highest first.
 use entries::Decoded;
-use entries::Key;
-use entries::Slot;
-use entries::Value;
-use entries::keys::key_length;
-use entries::keys::value_length;
-use entries::slots::blank_slot;
 use entries::slots::count_of;
 ghost use mathlib.Core.Path.{_≡_};
 ghost use mathlib.Core.List.{_∷_, [], _++_};
@@ -17,7 +11,6 @@ ghost use lib.Seq.{sets};
 ghost use Rattle.entries.specs.Decoded.{tableIn};
 ghost use Rattle.table.specs.Form.{fits};
 ghost use Rattle.checks.specs.Tests.{sound};
-ghost use Rattle.fields.specs.Trim.{TrimmedSlot, Trimmed, Empty};
 ghost use Rattle.fields.specs.Form.{version, addressed, settled, big, versionBytes, number};
 
 pub fn addressed(from: u8, to: u8, bucket: u8, election: u16) -> bool
@@ -79,49 +72,6 @@ pub fn has_form(t: Decoded) -> bool
         return checks::fits(t);
     }
     false
-}
-
-fn trim_slot(s: Slot) -> Slot
-    ensures { λ r. ⌜ TrimmedSlot s r ⌝ }
-{
-    let key = s.key;
-    let value = s.value;
-    let k = key_length(key);
-    let v = value_length(value);
-    let kb = key.bytes;
-    let vb = value.bytes;
-    let short_key = Key { bytes: kb, len: k };
-    let short_value = Value { bytes: vb, len: v };
-    Slot {
-        key: short_key,
-        value: short_value,
-    }
-}
-
-// The same table with its count and lengths within the arrays, so that it can be written.
-pub fn trim(t: Decoded) -> Decoded
-    ensures { λ r. ⌜ Trimmed t r ⌝ }
-{
-    let n = count_of(t);
-    let slots = t.slots;
-    let a = trim_slot(slots[0]);
-    let b = trim_slot(slots[1]);
-    let c = trim_slot(slots[2]);
-    let d = trim_slot(slots[3]);
-    let cut = [a, b, c, d];
-    Decoded {
-        count: n,
-        slots: cut,
-    }
-}
-
-// A table of no entries.
-pub fn no_table() -> Decoded
-    ensures { λ r. ⌜ Empty r ⌝ }
-{
-    let s = blank_slot();
-    let slots = [s; 4];
-    Decoded { count: 0, slots }
 }
 
 pub fn two(a: u8, b: u8) -> u16

@@ -1,6 +1,5 @@
 -- `read_full` meets its contract.
 use mathlib.Core.Path.{sym, ap, _∙_}
-use mathlib.Core.Option.{some}
 use Rattle.table.specs.Form.{readBucket}
 use Rattle.bucket.proofs.Answering.{was-read, was-refused}
 use Rattle.fields.proofs.Parsing.{tail-part, read-full, read-full-refused, read-full-other}
@@ -24,16 +23,13 @@ read-requires c κs = search needs
 enum-told : tie.Need-enum-told
 enum-told c = search needs
 
-trim-requires : tie.Need-trim-requires
-trim-requires c κs = search needs
-
 read-version-requires : tie.Need-read-version-requires
 read-version-requires c κs = search needs
 
 returns : tie.Need-returns
 returns c =
     stands-too (c .read-version .ensures)
-    (sym (read-full (c .before .before .before .before .before .before .before .before .before .args .bytes .now) (c .before .before .before .before .before .before .before .before .before .pre) _ (c .before .before .before .before .before .before .before .if1 .taken) (ap (readBucket 4 16) (sym (tail-part 16 (c .before .before .before .before .before .before .before .before .before .args .bytes .now))) ∙ was-read (c .before .before .before .before .before .read .ensures) (c .before .before .enum-told .given .1) ∙ ap some (sym (c .before .trim .ensures .table)))))
+    (sym (read-full (c .before .before .before .before .before .before .before .before .args .bytes .now) (c .before .before .before .before .before .before .before .before .pre) _ (c .before .before .before .before .before .before .if1 .taken) (ap (readBucket 4 16) (sym (tail-part 16 (c .before .before .before .before .before .before .before .before .args .bytes .now))) ∙ was-read (c .before .before .before .before .read .ensures) (c .before .enum-told .given .1))))
 
 enum-told-2 : tie.Need-enum-told-2
 enum-told-2 c = search needs
@@ -61,7 +57,6 @@ read-full-spec =
     part-read-end
     read-requires
     enum-told
-    trim-requires
     read-version-requires
     returns
     enum-told-2
