@@ -145,8 +145,11 @@ pub mod datagram {
                 round: u32,
                 number: u16,
                 counter: u32,
-                table: *const u8,
-                table_len: usize,
+                count: usize,
+                lengths: *const u8,
+                lengths_len: usize,
+                bytes: *const u8,
+                bytes_len: usize,
                 out: *mut u8,
                 out_len: usize,
             ) -> u32;
@@ -163,8 +166,14 @@ pub mod datagram {
         }
     }
 
-    /// The table is handed over as bucket bytes.
-    pub fn write(header: &Header, table: &[u8], out: &mut [u8]) -> u32 {
+    /// The table is handed over as to `bucket::write`.
+    pub fn write(
+        header: &Header,
+        count: usize,
+        lengths: &[u8],
+        bytes: &[u8],
+        out: &mut [u8],
+    ) -> u32 {
         unsafe {
             exported::datagram_write(
                 header.kind,
@@ -175,8 +184,11 @@ pub mod datagram {
                 header.round,
                 header.version.number,
                 header.version.counter,
-                table.as_ptr(),
-                table.len(),
+                count,
+                lengths.as_ptr(),
+                lengths.len(),
+                bytes.as_ptr(),
+                bytes.len(),
                 out.as_mut_ptr(),
                 out.len(),
             )

@@ -4,7 +4,7 @@
 mod common;
 
 use common::{
-    any_bytes, any_entries, bytes, damage, form, full_table, laid_out, table, LENGTHS, OLD,
+    any_bytes, any_entries, bytes, damage, form, full_table, laid_out, table, Rows, LENGTHS, OLD,
 };
 use reference::bucket::{Key, Pair, Table, Value};
 use reference::scripts::Random;
@@ -235,69 +235,6 @@ fn calls_agree_on_tables_cut_or_extended() {
     }
 }
 
-/// A table as the proved writer takes it: entry i has its two lengths at 2i of
-/// `lengths`, its key at 24i and its value at 24i + 8 of `bytes`.
-struct Rows {
-    count: usize,
-    lengths: Vec<u8>,
-    bytes: Vec<u8>,
-}
-
-impl Rows {
-    /// A table, with any bytes where none count.
-    fn of(random: &mut Random, table: &Table) -> Rows {
-        let count = table.keys().len();
-        let mut rows = Rows {
-            count,
-            lengths: any_bytes(random, 8),
-            bytes: any_bytes(random, 96),
-        };
-        for (at, (key, value)) in table.pairs()[..count].iter().enumerate() {
-            rows.lengths[2 * at] = key.len() as u8;
-            rows.lengths[2 * at + 1] = value.len() as u8;
-            rows.bytes[24 * at..][..key.len()].copy_from_slice(key);
-            rows.bytes[24 * at + 8..][..value.len()].copy_from_slice(value);
-        }
-        rows
-    }
-
-    /// One fault, or what may be one.
-    fn damage(&mut self, random: &mut Random) {
-        match random.below(6) {
-            0 => self.count = *random.pick(&[0, 1, 4, 5, 6, 255, 256, usize::MAX]),
-            1 => {
-                if let Some(length) = self.lengths.get_mut(random.below(8)) {
-                    *length = *random.pick(&[0, 1, 8, 9, 16, 17, 255]);
-                }
-            }
-            2 => self.lengths.truncate(random.below(8)),
-            3 => self.bytes.truncate(random.below(96)),
-            4 => {
-                let first = self.bytes.len().min(24);
-                self.bytes.rotate_left(first);
-            }
-            _ if self.bytes.len() >= 48 => self.bytes.copy_within(0..24, 24),
-            _ => {}
-        }
-    }
-
-    /// The keys and values; missing bytes are 0. Five entries are too many,
-    /// whatever they are.
-    fn pairs(&self) -> Vec<(Vec<u8>, Vec<u8>)> {
-        let byte = |from: &[u8], at: usize| from.get(at).copied().unwrap_or(0);
-        let part = |at: usize, length: u8| {
-            let places = at..at + usize::from(length);
-            places.map(|at| byte(&self.bytes, at)).collect()
-        };
-        let entry = |at: usize| {
-            let key = part(24 * at, byte(&self.lengths, 2 * at));
-            let value = part(24 * at + 8, byte(&self.lengths, 2 * at + 1));
-            (key, value)
-        };
-        (0..self.count.min(5)).map(entry).collect()
-    }
-}
-
 fn compare_writing(rows: &Rows, room: usize) {
     let mut expected = vec![OLD; room];
     let pairs = rows.pairs();
@@ -314,16 +251,8 @@ fn compare_writing(rows: &Rows, room: usize) {
 #[test]
 fn writing_agrees() {
     let mut random = Random::new(17);
-    for turn in 0..30_000 {
-        let table = if turn % 10 == 0 {
-            full_table(&mut random)
-        } else {
-            table(&mut random)
-        };
-        let mut rows = Rows::of(&mut random, &table);
-        for _ in 0..random.below(3) {
-            rows.damage(&mut random);
-        }
+    for _ in 0..30_000 {
+        let rows = Rows::any(&mut random);
         compare_writing(&rows, *random.pick(&LENGTHS));
     }
 }

@@ -3,8 +3,8 @@
 
 mod common;
 
-use common::{any_bytes, any_entries, damage, full_table, laid_out, table, LENGTHS, OLD};
-use reference::bucket::Table;
+use common::{any_bytes, any_entries, damage, full_table, laid_out, table, Rows, LENGTHS, OLD};
+use reference::bucket::{Pair, Table};
 use reference::datagram::{Header, Version};
 use reference::scripts::Random;
 
@@ -176,35 +176,19 @@ fn reading_and_writing_agree_on_random_bytes() {
     }
 }
 
-/// The entries of 113 bytes as the exported writer takes them: by the count
-/// and the lengths, each held to its greatest; offsets are not looked at.
-fn entries_in(bucket: &[u8]) -> Vec<(Vec<u8>, Vec<u8>)> {
-    let count = usize::from(bucket[0]).min(4);
-    let mut at = 1 + 4 * count;
-    let mut part = |length: u8, most: usize| {
-        let end = at + usize::from(length).min(most);
-        let bytes = bucket[at..end].to_vec();
-        at = end;
-        bytes
-    };
-    let heads = bucket[1..1 + 4 * count].chunks_exact(4);
-    heads
-        .map(|head| (part(head[1], 8), part(head[3], 16)))
-        .collect()
-}
-
-fn compare_writing(header: &Header, bucket: &[u8], room: usize) {
+fn compare_writing(header: &Header, rows: &Rows, room: usize) {
     let mut expected = vec![OLD; room];
-    let entries = entries_in(bucket);
-    let entries: Vec<_> = entries.iter().map(|(k, v)| (&k[..], &v[..])).collect();
-    let written = reference::datagram::write(header, &entries, &mut expected);
+    let pairs = rows.pairs();
+    let pairs: Vec<Pair> = pairs.iter().map(|(k, v)| (&k[..], &v[..])).collect();
+    let written = reference::datagram::write(header, &pairs, &mut expected);
     let number = u32::from(written.err().unwrap_or(0));
     let mut out = vec![OLD; room];
-    let answer = forms::datagram::write(header, bucket, &mut out);
-    assert_eq!((answer, out), (number, expected), "{header:?} {entries:?}");
+    let answer = forms::datagram::write(header, rows.count, &rows.lengths, &rows.bytes, &mut out);
+    assert_eq!((answer, out), (number, expected), "{header:?} {pairs:?}");
 }
 
-/// Headers of small numbers, with tables that have a form or have none.
+/// Headers of small numbers, with tables that have a form or have none, such
+/// as five entries or a key of nine bytes.
 #[test]
 fn writing_agrees_on_random_headers_and_tables() {
     let mut random = Random::new(27);
@@ -222,7 +206,7 @@ fn writing_agrees_on_random_headers_and_tables() {
                 counter: small(1) as u32,
             },
         };
-        let bucket = laid_out(&any_entries(&mut random));
-        compare_writing(&header, &bucket, room(&mut random));
+        let rows = Rows::any(&mut random);
+        compare_writing(&header, &rows, room(&mut random));
     }
 }

@@ -8,6 +8,7 @@ pub mod cluster;
 pub mod datagram;
 pub mod hash;
 pub mod printed;
+pub mod random_tables;
 pub mod refusal;
 pub mod script;
 pub mod scripts;

@@ -3,6 +3,7 @@
 use reference::bucket::{self, Full, Key, Pair, Table, Value};
 use reference::datagram::{self, Header, Version};
 use reference::hash::fnv1a;
+use reference::random_tables::table;
 use reference::scripts::Random;
 
 #[test]
@@ -24,22 +25,6 @@ fn published_fnv_vectors() {
     for (text, hash) in vectors {
         assert_eq!(fnv1a(text.as_bytes()), hash, "{text:?}");
     }
-}
-
-fn bytes(random: &mut Random, least: usize, most: usize) -> Vec<u8> {
-    let length = random.within(least, most);
-    (0..length).map(|_| random.byte() & 3).collect()
-}
-
-/// A table of up to four keys, which are often close to each other.
-fn table(random: &mut Random) -> Table {
-    let mut table = Table::EMPTY;
-    for _ in 0..random.below(6) {
-        let key = Key::new(&bytes(random, 1, 8));
-        let value = Value::new(&bytes(random, 1, 16));
-        let _ = table.put(&key, &value);
-    }
-    table
 }
 
 fn write(table: &Table) -> [u8; 113] {

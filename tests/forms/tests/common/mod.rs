@@ -3,6 +3,7 @@
 #![allow(dead_code)]
 
 use reference::bucket::{self, Key, Table, Value};
+pub use reference::random_tables::{bytes, table};
 use reference::scripts::Random;
 
 /// Lengths that lent bytes come in: too short, right and too long.
@@ -11,25 +12,8 @@ pub const LENGTHS: [usize; 9] = [0, 1, 112, 113, 114, 128, 129, 130, 5000];
 /// Fills lent outputs before a call.
 pub const OLD: u8 = 0xaa;
 
-/// Few different bytes, so that keys are often close to each other.
-pub fn bytes(random: &mut Random, least: usize, most: usize) -> Vec<u8> {
-    let length = random.within(least, most);
-    (0..length).map(|_| random.byte() & 3).collect()
-}
-
 pub fn any_bytes(random: &mut Random, length: usize) -> Vec<u8> {
     (0..length).map(|_| random.byte()).collect()
-}
-
-/// A table of up to four keys.
-pub fn table(random: &mut Random) -> Table {
-    let mut table = Table::EMPTY;
-    for _ in 0..random.below(6) {
-        let key = Key::new(&bytes(random, 1, 8));
-        let value = Value::new(&bytes(random, 1, 16));
-        let _ = table.put(&key, &value);
-    }
-    table
 }
 
 /// A table with the greatest lengths, which fills its 113 bytes.
@@ -94,5 +78,82 @@ pub fn damage(random: &mut Random, bytes: &mut [u8]) {
             2 => 0,
             _ => random.byte(),
         };
+    }
+}
+
+/// A table as the proved writers take it: entry i has its two lengths at 2i of
+/// `lengths`, its key at 24i and its value at 24i + 8 of `bytes`.
+pub struct Rows {
+    pub count: usize,
+    pub lengths: Vec<u8>,
+    pub bytes: Vec<u8>,
+}
+
+impl Rows {
+    /// A random table with up to two faults: too many entries and lengths above
+    /// the arrays among them.
+    pub fn any(random: &mut Random) -> Rows {
+        let table = match random.below(10) {
+            0 => full_table(random),
+            _ => table(random),
+        };
+        let mut rows = Rows::of(random, &table);
+        for _ in 0..random.below(3) {
+            rows.damage(random);
+        }
+        rows
+    }
+
+    /// A table, with any bytes where none count.
+    fn of(random: &mut Random, table: &Table) -> Rows {
+        let count = table.keys().len();
+        let mut rows = Rows {
+            count,
+            lengths: any_bytes(random, 8),
+            bytes: any_bytes(random, 96),
+        };
+        for (at, (key, value)) in table.pairs()[..count].iter().enumerate() {
+            rows.lengths[2 * at] = key.len() as u8;
+            rows.lengths[2 * at + 1] = value.len() as u8;
+            rows.bytes[24 * at..][..key.len()].copy_from_slice(key);
+            rows.bytes[24 * at + 8..][..value.len()].copy_from_slice(value);
+        }
+        rows
+    }
+
+    /// One fault, or what may be one.
+    fn damage(&mut self, random: &mut Random) {
+        match random.below(6) {
+            0 => self.count = *random.pick(&[0, 1, 4, 5, 6, 255, 256, usize::MAX]),
+            1 => {
+                if let Some(length) = self.lengths.get_mut(random.below(8)) {
+                    *length = *random.pick(&[0, 1, 8, 9, 16, 17, 255]);
+                }
+            }
+            2 => self.lengths.truncate(random.below(8)),
+            3 => self.bytes.truncate(random.below(96)),
+            4 => {
+                let first = self.bytes.len().min(24);
+                self.bytes.rotate_left(first);
+            }
+            _ if self.bytes.len() >= 48 => self.bytes.copy_within(0..24, 24),
+            _ => {}
+        }
+    }
+
+    /// The keys and values; missing bytes are 0. Five entries are too many,
+    /// whatever they are.
+    pub fn pairs(&self) -> Vec<(Vec<u8>, Vec<u8>)> {
+        let byte = |from: &[u8], at: usize| from.get(at).copied().unwrap_or(0);
+        let part = |at: usize, length: u8| {
+            let places = at..at + usize::from(length);
+            places.map(|at| byte(&self.bytes, at)).collect()
+        };
+        let entry = |at: usize| {
+            let key = part(24 * at, byte(&self.lengths, 2 * at));
+            let value = part(24 * at + 8, byte(&self.lengths, 2 * at + 1));
+            (key, value)
+        };
+        (0..self.count.min(5)).map(entry).collect()
     }
 }

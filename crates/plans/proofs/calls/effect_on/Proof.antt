@@ -33,7 +33,7 @@ effect-requires c κs = search needs
 returns : tie.Need-returns
 returns c =
     let a = c .before .before .before .before .args in
-    c .effect .ensures ∙ ap (effect (wordsIn (a .w))) (c .before .decode .ensures ∙ content-is (a .copies .now) (a .k) (a .k * 128 + 113 - a .k * 128) (omega arith))
+    c .effect .ensures ∙ ap (effect (wordsIn (a .w))) (c .before .decode .ensures .table ∙ content-is (a .copies .now) (a .k) (a .k * 128 + 113 - a .k * 128) (omega arith))
 
 pub effect-on-spec : {M : Type 1} → statement M
 effect-on-spec =

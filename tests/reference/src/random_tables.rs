@@ -1,0 +1,21 @@
+//! Random bytes and tables for the tests.
+
+use crate::bucket::{Key, Table, Value};
+use crate::scripts::Random;
+
+/// Few different bytes, so that keys are often close to each other.
+pub fn bytes(random: &mut Random, least: usize, most: usize) -> Vec<u8> {
+    let length = random.within(least, most);
+    (0..length).map(|_| random.byte() & 3).collect()
+}
+
+/// A table of up to four keys.
+pub fn table(random: &mut Random) -> Table {
+    let mut table = Table::EMPTY;
+    for _ in 0..random.below(6) {
+        let key = Key::new(&bytes(random, 1, 8));
+        let value = Value::new(&bytes(random, 1, 16));
+        let _ = table.put(&key, &value);
+    }
+    table
+}
