@@ -1,34 +1,37 @@
 // The FNV-1a hash of 32 bits, and a key's bucket.
 use crate::print;
+use crate::words;
+use parse::Number;
+use parse::digits::number;
 
-fn hashed(case: &[u8], key: &[u8]) {
-    print::name(case);
-    print::hash(hash::fnv1a(key));
-    print::end_of_line();
+// `hash KEY NAME`.
+pub fn hash(line: &[u8]) -> bool {
+    let mut key = words::room();
+    let n = words::bytes(words::word(line, 0), &mut key);
+    if words::are_told(n, 0, 0) {
+        let h = hash::fnv1a(words::part(&key, n));
+        print::name(words::past(line, 1));
+        print::hash(h);
+        print::end_of_line();
+        return true;
+    }
+    false
 }
 
-// The vectors that the hash's authors publish.
-pub fn published() {
-    hashed(b"fnv1a of no bytes", b"");
-    hashed(b"fnv1a of a", b"a");
-    hashed(b"fnv1a of b", b"b");
-    hashed(b"fnv1a of c", b"c");
-    hashed(b"fnv1a of d", b"d");
-    hashed(b"fnv1a of e", b"e");
-    hashed(b"fnv1a of f", b"f");
-    hashed(b"fnv1a of fo", b"fo");
-    hashed(b"fnv1a of foo", b"foo");
-    hashed(b"fnv1a of foob", b"foob");
-    hashed(b"fnv1a of fooba", b"fooba");
-    hashed(b"fnv1a of foobar", b"foobar");
-}
-
-// Document 01's rows P1 to P3.
-pub fn rows() {
-    hashed(b"P1 hash of 61", b"a");
-    print::answered(b"P1 bucket of 61 of 4", hash::bucket_of(b"a", 4));
-    print::answered(b"P1 bucket of 61 of 8", hash::bucket_of(b"a", 8));
-    hashed(b"P2 hash of 65", b"e");
-    print::answered(b"P2 bucket of 65 of 4", hash::bucket_of(b"e", 4));
-    print::answered(b"P3 bucket of 62 of 4", hash::bucket_of(b"b", 4));
+// `bucket_of KEY BUCKETS NAME`.
+pub fn bucket_of(line: &[u8]) -> bool {
+    let mut key = words::room();
+    let n = words::bytes(words::word(line, 0), &mut key);
+    let buckets = number(words::word(line, 1));
+    match buckets {
+        Number::Is(b) => {
+            if words::are_told(n, 0, 0) {
+                let i = hash::bucket_of(words::part(&key, n), b);
+                print::answered(words::past(line, 2), i);
+                return true;
+            }
+            false
+        }
+        Number::Not => false,
+    }
 }

@@ -1,0 +1,76 @@
+-- `vectors::words::bytes` is safe and ends: a piece lies within the slice. The measure is what is left of it.
+use Prim.Native.Nat.{_≤_, _+_, _-_}
+use mathlib.Core.Path.{_≡_}
+use lib.ListN.{length}
+use borrow.Author.Needs.{needs}
+use Rattle.vectors.proofs.words.bytes.Statement.{statement}
+use Rattle.vectors.proofs.words.bytes.Tie as tie
+
+abbrev Inv-loop : tie.InvT-loop
+Inv-loop s out₀ at₀ from₀ out at from = (from ≤ length s + 1) × (length out ≡ length out₀)
+
+abbrev μ-loop : tie.MeasureT-loop
+μ-loop s out₀ at₀ from₀ out at from = length s + 1 - from
+
+slice-aggregate-same-word : tie.Need-slice-aggregate-same-word Inv-loop μ-loop
+slice-aggregate-same-word c = search needs
+
+same-word-requires : tie.Need-same-word-requires Inv-loop μ-loop
+same-word-requires c κs = search needs
+
+returns : tie.Need-returns Inv-loop μ-loop
+returns c = search needs
+
+loop-holds : tie.Need-loop-holds Inv-loop μ-loop
+loop-holds c = search needs
+
+next-requires : tie.Need-next-requires Inv-loop μ-loop
+next-requires c κs = search needs
+
+sub-piece : tie.Need-sub-piece Inv-loop μ-loop
+sub-piece c = search needs
+
+part-piece-start : tie.Need-part-piece-start Inv-loop μ-loop
+part-piece-start c = search needs
+
+part-piece-end : tie.Need-part-piece-end Inv-loop μ-loop
+part-piece-end c = search needs
+
+piece-requires : tie.Need-piece-requires Inv-loop μ-loop
+piece-requires c κs = search needs
+
+add-from : tie.Need-add-from Inv-loop μ-loop
+add-from c = search needs
+
+loop-less : tie.Need-loop-less Inv-loop μ-loop
+loop-less c = search needs
+
+loop-again : tie.Need-loop-again Inv-loop μ-loop
+loop-again c = search needs
+
+same-length : tie.Need-same-length Inv-loop μ-loop
+same-length c = search needs
+
+returns-2 : tie.Need-returns-2 Inv-loop μ-loop
+returns-2 c = search needs
+
+pub bytes-spec : {M : Type 1} → statement M
+bytes-spec =
+    tie.close
+    (tie.spec
+    Inv-loop
+    μ-loop
+    slice-aggregate-same-word
+    same-word-requires
+    returns
+    loop-holds
+    next-requires
+    sub-piece
+    part-piece-start
+    part-piece-end
+    piece-requires
+    add-from
+    loop-less
+    loop-again
+    same-length
+    returns-2)
