@@ -1,139 +1,96 @@
-// Datagrams that are read and written. The answers are document 01's numbers, 0 where nothing is refused.
+// Datagrams that are read and written.
 use crate::print;
 use crate::words;
+use crate::words::byte_at;
+use crate::words::word;
 use datagram::Datagram;
-use datagram::Outcome;
-use datagram::Reading;
+use datagram_c::datagram_read;
 use datagram_c::datagram_write;
 use entries::slots::count_of;
 use fields::four;
 use fields::two;
-use parse::Number;
-use parse::digits::number;
+ghost use Prim.Native.Nat.{_≤_};
 
-fn outcome_number(o: Outcome) -> u32 {
-    match o {
-        Outcome::Accepted => 0,
-        Outcome::BadBucket => 13,
-        Outcome::BadDatagram => 14,
-    }
-}
-
-fn field(name: &[u8], n: u32) {
+// A number behind its name.
+fn field(i: usize, n: u32) {
+    let names = b"kind from to bucket election round version entries";
     print::text(b" ");
-    print::text(name);
+    print::text(word(names, i));
     print::number(n);
 }
 
 // The version of a datagram, and how many entries its table has.
 fn content(d: Datagram) {
     let t = d.table;
-    field(b"version", d.version_election as u32);
+    field(6, d.version_election as u32);
     print::number(d.version_counter);
-    field(b"entries", count_of(t) as u32);
+    field(7, count_of(t) as u32);
 }
 
-fn fields(d: Datagram) {
-    field(b"kind", d.kind as u32);
-    field(b"from", d.from as u32);
-    field(b"to", d.to as u32);
-    field(b"bucket", d.bucket as u32);
-    field(b"election", d.election as u32);
-    field(b"round", d.round);
-    content(d);
+fn header(d: Datagram) {
+    field(0, d.kind as u32);
+    field(1, d.from as u32);
+    field(2, d.to as u32);
+    field(3, d.bucket as u32);
+    field(4, d.election as u32);
+    field(5, d.round);
 }
 
 // The number, and the fields where the datagram is taken.
-fn answered(name: &[u8], r: Reading) {
-    let o = r.outcome;
+pub fn read(name: &[u8], bytes: &[u8]) {
+    let r = datagram::read(bytes);
     let d = r.datagram;
-    let n = outcome_number(o);
+    let n = datagram_read(bytes);
     print::name(name);
     print::number(n);
     if n == 0 {
-        fields(d);
+        header(d);
+        content(d);
     }
-    print::end_of_line();
+    print::text(b"\n");
 }
 
-// `datagram_read BYTES NAME`.
-pub fn read(line: &[u8]) -> bool {
-    let mut b = words::room();
-    let n = words::bytes(words::word(line, 0), &mut b);
-    if words::are_told(n, 0, 0) {
-        answered(words::past(line, 1), datagram::read(words::part(&b, n)));
-        return true;
-    }
-    false
+fn two_at(s: &[u8], i: usize) -> u16
+    requires { ⌜ i ≤ 16 ⌝ }
+{
+    two(byte_at(s, i), byte_at(s, i + 1))
 }
 
-// `datagram_write HEADER COUNT LENGTHS BYTES OUT NAME`, where HEADER is the sixteen bytes before a bucket.
-pub fn write(line: &[u8]) -> bool {
-    let mut h = words::room();
-    let n = words::bytes(words::word(line, 0), &mut h);
-    let count = number(words::word(line, 1));
-    if n == 16 {
-        match count {
-            Number::Is(c) => return write_entries(&h, c as usize, words::past(line, 2)),
-            Number::Not => return false,
-        }
-    }
-    false
+fn four_at(s: &[u8], i: usize) -> u32
+    requires { ⌜ i ≤ 16 ⌝ }
+{
+    four(
+        byte_at(s, i),
+        byte_at(s, i + 1),
+        byte_at(s, i + 2),
+        byte_at(s, i + 3),
+    )
 }
 
-fn write_entries(header: &[u8; 5000], count: usize, line: &[u8]) -> bool {
-    let mut h = words::room();
-    let mut b = words::room();
-    let mut out = words::room();
-    let n = words::bytes(words::word(line, 0), &mut h);
-    let m = words::bytes(words::word(line, 1), &mut b);
-    let l = words::bytes(words::word(line, 2), &mut out);
-    if words::are_told(n, m, l) {
-        let name = words::past(line, 3);
-        written(
-            name,
-            header,
-            count,
-            words::part(&h, n),
-            words::part(&b, m),
-            &mut out,
-            l,
-        );
-        return true;
-    }
-    false
-}
-
-// The first n bytes of `out` are lent.
-fn written(
-    name: &[u8],
-    header: &[u8; 5000],
-    count: usize,
-    lengths: &[u8],
-    bytes: &[u8],
-    out: &mut [u8],
-    n: usize,
-) {
-    let h = header;
-    let election = two(h[4], h[5]);
-    let round = four(h[6], h[7], h[8], h[9]);
-    let version = two(h[10], h[11]);
-    let counter = four(h[12], h[13], h[14], h[15]);
-    if n <= out.len() {
-        let r = datagram_write(
-            h[0],
-            h[1],
-            h[2],
-            h[3],
-            election,
-            round,
-            version,
-            counter,
-            count,
-            lengths,
-            bytes,
-            &mut out[0..n],
-        );
-        print::answered_with(name, r, &out[0..n]);
-    }
+// Sixteen bytes of header and version, then the table's count and lengths.
+pub fn write(head: &[u8], bytes: &[u8], out: &mut [u8]) -> u32 {
+    let kind = byte_at(head, 0);
+    let from = byte_at(head, 1);
+    let to = byte_at(head, 2);
+    let bucket = byte_at(head, 3);
+    let election = two_at(head, 4);
+    let round = four_at(head, 6);
+    let version = two_at(head, 10);
+    let counter = four_at(head, 12);
+    let count = byte_at(head, 16) as usize;
+    let lengths = words::from(head, 17);
+    datagram_write(
+        kind,
+        from,
+        to,
+        bucket,
+        election,
+        round,
+        version,
+        counter,
+        count,
+        lengths,
+        bytes,
+        out,
+    )
 }

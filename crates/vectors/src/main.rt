@@ -1,14 +1,14 @@
-// Runs the cases of standard input through the proved crates. A line is the name of a call, its words, and the name of the
-// case. What is printed for it is the name of the case, what the call answered, and the bytes that were lent to it; a line
-// of any other form prints `?`. Numbers are those of script lines, and bytes are written as `words` says.
-mod buckets;
+// Runs the cases of standard input through the proved crates. A line is the name of a call, two words for what it takes, one
+// for the bytes that are lent to it, and the name of the case. What is printed is the name of the case, the number that
+// the call answers, and the lent bytes afterwards; `?` for a line of any other form.
+mod calls;
 mod datagrams;
-mod hashes;
 mod print;
 mod words;
 
-use parse::words::same_word;
+use words::bytes;
 use words::next;
+use words::word;
 
 // Input past the first 65,536 bytes is not read.
 fn main() {
@@ -27,49 +27,28 @@ fn cases(input: &[u8]) {
 }
 
 fn case(line: &[u8]) {
-    let call = words::word(line, 0);
-    let rest = words::past(line, 1);
-    if is_run(call, rest) {
-        return;
+    let mut a = [0u8; 5000];
+    let n = bytes(word(line, 1), &mut a);
+    if n <= 5000 {
+        return with_one(line, &a[0..n]);
     }
-    print::text(b"?\n");
+    print::unknown();
 }
 
-// Runs a call, and says whether the line was of the form.
-fn is_run(call: &[u8], rest: &[u8]) -> bool {
-    if same_word(call, b"hash") {
-        return hashes::hash(rest);
+fn with_one(line: &[u8], a: &[u8]) {
+    let mut b = [0u8; 5000];
+    let n = bytes(word(line, 2), &mut b);
+    if n <= 5000 {
+        return with_two(line, a, &b[0..n]);
     }
-    if same_word(call, b"bucket_of") {
-        return hashes::bucket_of(rest);
-    }
-    if same_word(call, b"datagram_read") {
-        return datagrams::read(rest);
-    }
-    if same_word(call, b"datagram_write") {
-        return datagrams::write(rest);
-    }
-    is_bucket_call(call, rest)
+    print::unknown();
 }
 
-fn is_bucket_call(call: &[u8], rest: &[u8]) -> bool {
-    if same_word(call, b"bucket_read") {
-        return buckets::read(rest);
+fn with_two(line: &[u8], a: &[u8], b: &[u8]) {
+    let mut out = [0u8; 5000];
+    let n = bytes(word(line, 3), &mut out);
+    if n <= 5000 {
+        return calls::run(line, a, b, &mut out[0..n]);
     }
-    if same_word(call, b"bucket_write") {
-        return buckets::write(rest);
-    }
-    if same_word(call, b"bucket_get") {
-        return buckets::get(rest);
-    }
-    if same_word(call, b"bucket_put") {
-        return buckets::put(rest);
-    }
-    if same_word(call, b"bucket_remove") {
-        return buckets::remove(rest);
-    }
-    if same_word(call, b"bucket_keys") {
-        return buckets::keys(rest);
-    }
-    false
+    print::unknown();
 }

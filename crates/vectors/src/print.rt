@@ -17,20 +17,17 @@ pub fn number(n: u32) {
     io::print_decimal(1, n as u64);
 }
 
-pub fn hash(n: u32) {
-    text(b" ");
-    io::print_hex(1, n as u64, 8);
+// A line that is no case.
+pub fn unknown() {
+    text(b"?\n");
 }
 
-pub fn end_of_line() {
-    text(b"\n");
-}
-
-// A line with one number.
-pub fn answered(case: &[u8], n: u32) {
+// A line with one hash.
+pub fn hashed(case: &[u8], h: u32) {
     name(case);
-    number(n);
-    end_of_line();
+    text(b" ");
+    io::print_hex(1, h as u64, 8);
+    text(b"\n");
 }
 
 // How many bytes from `at` on are the same.
@@ -81,10 +78,10 @@ pub fn bytes(b: &[u8]) {
     }
 }
 
-// A line with one number and bytes.
-pub fn answered_with(case: &[u8], n: u32, b: &[u8]) {
+// A line with one number and the lent bytes.
+pub fn answered(case: &[u8], n: u32, lent: &[u8]) {
     name(case);
     number(n);
-    bytes(b);
-    end_of_line();
+    bytes(lent);
+    text(b"\n");
 }

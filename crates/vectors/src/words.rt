@@ -1,19 +1,14 @@
 // The words of a line, and the bytes that a word stands for: pairs of lower-case hexadecimal digits, `00*105` for 105
-// zeros, `,` between a run and its neighbours, `-` for no bytes.
+// zeros, `,` between that and other bytes, `-` for no bytes.
+use entries::keys::at_most;
 use parse::Number;
 use parse::digits::hex_digit;
 use parse::digits::number;
-use parse::words::same_word;
 ghost use Prim.Native.Nat.{_≤_};
 ghost use lib.ListN.{length};
 
-// Where no bytes are told: one more than there is room for.
+// Where a word stands for no bytes: more than there is room for.
 const NOT: usize = 5001;
-
-// Room for the bytes of a word.
-pub fn room() -> [u8; 5000] {
-    [0; 5000]
-}
 
 // The place of the first such byte from `from` on, or the length where there is none.
 pub fn next(s: &[u8], from: usize, byte: u8) -> usize
@@ -68,23 +63,18 @@ pub fn past(line: &[u8], i: usize) -> &[u8] {
     &line[from..]
 }
 
-// The first n bytes.
-pub fn part(b: &[u8], n: usize) -> &[u8] {
-    if n <= b.len() {
-        return &b[0..n];
+// The byte at i, 0 where there is none.
+pub fn byte_at(s: &[u8], i: usize) -> u8 {
+    if i < s.len() {
+        return s[i];
     }
-    b
+    0
 }
 
-// Whether the bytes of up to three words were told.
-pub fn are_told(n: usize, m: usize, l: usize) -> bool {
-    if n == NOT {
-        return false;
-    }
-    if m == NOT {
-        return false;
-    }
-    l != NOT
+// The bytes from i on.
+pub fn from(s: &[u8], i: usize) -> &[u8] {
+    let n = at_most(i, s.len());
+    &s[n..]
 }
 
 // The byte of two digits, stored at `at`. The answer is where the next one goes.
@@ -110,28 +100,13 @@ fn put_run(out: &mut [u8], at: usize, high: u8, low: u8, times: u32) -> usize {
     let mut i = 0;
     while i < times {
         end = put_pair(out, end, high, low);
-        if end == NOT {
-            return NOT;
-        }
         i += 1;
     }
     end
 }
 
-// A pair of digits, and how often.
-fn run(pair: &[u8], times: &[u8], out: &mut [u8], at: usize) -> usize {
-    if pair.len() == 2 {
-        let n = number(times);
-        match n {
-            Number::Is(t) => return put_run(out, at, pair[0], pair[1], t),
-            Number::Not => return NOT,
-        }
-    }
-    NOT
-}
-
-// Pairs of digits.
-fn pairs(s: &[u8], out: &mut [u8], at: usize) -> usize {
+// Pairs of digits, stored from `at` on.
+fn put_pairs(out: &mut [u8], at: usize, s: &[u8]) -> usize {
     let mut end = at;
     let mut i = 0;
     while i < s.len() {
@@ -144,29 +119,40 @@ fn pairs(s: &[u8], out: &mut [u8], at: usize) -> usize {
     end
 }
 
-// What stands between commas.
-fn piece(s: &[u8], out: &mut [u8], at: usize) -> usize {
+// What stands between commas: pairs, or a pair, a star and how often.
+fn put_piece(out: &mut [u8], at: usize, s: &[u8]) -> usize {
     if s.len() == 0 {
         return NOT;
     }
-    let star = next(s, 0, b'*');
-    if star < s.len() {
-        let after = star + 1;
-        return run(&s[0..star], &s[after..], out, at);
+    if byte_at(s, 2) == b'*' {
+        return put_repeated(out, at, s);
     }
-    pairs(s, out, at)
+    put_pairs(out, at, s)
+}
+
+fn put_repeated(out: &mut [u8], at: usize, s: &[u8]) -> usize {
+    if s.len() < 4 {
+        return NOT;
+    }
+    let times = number(&s[3..]);
+    match times {
+        Number::Is(t) => put_run(out, at, s[0], s[1], t),
+        Number::Not => NOT,
+    }
 }
 
 // The bytes of a word, stored from the first place on. The answer is how many they are, NOT where the word is none.
 pub fn bytes(s: &[u8], out: &mut [u8]) -> usize {
-    if same_word(s, b"-") {
-        return 0;
+    if s.len() == 1 {
+        if s[0] == b'-' {
+            return 0;
+        }
     }
     let mut at = 0;
     let mut from = 0;
     while from <= s.len() {
         let end = next(s, from, b',');
-        at = piece(&s[from..end], out, at);
+        at = put_piece(out, at, &s[from..end]);
         from = end + 1;
     }
     at

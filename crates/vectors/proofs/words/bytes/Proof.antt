@@ -12,11 +12,8 @@ Inv-loop s out₀ at₀ from₀ out at from = (from ≤ length s + 1) × (length
 abbrev μ-loop : tie.MeasureT-loop
 μ-loop s out₀ at₀ from₀ out at from = length s + 1 - from
 
-slice-aggregate-same-word : tie.Need-slice-aggregate-same-word Inv-loop μ-loop
-slice-aggregate-same-word c = search needs
-
-same-word-requires : tie.Need-same-word-requires Inv-loop μ-loop
-same-word-requires c κs = search needs
+shared-slice-read-if2 : tie.Need-shared-slice-read-if2 Inv-loop μ-loop
+shared-slice-read-if2 c = search needs
 
 returns : tie.Need-returns Inv-loop μ-loop
 returns c = search needs
@@ -27,17 +24,17 @@ loop-holds c = search needs
 next-requires : tie.Need-next-requires Inv-loop μ-loop
 next-requires c κs = search needs
 
-sub-piece : tie.Need-sub-piece Inv-loop μ-loop
-sub-piece c = search needs
+sub-put-piece : tie.Need-sub-put-piece Inv-loop μ-loop
+sub-put-piece c = search needs
 
-part-piece-start : tie.Need-part-piece-start Inv-loop μ-loop
-part-piece-start c = search needs
+part-put-piece-start : tie.Need-part-put-piece-start Inv-loop μ-loop
+part-put-piece-start c = search needs
 
-part-piece-end : tie.Need-part-piece-end Inv-loop μ-loop
-part-piece-end c = search needs
+part-put-piece-end : tie.Need-part-put-piece-end Inv-loop μ-loop
+part-put-piece-end c = search needs
 
-piece-requires : tie.Need-piece-requires Inv-loop μ-loop
-piece-requires c κs = search needs
+put-piece-requires : tie.Need-put-piece-requires Inv-loop μ-loop
+put-piece-requires c κs = search needs
 
 add-from : tie.Need-add-from Inv-loop μ-loop
 add-from c = search needs
@@ -60,15 +57,14 @@ bytes-spec =
     (tie.spec
     Inv-loop
     μ-loop
-    slice-aggregate-same-word
-    same-word-requires
+    shared-slice-read-if2
     returns
     loop-holds
     next-requires
-    sub-piece
-    part-piece-start
-    part-piece-end
-    piece-requires
+    sub-put-piece
+    part-put-piece-start
+    part-put-piece-end
+    put-piece-requires
     add-from
     loop-less
     loop-again

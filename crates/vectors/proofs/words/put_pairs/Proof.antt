@@ -1,16 +1,16 @@
--- `vectors::words::pairs` is safe and ends: a pair lies within the slice. The measure is what is left of it.
+-- `vectors::words::put_pairs` is safe and ends: a pair lies within the slice. The measure is what is left of it.
 use Prim.Native.Nat.{_≤_, _-_}
 use mathlib.Core.Path.{_≡_}
 use lib.ListN.{length}
 use borrow.Author.Needs.{needs}
-use Rattle.vectors.proofs.words.pairs.Statement.{statement}
-use Rattle.vectors.proofs.words.pairs.Tie as tie
+use Rattle.vectors.proofs.words.put_pairs.Statement.{statement}
+use Rattle.vectors.proofs.words.put_pairs.Tie as tie
 
 abbrev Inv-loop : tie.InvT-loop
-Inv-loop s out₀ at end₀ i₀ out end i = (i ≤ length s) × (length out ≡ length out₀)
+Inv-loop out₀ at s end₀ i₀ out end i = (i ≤ length s) × (length out ≡ length out₀)
 
 abbrev μ-loop : tie.MeasureT-loop
-μ-loop s out₀ at end₀ i₀ out end i = length s - i
+μ-loop out₀ at s end₀ i₀ out end i = length s - i
 
 loop-holds : tie.Need-loop-holds Inv-loop μ-loop
 loop-holds c = search needs
@@ -51,8 +51,8 @@ same-length-2 c = search needs
 returns-2 : tie.Need-returns-2 Inv-loop μ-loop
 returns-2 c = search needs
 
-pub pairs-spec : {M : Type 1} → statement M
-pairs-spec =
+pub put-pairs-spec : {M : Type 1} → statement M
+put-pairs-spec =
     tie.close
     (tie.spec
     Inv-loop
