@@ -7,7 +7,7 @@ use parse::digits::number;
 ghost use Prim.Native.Nat.{_≤_};
 ghost use lib.ListN.{length};
 
-// Where a word stands for no bytes: more than there is room for.
+// Answered for a word that is not of the form: more than there is room for.
 const NOT: usize = 5001;
 
 // The place of the first such byte from `from` on, or the length where there is none.
@@ -94,8 +94,11 @@ fn put_pair(out: &mut [u8], at: usize, high: u8, low: u8) -> usize {
     NOT
 }
 
-// The byte of two digits, stored `times` times.
+// The byte of two digits, stored `times` times, once at least.
 fn put_run(out: &mut [u8], at: usize, high: u8, low: u8, times: u32) -> usize {
+    if times == 0 {
+        return NOT;
+    }
     let mut end = at;
     let mut i = 0;
     while i < times {
@@ -141,7 +144,7 @@ fn put_repeated(out: &mut [u8], at: usize, s: &[u8]) -> usize {
     }
 }
 
-// The bytes of a word, stored from the first place on. The answer is how many they are, NOT where the word is none.
+// The bytes of a word, stored from the first place on. The answer is how many they are.
 pub fn bytes(s: &[u8], out: &mut [u8]) -> usize {
     if s.len() == 1 {
         if s[0] == b'-' {

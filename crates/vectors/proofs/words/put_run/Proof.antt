@@ -12,6 +12,9 @@ Inv-loop out₀ at high low times end₀ i₀ out end i = (i ≤ times) × (leng
 abbrev μ-loop : tie.MeasureT-loop
 μ-loop out₀ at high low times end₀ i₀ out end i = times - i
 
+returns : tie.Need-returns Inv-loop μ-loop
+returns c = search needs
+
 loop-holds : tie.Need-loop-holds Inv-loop μ-loop
 loop-holds c = search needs
 
@@ -30,8 +33,8 @@ loop-again c = search needs
 same-length : tie.Need-same-length Inv-loop μ-loop
 same-length c = search needs
 
-returns : tie.Need-returns Inv-loop μ-loop
-returns c = search needs
+returns-2 : tie.Need-returns-2 Inv-loop μ-loop
+returns-2 c = search needs
 
 pub put-run-spec : {M : Type 1} → statement M
 put-run-spec =
@@ -39,10 +42,11 @@ put-run-spec =
     (tie.spec
     Inv-loop
     μ-loop
+    returns
     loop-holds
     put-pair-requires
     add-i
     loop-less
     loop-again
     same-length
-    returns)
+    returns-2)
