@@ -1,7 +1,7 @@
 -- The steps of feeding, one after the other, are the whole part.
-use mathlib.Core.Path.{_≡_, refl, sym, ap, subst, _∙_}
+use mathlib.Core.Path.{_≡_, refl, sym, subst, _∙_}
 use mathlib.Core.Bool.{Bool, true, false}
-use mathlib.Core.List.{List, [], _∷_, _++_, append-assoc, append-nil}
+use mathlib.Core.List.{List, [], _∷_, _++_, append-assoc}
 use Prim.Native.Nat.{ℕ, _+_, _-_, _≤_, _<_}
 use native.Mathlib.Omega.{arith}
 use native.Mathlib.Numerals.{add-one}
@@ -12,8 +12,8 @@ use Rattle.print.specs.Printed.{Printed}
 use Rattle.print.proofs.Printing.{printed-none}
 use Rattle.views.specs.Memory.{Memory}
 use Rattle.machine.specs.declared.Tally.{Tally}
-use Rattle.feed.specs.Worlds.{Held, held, World, world, keeping, putAll}
-use Rattle.feed.specs.Feeding.{LineEnded, Fed, nothing, bytes, line, past, lineRoom, PartFed, KeptTo, KeptFrom, LineTold, AtFeed, waits, ends, Advanced}
+use Rattle.feed.specs.Worlds.{Held, held, World, world}
+use Rattle.feed.specs.Feeding.{Fed, nothing, bytes, line, past, lineRoom, PartFed, KeptFrom, AtFeed, waits, ends, Advanced}
 use Rattle.feed.specs.declared.Progress.{Progress}
 use Rattle.feed.proofs.Feeding.{fed-on}
 

@@ -1,7 +1,7 @@
 -- The public calls: what the parts of a call leave is what its contract says.
-use mathlib.Core.Path.{_≡_, refl, sym, ap, subst, _∙_}
+use mathlib.Core.Path.{_≡_, refl, subst, _∙_}
 use mathlib.Core.List.{List, [], _∷_, _++_}
-use Prim.Native.Nat.{ℕ, _+_, _≤_, _<_, min}
+use Prim.Native.Nat.{ℕ, _+_, _≤_, _<_}
 use native.Mathlib.Omega.{arith}
 use lib.ListN.{length, take, drop, getD, set, length-append, length-take}
 use borrow.Author.Tests.{lt-ltb, le-ltb}
@@ -13,8 +13,8 @@ use Rattle.machine.specs.declared.Tally.{Tally}
 use Rattle.machine.specs.Meaning.{tallyIn}
 use Rattle.input.specs.Reading.{Reading, ended, endedText, lastRead, lastText, finished, finishedText}
 use Rattle.feed.specs.Worlds.{Held, held, World, world, presentLine, readingIn}
-use Rattle.feed.specs.Feeding.{PartFed, LineEnded, Ready}
-use Rattle.feed.specs.Entry.{worldIn, MeasuredIn, PartMeans, WorldFed, LastLine, none, past, one, LastTold, WorldFinished, FinishMeans, Finished}
+use Rattle.feed.specs.Feeding.{PartFed, Ready}
+use Rattle.feed.specs.Entry.{worldIn, MeasuredIn, WorldFed, LastLine, none, past, one, LastTold, Finished}
 use Rattle.feed.specs.declared.Progress.{Progress}
 use Rattle.feed.proofs.Feeding.{fed-means, line-means, line-ready}
 use Rattle.feed.proofs.Advancing.{written-on}

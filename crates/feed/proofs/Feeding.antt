@@ -1,18 +1,15 @@
 -- What is fed stands for what the definitions make of the same bytes.
 use mathlib.Core.Path.{_≡_, refl, sym, ap, subst, _∙_}
 use mathlib.Core.List.{List, [], _∷_, _++_, append-assoc, append-nil}
-use Prim.Native.Nat.{ℕ, _+_, _≤_, _<_}
-use lib.ListN.{length}
-use Rattle.model.specs.Measures.{maxLines}
+use Prim.Native.Nat.{ℕ, _+_}
 use Rattle.model.specs.Lines as lines
 use Rattle.model.specs.Run.{step}
-use Rattle.model.specs.Print.{outcomeText}
 use Rattle.runs.specs.Meaning.{stateIn}
 use Rattle.runs.proofs.Reading.{step-read}
 use Rattle.machine.specs.Meaning.{tallyIn, outcomeIn}
-use Rattle.input.specs.Reading.{Reading, reading, NoFeed, keptAll, ended, endedText, fed, fedText}
+use Rattle.input.specs.Reading.{Reading, reading, ended, endedText, fed, fedText}
 use Rattle.input.proofs.Parts.{fed-append, fedText-append, line-kept, line-silent, line-feed, past-kept, past-silent}
-use Rattle.feed.specs.Worlds.{Held, held, World, world, presentLine, keeping, putAll, readingIn}
+use Rattle.feed.specs.Worlds.{held, World, presentLine, readingIn}
 use Rattle.feed.specs.Feeding.{LineEnded, Fed, nothing, bytes, line, past, Ready}
 use Rattle.feed.proofs.Holding.{putAll-means, putAll-size}
 

@@ -1,16 +1,15 @@
 -- The end of the input.
-use mathlib.Core.Path.{_≡_, refl, sym, ap, subst, _∙_}
-use mathlib.Core.Bool.{Bool, true, false}
-use mathlib.Core.List.{List, [], _∷_, _++_, append-nil}
-use Prim.Native.Nat.{ℕ, _+_, _≤_, _<_}
+use mathlib.Core.Path.{_≡_, refl}
+use mathlib.Core.Bool.{false}
+use mathlib.Core.List.{List, []}
+use Prim.Native.Nat.{ℕ, _≤_, _<_}
 use native.Mathlib.Omega.{arith}
-use lib.ListN.{length, take, drop, getD, set, length-append, length-drop, length-take, take-append-drop}
+use lib.ListN.{length}
 use Rattle.model.specs.Measures.{maxLines}
-use Rattle.print.specs.Printed.{Printed}
-use Rattle.print.proofs.Printing.{printed-none}
+use Rattle.print.proofs.Printing.{printed-none, printed-size}
 use Rattle.views.specs.Memory.{Memory}
 use Rattle.machine.specs.declared.Tally.{Tally}
-use Rattle.feed.specs.Worlds.{Held, held, World, world, presentLine}
+use Rattle.feed.specs.Worlds.{held, World, world, presentLine}
 use Rattle.feed.specs.Feeding.{LineTold}
 use Rattle.feed.specs.Entry.{LastLine, none, past, one, LastTold}
 use Rattle.feed.specs.declared.Progress.{Progress}
@@ -30,11 +29,7 @@ pub past-line : (m : Memory) (l : List ℕ) (t : Tally) (n : ℕ) (line : List �
     → LastTold (world m l t n (held line count)) out (world m l (p .tally) (p .lines) (held line (p .held))) out (p .written)
 past-line m l t n line count out p z e = rw e (resting-told (world m l t n (held line count)) out (past z))
 
--- the size of an output stays where a text with room is printed in it
-printed-size : (text out out′ : List ℕ) (at r : ℕ) → Printed text out at out′ r → r ≤ length out → length out′ ≡ length out
-printed-size text out out′ at r p h = rw (p .is, length-append (take at out ++ text) (drop (at + length text) out), length-append (take at out) text, length-drop (at + length text) out, length-take at out) (omega (arith, p .ends))
-
 pub one-line : (w : World) (out : List ℕ) (w′ : World) (out′ : List ℕ) (written : ℕ) → 1 ≤ w .held .count → w .lines < maxLines → 1088 ≤ length out
     → LineTold w w′ out 0 out′ written → LastTold w out w′ out′ written
 one-line w out w′ out′ written c n r k =
-    record { text = k .text; ends = one w′ (k .text) c n (k .ends); printed = k .told .printed; within = k .told .within; size = printed-size (k .text) out out′ 0 written (k .told .printed) (omega (arith, k .told .within)) }
+    record { text = k .text; ends = one w′ (k .text) c n (k .ends); printed = k .told .printed; within = k .told .within; size = printed-size (omega (arith, k .told .within, k .told .printed .ends)) (k .told .printed) }

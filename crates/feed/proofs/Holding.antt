@@ -7,12 +7,12 @@ use native.Mathlib.Omega.{arith}
 use native.Mathlib.Numerals.{add-one}
 use native.Mathlib.Decide.{decLe}
 use native.Mathlib.Nat.{min-eq-left, min-eq-right, le-refl}
-use lib.Dec.{eqb, ltb, leb}
-use lib.ListN.{length, take, getD, set, length-set}
+use lib.Dec.{eqb, ltb}
+use lib.ListN.{length, take, getD, length-set}
 use lib.Seq.{take-suc, take-all, take-suc-set, length-take-le}
-use borrow.Author.Tests.{lt-ltb, le-ltb, lt-leb, le-leb, ltb-true, ltb-false}
+use borrow.Author.Tests.{lt-leb, le-leb, ltb-true, ltb-false}
 use Rattle.model.specs.Measures.{maxLineBytes}
-use Rattle.input.specs.Reading.{kept, keptAll, NoFeed}
+use Rattle.input.specs.Reading.{kept, keptAll}
 use Rattle.input.proofs.Parts.{no-feed-append}
 use Rattle.feed.specs.Worlds.{Held, held, presentLine, put, putAll}
 use Rattle.feed.specs.Feeding.{KeptTo}

@@ -2,7 +2,7 @@
 use mathlib.Core.Path.{_≡_, refl}
 use mathlib.Core.List.{List}
 use Prim.Native.Nat.{ℕ}
-use lib.ListN.{length, replicate}
+use lib.ListN.{replicate}
 use Rattle.table.specs.Form.{within}
 use Rattle.memory.specs.Layout.{countsAt}
 use Rattle.views.specs.Memory.{memory, clusterIn, standing}

@@ -1,12 +1,12 @@
 -- What feeding a part of an input leaves in the lent arrays, byte by byte and line by line, and what that stands for.
 use mathlib.Core.Path.{_≡_}
-use mathlib.Core.Bool.{Bool, true, false}
+use mathlib.Core.Bool.{true, false}
 use mathlib.Core.List.{List, [], _∷_, _++_}
 use Prim.Native.Nat.{ℕ, _+_, _≤_, _<_}
 use lib.ListN.{length, take, drop, getD}
 use Rattle.model.specs.Measures.{maxLines}
 use Rattle.model.specs.Parse.{parse}
-use Rattle.model.specs.Print.{outcomeText, tallyText}
+use Rattle.model.specs.Print.{outcomeText}
 use Rattle.limits.specs.Always.{Measured}
 use Rattle.parse.specs.declared.Line.{Line}
 use Rattle.parse.specs.Meaning.{lineIn, keptOf}
@@ -16,9 +16,8 @@ use Rattle.machine.specs.declared.Stepped.{Stepped}
 use Rattle.machine.specs.Meaning.{tallyIn, outcomeIn, Performed}
 use Rattle.print.specs.Printed.{Printed}
 use Rattle.output.specs.Told.{Told}
-use Rattle.input.specs.Reading.{Reading, NoFeed, fed, fedText, finished, finishedText}
-use Rattle.feed.specs.Worlds.{Held, held, World, world, presentLine, keeping, putAll, readingIn}
-use Rattle.feed.specs.declared.Kept.{Kept}
+use Rattle.input.specs.Reading.{NoFeed, fed}
+use Rattle.feed.specs.Worlds.{Held, held, World, presentLine, keeping, putAll}
 use Rattle.feed.specs.declared.Progress.{Progress}
 
 -- ---- one line

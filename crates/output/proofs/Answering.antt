@@ -1,26 +1,22 @@
 -- The answers of a line are printed one after another.
 use mathlib.Core.Path.{_≡_, refl, sym, ap, _∙_}
 use mathlib.Core.List.{List, [], _∷_, _++_, append-nil, append-assoc}
-use Prim.Native.Nat.{ℕ, zero, suc, _≤_, _<_, _+_, _*_}
+use Prim.Native.Nat.{ℕ, _≤_, _<_, _+_, _*_}
 use native.Mathlib.Omega.{arith}
 use native.Mathlib.Numerals.{add-one}
-use lib.ListN.{length, length-append, length-take, length-drop}
+use lib.ListN.{length, length-append}
 use Rattle.entries.specs.Entries.{Entry}
 use Rattle.model.specs.Calls as calls
 use Rattle.model.specs.Print.{answerText, answerTexts}
 use Rattle.server.specs.Views.{answerIn}
 use Rattle.views.specs.Memory.{each}
 use Rattle.views.specs.Changes.{answerAt, answersAt}
+use Rattle.views.proofs.Each.{each-last}
 use Rattle.print.specs.Printed.{Printed}
-use Rattle.print.proofs.Printing.{both, printed-none}
+use Rattle.print.proofs.Printing.{both, printed-none, printed-size}
 use Rattle.output.specs.Told.{Told}
 
 -- ---- one more answer
-
-each-last : {A : Type 0} (n : ℕ) (f : ℕ → A) → each (suc n) f ≡ each n f ++ (f n ∷ [])
-unfolding each
-each-last zero f = refl
-each-last (suc n) f = ap (λ r. f 0 ∷ r) (each-last n (λ i. f (suc i)))
 
 texts-last : (l : List calls.Answer) (a : calls.Answer) → answerTexts (l ++ (a ∷ [])) ≡ answerTexts l ++ answerText a
 unfolding answerTexts
@@ -38,9 +34,6 @@ module _ (l v : List ℕ) (t : List Entry) where
   pub next-text : (i : ℕ) → textsOf (i + 1) ≡ textsOf i ++ answerText (answerIn (answerAt l i) v t)
   unfolding answersAt
   next-text i = rw (add-one i, each-last i (λ j. answerIn (answerAt l j) v t)) (texts-last (each i (λ j. answerIn (answerAt l j) v t)) (answerIn (answerAt l i) v t))
-
-printed-size : {text before after : List ℕ} {at r : ℕ} → at + length text ≤ length before → Printed text before at after r → length after ≡ length before
-printed-size {text} {before} {after} {at} h d = ap length (d .is) ∙ simp (length-append, length-take, length-drop) (omega arith)
 
 -- ---- i of n answers are printed
 pub record Answering (l v : List ℕ) (t : List Entry) (n : ℕ) (out₀ : List ℕ) (at : ℕ) (out : List ℕ) (p i : ℕ) : Type 0 where

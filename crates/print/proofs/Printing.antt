@@ -28,6 +28,10 @@ printed-none out at e =
     let z : at + 0 ≡ at = omega arith in
     record { is = rw (e, append-nil, z, take-append-drop); ends = rw e (omega arith) }
 
+-- the size of an output stays where a text with room is printed in it
+pub printed-size : {text before after : List ℕ} {at r : ℕ} → at + length text ≤ length before → Printed text before at after r → length after ≡ length before
+printed-size {text} {before} {after} {at} h c = ap length (stores h c) ∙ length-sets before at text
+
 -- ---- text is being printed at `at`: up to p it is written, and `rest` is left
 pub record Printing (text out₀ : List ℕ) (at : ℕ) (rest out : List ℕ) (p : ℕ) : Type 0 where
   pub room : at + length text ≤ length out₀

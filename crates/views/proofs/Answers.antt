@@ -2,9 +2,9 @@
 use mathlib.Core.Path.{_≡_, refl, sym, ap, _∙_}
 use mathlib.Core.Logic.{_≢_}
 use mathlib.Core.Bool.{Bool, true, false}
-use mathlib.Core.List.{List, [], _∷_, _++_, map, append-nil}
+use mathlib.Core.List.{List, [], _∷_, _++_, append-nil}
 use mathlib.Core.Option.{Option, none, some}
-use Prim.Native.Nat.{ℕ, zero, suc, _+_, _*_, _≤_, _<_}
+use Prim.Native.Nat.{ℕ, zero, suc, _+_, _*_, _≤_}
 use native.Mathlib.Numerals.{add-one}
 use native.Mathlib.Omega.{arith}
 use lib.Dec.{eqb}
@@ -23,25 +23,8 @@ use Rattle.memory.proofs.Rows.{length-putRow, row-put, row-other}
 use Rattle.moves.specs.declared.Move.{Move}
 use Rattle.moves.specs.Reactions.{answersIn, answersAfter}
 use Rattle.views.specs.Memory.{Memory, each, slotOf, callWordsAt, cellAt, serverAt}
+use Rattle.views.proofs.Each.{each-last, each-same, map-each}
 use Rattle.views.specs.Changes.{answerOf, answerRow, answerAt, putAnswer, answersAt, Written, endedCalls, answered}
-
--- ---- f 0, f 1, .. of n numbers
-
-module _ {A : Type 0} where
-  each-last : (n : ℕ) (f : ℕ → A) → each (suc n) f ≡ each n f ++ (f n ∷ [])
-  unfolding each
-  each-last zero f = refl
-  each-last (suc n) f = ap (λ r. f 0 ∷ r) (each-last n (λ i. f (suc i)))
-
-  each-same : (n : ℕ) (f g : ℕ → A) → ((i : ℕ) → i < n → f i ≡ g i) → each n f ≡ each n g
-  unfolding each
-  each-same zero f g h = refl
-  each-same (suc n) f g h = rw (h 0 (omega arith), each-same n (λ i. f (suc i)) (λ i. g (suc i)) (λ i less. h (suc i) (omega arith)))
-
-map-each : {A B : Type 0} (f : A → B) (n : ℕ) (g : ℕ → A) → map f (each n g) ≡ each n (λ i. f (g i))
-unfolding each
-map-each f zero g = refl
-map-each f (suc n) g = ap (λ r. f (g 0) ∷ r) (map-each f n (λ i. g (suc i)))
 
 -- ---- answers: one stored is read back, the others stay
 
@@ -123,7 +106,7 @@ module _ (slots : List ℕ) (s : ℕ) (words : ℕ → calls.Words) (v : List �
 server-calls : (n most : ℕ) (m : Memory) (s : ℕ)
     → serverAt n most m s .volatile .calls ≡ each most (λ b. callIn (callAt (m .slots) (slotOf s b)) (callWordsAt m (slotOf s b)))
 unfolding serverAt cellAt
-server-calls n most m s = map-each (λ (c : Cell). c .call) most (λ b. cellAt n m s (slotOf s b))
+server-calls n most m s = map-each most (λ b. cellAt n m s (slotOf s b)) (λ (c : Cell). c .call)
 
 module _ (n most s : ℕ) (m : Memory) (v : Move) (l w : List ℕ) (u : List Entry) (size : length l ≡ 32) (buckets : most ≤ 8) where
   all-mean : Holds w u (endedCalls (m .slots) s most l) (endings (serverAt n most m s .volatile .calls)) 8

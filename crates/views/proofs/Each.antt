@@ -1,7 +1,7 @@
 -- Laws of `each`.
 use mathlib.Core.Path.{_≡_, refl, ap, ap₂, _∙_}
 use mathlib.Core.Logic.{_≢_}
-use mathlib.Core.List.{_∷_, map}
+use mathlib.Core.List.{[], _∷_, _++_, map}
 use Prim.Native.Nat.{ℕ, zero, suc, _<_}
 use native.Mathlib.Omega.{arith}
 use lib.ListN.{length, getD, set}
@@ -23,6 +23,11 @@ module _ {A : Type 0} where
   unfolding each
   each-same zero f g h = refl
   each-same (suc n) f g h = ap₂ (λ a l. a ∷ l) (h 0 (omega arith)) (each-same n (λ i. f (suc i)) (λ i. g (suc i)) (λ i k. h (suc i) (omega arith)))
+
+  pub each-last : (n : ℕ) (f : ℕ → A) → each (suc n) f ≡ each n f ++ (f n ∷ [])
+  unfolding each
+  each-last zero f = refl
+  each-last (suc n) f = ap (λ r. f 0 ∷ r) (each-last n (λ i. f (suc i)))
 
   -- functions that are the same but at i
   pub each-set : (n : ℕ) (f g : ℕ → A) (i : ℕ) (v : A) → i < n → g i ≡ v → ((j : ℕ) → j < n → j ≢ i → g j ≡ f j) → each n g ≡ set (each n f) i v

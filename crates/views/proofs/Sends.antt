@@ -120,11 +120,6 @@ module _ (v : List ℕ) (m : Message) (x : Flight) (sound : Sound x) (whole : le
       → Added x (spread v m n x) (spreadTo m (tableOf 4 16 (take 113 v)) (without (m .sender) (below n)))
   spread-flight n among room = spread-adds n (rw (length-others (m .sender) n among) room)
 
-  pub spread-count : (n : ℕ) → m .sender < n → x .count + (n - 1) ≤ 64 → spread v m n x .count ≡ x .count + (n - 1)
-  spread-count n among room =
-      spread-flight n among room .count
-      ∙ rw (length-map (without (m .sender) (below n)) (λ q. messageIn (messageTo m q) (tableOf 4 16 (take 113 v))), length-others (m .sender) n among)
-
 -- ---- what a step sends
 
 -- a claim of every kind, by what is sent: nothing, a request for votes, a write, a read, a reply
@@ -203,6 +198,3 @@ module _ (n me b k : ℕ) (asked : Message) (v : Move) (t : Tables) (works copie
   pub sent-flight : x .count + sendCount n (v .sends) ≤ 64 → Added x (sent n me b k asked v works copies x) (sendsIn n me b (askedIn asked) v t)
   unfolding Sending sent sendsIn sendCount
   sent-flight = kinds Sending (λ room. none-added x sound) sends-vote sends-write sends-read sends-reply (v .sends)
-
-  pub sent-count : x .count + sendCount n (v .sends) ≤ 64 → sent n me b k asked v works copies x .count ≡ x .count + sendCount n (v .sends)
-  sent-count room = sent-flight room .count ∙ ap (λ c. x .count + c) (length-sends n me b (askedIn asked) v t among)

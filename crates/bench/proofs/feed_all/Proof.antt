@@ -1,6 +1,5 @@
 -- `feed_all` is safe and ends: the turns are counted down.
 use mathlib.Core.Path.{_≡_, refl}
-use native.Mathlib.Omega.{arith}
 use lib.ListN.{length}
 use borrow.Author.Needs.{needs}
 use Rattle.bench.proofs.feed_all.Statement.{statement}

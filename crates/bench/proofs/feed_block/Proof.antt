@@ -1,7 +1,7 @@
 -- `feed_block` is safe and ends: each turn takes a byte.
 use Prim.Native.Nat.{_-_, _≤_}
 use native.Mathlib.Omega.{arith}
-use lib.ListN.{length, length-take, length-drop}
+use lib.ListN.{length}
 use borrow.Author.Needs.{needs}
 use Rattle.bench.proofs.Rest.{taken-within}
 use Rattle.bench.proofs.feed_block.Statement.{statement}

@@ -1,5 +1,4 @@
 -- `endings::finish_line` meets its contract.
-use mathlib.Core.Path.{refl}
 use native.Mathlib.Omega.{arith}
 use Rattle.feed.proofs.Finishing.{no-line, past-line, one-line}
 use borrow.Author.Needs.{needs}

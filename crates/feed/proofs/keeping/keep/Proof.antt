@@ -4,7 +4,7 @@ use lib.ListN.{length}
 use native.Mathlib.Omega.{arith}
 use borrow.Author.Tests.{ne-eqb}
 use borrow.Author.Needs.{needs}
-use mathlib.Core.Path.{_≡_, sym, subst}
+use mathlib.Core.Path.{sym, subst}
 use Rattle.feed.specs.Worlds.{Held, held}
 use Rattle.feed.specs.Feeding.{KeptTo}
 use Rattle.feed.proofs.Holding.{starts, goes}

@@ -1,5 +1,4 @@
 -- `keeping::keep_byte` meets its contract.
-use native.Mathlib.Omega.{arith}
 use borrow.Author.Tests.{lt-ltb, le-ltb}
 use borrow.Author.Needs.{needs}
 use Rattle.feed.specs.Worlds.{put}

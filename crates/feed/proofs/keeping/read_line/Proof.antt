@@ -1,6 +1,5 @@
 -- `keeping::read_line` meets its contract.
 use mathlib.Core.Path.{sym}
-use native.Mathlib.Omega.{arith}
 use lib.Seq.{length-take-le}
 use Rattle.feed.proofs.Holding.{present-cut, cut-within}
 use borrow.Author.Needs.{needs}

@@ -1,6 +1,5 @@
 -- `lines::end_line` meets its contract: run, then told.
 use mathlib.Core.Path.{refl}
-use native.Mathlib.Omega.{arith}
 use Rattle.feed.proofs.Told.{few-answers}
 use borrow.Author.Needs.{needs}
 use Rattle.feed.proofs.lines.end_line.Statement.{statement}

@@ -1,6 +1,5 @@
 -- `parts::advance` meets its contract.
 use mathlib.Core.Path.{refl}
-use native.Mathlib.Omega.{arith}
 use Rattle.feed.proofs.Advancing.{advanced-past, advanced-kept, advanced-feed}
 use borrow.Author.Needs.{needs}
 use Rattle.feed.proofs.parts.advance.Statement.{statement}

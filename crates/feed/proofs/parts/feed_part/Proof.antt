@@ -1,6 +1,5 @@
 use mathlib.Core.Path.{ap}
 -- `parts::feed_part` meets its contract: the steps, one after the other.
-use mathlib.Core.Path.{refl}
 use native.Mathlib.Omega.{arith}
 use lib.ListN.{length}
 use borrow.Author.Needs.{needs}
