@@ -5,8 +5,8 @@ use mathlib.Core.List.{List, [], _∷_, _++_, append-assoc, append-nil, flatten}
 use Prim.Native.Nat.{ℕ, zero, suc, _+_, _-_, _*_, _≤_, _<_}
 use native.Mathlib.Nat.{suc-add, zero-mul, zero-add, lt-of-mul-lt-mul-right}
 use native.Mathlib.Omega.{arith}
-use lib.ListN.{length, getD, set, take, drop, length-append, length-drop, take-append-drop}
-use lib.Seq.{paste, sets, sets-eq, take-add, drop-drop, take-append-le, drop-append-le, take-at, drop-at, getD-at, set-at, getD-take, getD-drop, length-take-le, length-paste, length-paste-head}
+use lib.ListN.{length, getD, set, take, drop, length-append, length-drop, take-append-drop, drop-of-length-le}
+use lib.Seq.{paste, sets, sets-eq, take-all, take-add, drop-drop, take-append-le, drop-append-le, take-at, drop-at, getD-at, set-at, getD-take, getD-drop, length-take-le, length-paste, length-paste-head}
 use Rattle.blocks.specs.Blocks.{blocks, block, without, refilled}
 
 -- ---- places
@@ -188,3 +188,24 @@ module _ {A : Type 0} (b : ℕ) where
         let hu : k * b ≤ length up = simp length-drop (omega arith) in
         let rest : List A = drop (length (take (i * b) l ++ take (k * b) up)) l in
         rw (o, flatten-without n i l among, append-assoc, blocks-cut i k l (take (k * b) up ++ rest) (omega arith), blocks-take k up rest hu, without-blocks n i l among)
+
+-- the part of a list from a place on, as it is lent
+pub lent-length : {A : Type 0} (l : List A) (at : ℕ) → length (take (length l - at) (drop at l)) ≡ length l - at
+lent-length l at = length-take-le (length l - at) (drop at l) (rw (length-drop at l) (omega arith))
+
+-- a copy of what stands `by` behind a place, to that place
+paste-down : {A : Type 0} (l : List A) (to by n : ℕ) → paste l to (drop (to + by) l) n ≡ take to l ++ (take n (drop by (drop to l)) ++ drop n (drop to l))
+paste-down l to by n = rw (drop-drop by to l, drop-drop n to l, append-assoc)
+
+-- the same where the part of the list from block i on is lent: its elements from b on move down to its front
+pub lent-removed : {A : Type 0} (b n i : ℕ) (l part : List A) → i < n → n * b ≤ length l
+    → part ≡ paste (take (length l - i * b) (drop (i * b) l)) 0 (drop b (take (length l - i * b) (drop (i * b) l))) (n * b - (i + 1) * b)
+    → take (i * b) l ++ (part ++ drop (length l - i * b) (drop (i * b) l)) ≡ refilled (without i (blocks b n l)) l
+lent-removed b n i l part among fits e =
+    let len : ℕ = n * b - (i + 1) * b in
+    let whole : take (length l - i * b) (drop (i * b) l) ≡ drop (i * b) l = take-all (length l - i * b) (drop (i * b) l) (rw (length-drop (i * b) l) (omega arith)) in
+    let past : drop (length l - i * b) (drop (i * b) l) ≡ [] = drop-of-length-le (drop (i * b) l) {i = length l - i * b} (rw (length-drop (i * b) l) (omega arith)) in
+    let from : (i + 1) * b ≡ i * b + b = omega arith in
+    let moved : paste l (i * b) (drop ((i + 1) * b) l) len ≡ take (i * b) l ++ (take len (drop b (drop (i * b) l)) ++ drop len (drop (i * b) l)) =
+    ap (λ x. paste l (i * b) (drop x l) len) from ∙ paste-down l (i * b) b len in
+    rw (e, whole, past, append-nil, zero-add) (sym moved ∙ paste-removed b n i l among fits)

@@ -58,6 +58,20 @@ pub fn append_block_bytes(list: &mut [u8], size: usize, n: usize, src: &[u8], j:
     copy_block_bytes(list, size, n, src, j);
 }
 
+// The part that begins at `by` and has this length moves down to the front. The loop steps over a fixed distance from the list's
+// first byte, so that it is compiled to one call that moves memory.
+fn move_down_bytes(list: &mut [u8], by: usize, len: usize)
+    requires { ⌜ by + len ≤ length (now list) ⌝ }
+    ensures { λ _. ⌜ now (list .exit) ≡ paste (now (list .entry)) 0 (drop by (now (list .entry))) len ⌝ }
+{
+    let mut j = 0; // bytes moved
+    while j < len {
+        let byte = list[by + j];
+        list[j] = byte;
+        j += 1;
+    }
+}
+
 // Block i of a list of n blocks is removed: the later ones move down.
 pub fn remove_block_bytes(list: &mut [u8], size: usize, n: usize, i: usize)
     requires { ⌜ (i < n) × (n * size ≤ length (now list)) ⌝ }
@@ -65,7 +79,8 @@ pub fn remove_block_bytes(list: &mut [u8], size: usize, n: usize, i: usize)
 {
     let to = i * size;
     let from = (i + 1) * size; // the first byte behind the block
-    copy_within_bytes(list, to, from, n * size - from);
+    let len = n * size - from;
+    move_down_bytes(&mut list[to..], size, len);
 }
 
 // The part of src that begins at `from` and has this length is copied into dst, to `to`.
@@ -119,6 +134,20 @@ pub fn append_block_words(list: &mut [u32], size: usize, n: usize, src: &[u32], 
     copy_block_words(list, size, n, src, j);
 }
 
+// The part that begins at `by` and has this length moves down to the front. The loop steps over a fixed distance from the list's
+// first word, so that it is compiled to one call that moves memory.
+fn move_down_words(list: &mut [u32], by: usize, len: usize)
+    requires { ⌜ by + len ≤ length (now list) ⌝ }
+    ensures { λ _. ⌜ now (list .exit) ≡ paste (now (list .entry)) 0 (drop by (now (list .entry))) len ⌝ }
+{
+    let mut j = 0; // words moved
+    while j < len {
+        let word = list[by + j];
+        list[j] = word;
+        j += 1;
+    }
+}
+
 // Block i of a list of n blocks is removed: the later ones move down.
 pub fn remove_block_words(list: &mut [u32], size: usize, n: usize, i: usize)
     requires { ⌜ (i < n) × (n * size ≤ length (now list)) ⌝ }
@@ -126,5 +155,6 @@ pub fn remove_block_words(list: &mut [u32], size: usize, n: usize, i: usize)
 {
     let to = i * size;
     let from = (i + 1) * size; // the first word behind the block
-    copy_within_words(list, to, from, n * size - from);
+    let len = n * size - from;
+    move_down_words(&mut list[to..], size, len);
 }
