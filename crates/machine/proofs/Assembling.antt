@@ -8,17 +8,17 @@ use lib.Dec.{leb}
 use Rattle.entries.specs.Entries.{Entry}
 use Rattle.server.specs.declared.Effect.{Effect}
 use Rattle.memory.specs.declared.Counts.{Counts}
-use Rattle.memory.specs.Layout.{putCounts}
 use Rattle.moves.specs.declared.Move.{Move}
 use Rattle.moves.specs.Moves.{chosen}
 use Rattle.views.specs.Memory.{memory, slotOf}
-use Rattle.views.specs.Changes.{moved}
-use Rattle.views.specs.Queue.{Flight, flight, withoutMessage, sent, sendCount}
+use Rattle.views.specs.Changes.{filledFrom, moved}
+use Rattle.views.specs.Queue.{flight, withoutMessage, sendCount}
 use Rattle.steps.specs.Stored.{Flown}
 use Rattle.plans.specs.declared.Step.{Step}
 use Rattle.plans.specs.Plans.{placesLeft}
-use Rattle.runs.specs.Runs.{ran, carriedRun, nextCounts}
-use Rattle.machine.specs.Contracts.{ServerChanged}
+use Rattle.runs.specs.Runs.{ran, carriedRun}
+use Rattle.machine.specs.declared.Told.{Told}
+use Rattle.machine.specs.Contracts.{CarriedOn, carriedReport}
 use borrow.Author.Tests.{lt-leb}
 use native.Mathlib.Decide.{decLe}
 
@@ -44,20 +44,19 @@ room-left c false i kind q l q′ l′ r f e =
 
 -- what the parts of a step leave
 pub carried-out : (counts heads slots copies works texts queue loads l : List ℕ) (c : Counts) (x : Step) (v : Move) (f : Effect) (made : List Entry)
-    (counts′ heads′ slots′ copies′ works′ queue′ loads′ l′ : List ℕ) (written count n : ℕ)
-    → ServerChanged heads slots copies works loads l c x v made heads′ slots′ copies′ works′ l′ written
-    → Flown (sent (c .servers) (x .server) (x .bucket) (slotOf (x .server) (x .bucket)) (x .asked) v works′ copies′ (withoutMessage (x .removes) (x .message) (flight queue loads (c .messages)))) queue′ loads′ count
-    → counts′ ≡ putCounts counts (nextCounts c count (x .calls)) → n ≡ sendCount (c .servers) (v .sends)
-    → ran (memory counts′ heads′ slots′ copies′ works′ texts queue′ loads′) l′ (record { refusal = 0; answers = written; sent = n; copied = x .copied; delivered = x .delivered; lost = 0; messages = count; effect = f })
+    (counts′ heads′ slots′ copies′ works′ queue′ loads′ l′ : List ℕ) (t : Told)
+    → works′ ≡ filledFrom works copies loads (slotOf (x .server) (x .bucket)) (x .message) made (v .fills)
+    → CarriedOn counts heads slots copies works′ queue loads l c x v counts′ heads′ slots′ copies′ queue′ loads′ l′ t
+    → ran (memory counts′ heads′ slots′ copies′ works′ texts queue′ loads′) l′ (carriedReport t x f)
     ≡ carriedRun (memory counts heads slots copies works texts queue loads) l c x v made
 unfolding carriedRun moved
-carried-out counts heads slots copies works texts queue loads l c x v f made counts′ heads′ slots′ copies′ works′ queue′ loads′ l′ written count n s y e d =
-    let k = slotOf (x .server) (x .bucket) in
+carried-out counts heads slots copies works texts queue loads l c x v f made counts′ heads′ slots′ copies′ works′ queue′ loads′ l′ t w g =
+    let s = g .server in
     let m = s .moves in
-    let z : List ℕ → List ℕ → Flight = λ works copies. sent (c .servers) (x .server) (x .bucket) k (x .asked) v works copies (withoutMessage (x .removes) (x .message) (flight queue loads (c .messages))) in
+    let y = g .flown in
     rw (
-      e,
-      d,
+      g .counted,
+      g .sends,
       m .head,
       m .slot,
       ap (λ a. a .answers) (s .listed .is),
@@ -66,5 +65,5 @@ carried-out counts heads slots copies works texts queue loads l c x v f made cou
       ap (λ a. a .loads) (y .is),
       ap (λ a. a .count) (y .is),
       m .copy,
-      m .work,
+      w,
     )

@@ -2,6 +2,7 @@
 pub mod Zeros
 pub mod Assembling
 pub mod Executing
+pub mod Messages
 pub mod Planning
 pub mod Clusters
 pub mod Executables

@@ -4,6 +4,7 @@ use mathlib.Core.Bool.{Bool, true, false}
 use mathlib.Core.List.{List}
 use Prim.Native.Nat.{ℕ}
 use native.Mathlib.Omega.{arith}
+use lib.Dec.{eqb}
 use Rattle.server.specs.declared.Words.{Words}
 use Rattle.server.specs.declared.Effect.{Effect}
 use Rattle.memory.specs.declared.Counts.{Counts}
@@ -11,13 +12,13 @@ use Rattle.memory.specs.Layout.{countsAt}
 use Rattle.views.specs.Memory.{Memory, memory, standing}
 use Rattle.plans.specs.declared.Plan.{Plan}
 use Rattle.plans.specs.Plans.{refusedPlan, electAt, timeoutAt, stopAt, callAt, handAt, loseAt}
-use Rattle.plans.specs.Arrays.{electIn, timeoutIn, stopIn, CallPlanned, HandPlanned}
+use Rattle.plans.specs.Arrays.{electIn, timeoutIn, stopIn, CallPlanned}
 use Rattle.parse.specs.declared.Kind.{Kind}
 use Rattle.parse.specs.declared.Kind.the-variants as K
 use Rattle.parse.specs.declared.Line.{Line}
 use Rattle.runs.specs.declared.Report.{Report}
 use Rattle.runs.specs.Runs.{Ran, ran, refusedRun, executed, wordsOf, linePlan, plannedRun, runBy, lineRun, EffectOf}
-use Rattle.machine.specs.Contracts.{Reported, seen, sortOf, LinePlanned, Clustered, RanPlan, RanLine}
+use Rattle.machine.specs.Contracts.{Reported, seen, sortOf, LinePlanned, Clustered, HandRan, RanPlan, RanLine}
 
 module _ (heads slots copies texts queue : List ℕ) (c : Counts) (x : Line) (p : Plan) where
   -- a plan that asks for no effect, by the kind of its line
@@ -82,13 +83,14 @@ module _ (heads slots copies texts queue : List ℕ) (c : Counts) (x : Line) (p 
       let h : CallPlanned heads slots copies c (x .first) (wordsOf K.Keys x) p = subst (λ v. CallPlanned heads slots copies c (x .first) v p) (q ∙ ap (λ k. wordsOf k x) e) g in
       simply K.Keys e (h .is) (λ n z. h .effect n (ap (λ r. r .refusal) (h .is) ∙ z))
 
-  pub deliver-planned : x .kind ≡ K.Deliver → HandPlanned heads slots copies texts queue c (x .first) true p → LinePlanned heads slots copies texts queue c x p
-  unfolding linePlan handAt
-  deliver-planned e h = simply K.Deliver e (h .is) (λ r z reads. h .effect r reads)
+  -- messages that are handed over have no plan
+  pub deliver-unplanned : x .kind ≡ K.Deliver → sortOf (x .kind) ≡ 2 → LinePlanned heads slots copies texts queue c x p
+  unfolding sortOf
+  deliver-unplanned e h = let z : sortOf K.Deliver ≡ 2 = ap sortOf (sym e) ∙ h in absurd (omega (arith, z))
 
-  pub copy-planned : x .kind ≡ K.Copy → HandPlanned heads slots copies texts queue c (x .first) false p → LinePlanned heads slots copies texts queue c x p
-  unfolding linePlan handAt
-  copy-planned e h = simply K.Copy e (h .is) (λ r z reads. h .effect r reads)
+  pub copy-unplanned : x .kind ≡ K.Copy → sortOf (x .kind) ≡ 2 → LinePlanned heads slots copies texts queue c x p
+  unfolding sortOf
+  copy-unplanned e h = let z : sortOf K.Copy ≡ 2 = ap sortOf (sym e) ∙ h in absurd (omega (arith, z))
 
 -- ---- a plan looks at five of the arrays
 
@@ -220,3 +222,34 @@ module _ (m : Memory) (l : List ℕ) (x : Line) where
   other-run m′ l′ r K.Lose e z y h = by-kind K.Lose e (h .is) (subst (λ k. EffectAsked m x k (r .effect)) e (h .effect))
   other-run m′ l′ r K.Timeout e z y h = by-kind K.Timeout e (h .is) (subst (λ k. EffectAsked m x k (r .effect)) e (h .effect))
   other-run m′ l′ r K.Stop e z y h = by-kind K.Stop e (h .is) (subst (λ k. EffectAsked m x k (r .effect)) e (h .effect))
+
+  -- the run of the plan that a kind makes
+  abbrev runAs : Kind → Effect → Ran
+  runAs k f =
+      let c = countsAt (m .counts) in
+      elim (standing c) [ true ↦ executed m l c (linePlan k m c x f) | false ↦ refusedRun m l 2 ]
+
+  -- a message that is handed over
+  hands-by : (m′ : Memory) (l′ : List ℕ) (r : Report) (k : Kind) → x .kind ≡ k → (sortOf k ≡ 0 → ⊥) → (sortOf k ≡ 1 → ⊥) → (sortOf k ≡ 2 → ⊥)
+      → HandRan m l (x .first) (eqb (sortOf k) 3) m′ l′ r → RanLine m l x m′ l′ r
+  unfolding runBy sortOf plannedRun linePlan
+  hands-by m′ l′ r K.Deliver e z y w h =
+      by-kind K.Deliver e (h .is ∙ ap (λ k. runAs k (r .effect)) (sym e)) (h .effect)
+  hands-by m′ l′ r K.Copy e z y w h =
+      by-kind K.Copy e (h .is ∙ ap (λ k. runAs k (r .effect)) (sym e)) (h .effect)
+  hands-by m′ l′ r K.Malformed e z y w h = absurd (z refl)
+  hands-by m′ l′ r K.Cluster e z y w h = absurd (y refl)
+  hands-by m′ l′ r K.Elect e z y w h = absurd (w refl)
+  hands-by m′ l′ r K.Get e z y w h = absurd (w refl)
+  hands-by m′ l′ r K.Set e z y w h = absurd (w refl)
+  hands-by m′ l′ r K.SetIf e z y w h = absurd (w refl)
+  hands-by m′ l′ r K.Del e z y w h = absurd (w refl)
+  hands-by m′ l′ r K.Keys e z y w h = absurd (w refl)
+  hands-by m′ l′ r K.Lose e z y w h = absurd (w refl)
+  hands-by m′ l′ r K.Timeout e z y w h = absurd (w refl)
+  hands-by m′ l′ r K.Stop e z y w h = absurd (w refl)
+
+  -- n is the number of the line's sort
+  pub hand-run : (m′ : Memory) (l′ : List ℕ) (r : Report) (n : ℕ) → n ≡ sortOf (x .kind) → (n ≡ 0 → ⊥) → (n ≡ 1 → ⊥) → (n ≡ 2 → ⊥) → HandRan m l (x .first) (eqb n 3) m′ l′ r → RanLine m l x m′ l′ r
+  hand-run m′ l′ r n e z y w h =
+      hands-by m′ l′ r (x .kind) refl (λ s. z (e ∙ s)) (λ s. y (e ∙ s)) (λ s. w (e ∙ s)) (subst (λ n. HandRan m l (x .first) (eqb n 3) m′ l′ r) e h)

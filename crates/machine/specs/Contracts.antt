@@ -1,26 +1,33 @@
 -- What the contracts of `machine` ask of a step, and what each part of it leaves.
 use mathlib.Core.Path.{_≡_}
-use mathlib.Core.Bool.{true, false}
+use mathlib.Core.Bool.{Bool, true, false}
 use mathlib.Core.List.{List, []}
 use Prim.Native.Nat.{ℕ, _≤_, _<_}
 use lib.ListN.{replicate}
-use Rattle.entries.specs.Entries.{Entry}
+use Rattle.entries.specs.Decoded.{tableIn}
+use Rattle.model.specs.Calls as calls
 use Rattle.server.specs.declared.Effect.{Effect}
+use Rattle.server.specs.declared.Message.{Message}
+use Rattle.server.specs.Views.{flagIn, effectIn, wordsIn}
 use Rattle.memory.specs.declared.Counts.{Counts}
-use Rattle.memory.specs.Layout.{countsAt, putCounts, putWords, putTexts}
+use Rattle.memory.specs.Layout.{countsAt, messageAt, wordsAt, putCounts, putWords, putTexts}
+use Rattle.moves.specs.declared.Local.{Local}
 use Rattle.moves.specs.declared.Move.{Move}
-use Rattle.views.specs.Memory.{Memory, memory, slotOf, standing}
+use Rattle.moves.specs.Moves.{handledMove, readsTable}
+use Rattle.views.specs.Memory.{Memory, memory, slotOf, standing, tableAt}
 use Rattle.views.specs.Changes.{answered}
-use Rattle.views.specs.Queue.{flight, withoutMessage}
-use Rattle.steps.specs.Stored.{MovedServer, Listed}
+use Rattle.views.specs.Queue.{flight, withoutMessage, sent, sendCount}
+use Rattle.steps.specs.Stored.{MovedServer, Listed, Flown}
 use Rattle.plans.specs.declared.Step.{Step}
 use Rattle.plans.specs.declared.Plan.{Plan}
-use Rattle.plans.specs.Plans.{placesLeft}
+use Rattle.plans.specs.Plans.{placesLeft, roomy, movePlan, messageStep, receiverAt, handPlan, handAt}
+use Rattle.plans.specs.Arrays.{Measured, receiverSlot}
 use Rattle.runs.specs.declared.Report.{Report}
-use Rattle.runs.specs.Runs.{Ran, ran, nextCounts, freshCounts, refusedRun, clusterRun, linePlan, plannedRun, lineRun, EffectOf}
+use Rattle.runs.specs.Runs.{Ran, ran, nextCounts, freshCounts, refusedRun, executed, clusterRun, linePlan, plannedRun, lineRun, HandEffect, EffectOf}
 use Rattle.parse.specs.declared.Kind.{Kind}
 use Rattle.parse.specs.declared.Kind.the-variants as K
 use Rattle.parse.specs.declared.Line.{Line}
+use Rattle.machine.specs.declared.Told.{Told}
 
 -- a message is there to be lost
 pub record Losable (c : Counts) (x : Step) : Type 0 where
@@ -37,14 +44,31 @@ pub record Carriable (c : Counts) (x : Step) (v : Move) : Type 0 where
   pub losable : Losable c x
   pub room : placesLeft c (x .removes) (v .sends) ≡ true
 
-pub record ServerChanged (heads slots copies works loads answers : List ℕ) (c : Counts) (x : Step) (v : Move) (made : List Entry) (heads′ slots′ copies′ works′ answers′ : List ℕ) (r : ℕ) : Type 0 where
+pub record ServerChanged (heads slots copies works loads answers : List ℕ) (c : Counts) (x : Step) (v : Move) (heads′ slots′ copies′ answers′ : List ℕ) (r : ℕ) : Type 0 where
   pub listed : Listed (answered slots (c .buckets) (x .server) v answers) answers′ r
-  pub moves : MovedServer heads slots copies works loads (c .buckets) (x .server) (x .bucket) (x .message) v made heads′ slots′ copies′ works′
+  pub moves : MovedServer heads slots copies works loads (c .buckets) (x .server) (x .bucket) (x .message) v heads′ slots′ copies′
+
+-- the arrays after a move whose working content is filled
+pub record CarriedOn (counts heads slots copies works queue loads answers : List ℕ) (c : Counts) (x : Step) (v : Move) (counts′ heads′ slots′ copies′ queue′ loads′ answers′ : List ℕ) (r : Told) : Type 0 where
+  pub server : ServerChanged heads slots copies works loads answers c x v heads′ slots′ copies′ answers′ (r .answers)
+  pub flown : Flown (sent (c .servers) (x .server) (x .bucket) (slotOf (x .server) (x .bucket)) (x .asked) v works copies′ (withoutMessage (x .removes) (x .message) (flight queue loads (c .messages)))) queue′ loads′ (r .messages)
+  pub counted : counts′ ≡ putCounts counts (nextCounts c (r .messages) (x .calls))
+  pub sends : r .sent ≡ sendCount (c .servers) (v .sends)
+
+abbrev pub carriedReport : Told → Step → Effect → Report
+carriedReport t x f =
+    record { refusal = 0; answers = t .answers; sent = t .sent; copied = x .copied; delivered = x .delivered; lost = 0; messages = t .messages; effect = f }
 
 -- the run x with effect f, as memory, answers and report
 pub record Reported (x : Ran) (f : Effect) (m : Memory) (answers : List ℕ) (r : Report) : Type 0 where
   pub is : ran m answers r ≡ x
   pub effect : r .effect ≡ f
+
+-- the run x of a line that asks for no effect: what stands for it has result 0 and a table of no entries
+pub record PlainlyReported (x : Ran) (m : Memory) (answers : List ℕ) (r : Report) : Type 0 where
+  pub is : ran m answers r ≡ x
+  pub result : r .effect .result ≡ 0
+  pub table : tableIn (r .effect .table) ≡ []
 
 -- a message is lost: what is reported, and the counts and messages
 pub record Lost (counts queue loads : List ℕ) (c : Counts) (x : Step) (f : Effect) (counts′ queue′ loads′ : List ℕ) (r : Report) : Type 0 where
@@ -68,6 +92,41 @@ pub record Executable (c : Counts) (p : Plan) : Type 0 where
   pub loses : p .refusal ≡ 0 → p .loses ≡ true → Losable c (p .step)
   pub moves : p .refusal ≡ 0 → p .loses ≡ false → Carriable c (p .step) (p .next)
 
+-- ---- messages that are handed over
+
+-- the receiver of a message is there, and the message is in the list
+pub record Handable (c : Counts) (x : Step) : Type 0 where
+  pub measured : Measured c
+  pub server : x .server < c .servers
+  pub bucket : x .bucket < 8
+  pub listed : x .message < c .messages
+
+-- the run of message y at its receiver, with the effect f
+abbrev pub handledRun : Memory → List ℕ → Counts → Step → Message → Local → Effect → Ran
+handledRun m l c x y to f = executed m l c (roomy c (movePlan x (handledMove (c .servers) (x .server) (f .result) y to) f))
+
+-- with an effect of result 0
+pub record HandledPlainly (m : Memory) (l : List ℕ) (c : Counts) (x : Step) (y : Message) (to : Local) (m′ : Memory) (l′ : List ℕ) (r : Report) : Type 0 where
+  pub is : ran m′ l′ r ≡ handledRun m l c x y to (r .effect)
+
+-- with the effect that it asks for
+pub record HandledThere (m : Memory) (l : List ℕ) (c : Counts) (x : Step) (y : Message) (to : Local) (k : ℕ) (m′ : Memory) (l′ : List ℕ) (r : Report) : Type 0 where
+  pub is : ran m′ l′ r ≡ handledRun m l c x y to (r .effect)
+  pub effect : readsTable (c .servers) y to ≡ true → effectIn (r .effect) ≡ calls.effect (wordsIn (wordsAt (m .slots) (m .texts) k)) (tableAt (m .copies) k)
+
+-- message i of the list
+pub record HandedListed (m : Memory) (l : List ℕ) (c : Counts) (i : ℕ) (removes : Bool) (m′ : Memory) (l′ : List ℕ) (r : Report) : Type 0 where
+  pub is : ran m′ l′ r ≡ executed m l c (handPlan c (messageStep c i removes (messageAt (m .queue) i)) (messageAt (m .queue) i) (receiverAt m i) (r .effect))
+  pub effect :
+      flagIn (receiverAt m i .head .stopped) ≡ false →
+      readsTable (c .servers) (messageAt (m .queue) i) (receiverAt m i) ≡ true →
+      effectIn (r .effect) ≡ calls.effect (wordsIn (wordsAt (m .slots) (m .texts) (receiverSlot (m .queue) i))) (tableAt (m .copies) (receiverSlot (m .queue) i))
+
+-- a line that hands over what stands at place i
+pub record HandRan (m : Memory) (l : List ℕ) (i : ℕ) (removes : Bool) (m′ : Memory) (l′ : List ℕ) (r : Report) : Type 0 where
+  pub is : ran m′ l′ r ≡ elim (standing (countsAt (m .counts))) [ true ↦ executed m l (countsAt (m .counts)) (handAt m (countsAt (m .counts)) i removes (r .effect)) | false ↦ refusedRun m l 2 ]
+  pub effect : standing (countsAt (m .counts)) ≡ true → HandEffect m (countsAt (m .counts)) i (r .effect)
+
 -- ---- lines
 
 -- the memory that a plan looks at
@@ -78,7 +137,7 @@ pub record LinePlanned (heads slots copies texts queue : List ℕ) (c : Counts) 
   pub is : p ≡ linePlan (x .kind) (seen heads slots copies texts queue) c x (p .effect)
   pub effect : EffectOf (x .kind) (seen heads slots copies texts queue) c x (p .effect)
 
--- 0 for a malformed line, 1 for a cluster line, 2 for the others
+-- 0 for a malformed line, 1 for a cluster line, 3 for `deliver`, 4 for `copy`, 2 for the others
 unfoldable pub sortOf : Kind → ℕ
 sortOf K.Malformed = 0
 sortOf K.Cluster = 1
@@ -88,8 +147,8 @@ sortOf K.Set = 2
 sortOf K.SetIf = 2
 sortOf K.Del = 2
 sortOf K.Keys = 2
-sortOf K.Deliver = 2
-sortOf K.Copy = 2
+sortOf K.Deliver = 3
+sortOf K.Copy = 4
 sortOf K.Lose = 2
 sortOf K.Timeout = 2
 sortOf K.Stop = 2

@@ -1,28 +1,33 @@
 // A plan is carried out: the server's arrays, then the messages, then the counts.
+use crate::Told;
 use memory::Counts;
 use memory::counters::store_counts;
 use memory::words::store_words;
 use moves::Move;
 use plans::Plan;
 use plans::Step;
+use plans::parts::no_effect;
 use runs::Report;
 use server::Effect;
 use server::Message;
 use std::num::wrapping_add_u32;
 use steps::answers::answer;
+use steps::contents::fill_plain;
+use steps::contents::fill_work;
 use steps::flight::remove;
 use steps::flight::send;
 use steps::flight::send_count;
 use steps::locals::move_server;
 ghost use mathlib.Core.Path.{_≡_};
 ghost use mathlib.Core.Bool.{true};
+ghost use mathlib.Core.List.{[]};
 ghost use Prim.Native.Nat.{_<_, _≤_, _+_, _*_};
 ghost use Rattle.entries.specs.Decoded.{tableIn};
 ghost use Rattle.views.specs.Memory.{memory, slotOf};
 ghost use Rattle.views.specs.Queue.{flight, withoutMessage, sent, sendCount};
 ghost use Rattle.steps.specs.Stored.{Flown};
 ghost use Rattle.runs.specs.Runs.{carriedRun, executed, nextCounts};
-ghost use Rattle.machine.specs.Contracts.{Carriable, Losable, ServerChanged, Reported, Lost, Took, Executable};
+ghost use Rattle.machine.specs.Contracts.{Carriable, Losable, ServerChanged, CarriedOn, carriedReport, Reported, PlainlyReported, Lost, Took, Executable};
 
 // A line that is refused with r, or one that does nothing else (0).
 pub fn refused(r: u32, f: Effect) -> Report
@@ -72,21 +77,20 @@ fn leave(
     count
 }
 
-// The answers, then the server's arrays.
+// The answers, then the server's arrays; the working content is filled before.
 fn change_server(
     heads: &mut [u32; 112],
     slots: &mut [u32; 1792],
     copies: &mut [u8; 7168],
-    works: &mut [u8; 7168],
+    works: &[u8; 7168],
     loads: &[u8; 8192],
     answers: &mut [u32; 32],
     c: Counts,
     x: Step,
     v: Move,
-    f: Effect,
 ) -> u32
     requires { ⌜ Carriable c x v ⌝ }
-    ensures { λ r. ⌜ ServerChanged (now (heads .entry)) (now (slots .entry)) (now (copies .entry)) (now (works .entry)) (now (loads .entry)) (now (answers .entry)) c x v (tableIn (f .table)) (now (heads .exit)) (now (slots .exit)) (now (copies .exit)) (now (works .exit)) (now (answers .exit)) r ⌝ }
+    ensures { λ r. ⌜ ServerChanged (now (heads .entry)) (now (slots .entry)) (now (copies .entry)) (now (works .entry)) (now (loads .entry)) (now (answers .entry)) c x v (now (heads .exit)) (now (slots .exit)) (now (copies .exit)) (now (answers .exit)) r ⌝ }
 {
     let s = x.server as usize;
     let most = c.buckets as usize;
@@ -102,7 +106,6 @@ fn change_server(
         x.bucket as usize,
         x.message as usize,
         v,
-        f.table,
     );
     written
 }
@@ -143,8 +146,51 @@ fn change_flight(
     )
 }
 
+// A move is carried out, once the working content of its slot is filled.
+fn carry_on(
+    counts: &mut [u32; 8],
+    heads: &mut [u32; 112],
+    slots: &mut [u32; 1792],
+    copies: &mut [u8; 7168],
+    works: &[u8; 7168],
+    queue: &mut [u32; 512],
+    loads: &mut [u8; 8192],
+    answers: &mut [u32; 32],
+    c: Counts,
+    x: Step,
+    v: Move,
+) -> Told
+    requires { ⌜ Carriable c x v ⌝ }
+    ensures { λ r. ⌜ CarriedOn (now (counts .entry)) (now (heads .entry)) (now (slots .entry)) (now (copies .entry)) (now (works .entry)) (now (queue .entry)) (now (loads .entry)) (now (answers .entry)) c x v (now (counts .exit)) (now (heads .exit)) (now (slots .exit)) (now (copies .exit)) (now (queue .exit)) (now (loads .exit)) (now (answers .exit)) r ⌝ }
+{
+    let written = change_server(heads, slots, copies, works, loads, answers, c, x, v);
+    let count = change_flight(queue, loads, works, copies, c, x, v);
+    store_counts(counts, next_counts(c, count, x.calls));
+    Told {
+        answers: written,
+        sent: send_count(c.servers, v.sends),
+        messages: count as u32,
+    }
+}
+
+// What a move that is carried out came to.
+fn report_of(t: Told, x: Step, f: Effect) -> Report
+    ensures { λ r. ⌜ r ≡ carriedReport t x f ⌝ }
+{
+    Report {
+        refusal: 0,
+        answers: t.answers,
+        sent: t.sent,
+        copied: x.copied,
+        delivered: x.delivered,
+        lost: 0,
+        messages: t.messages,
+        effect: f,
+    }
+}
+
 // A move is carried out.
-fn carry_out(
+pub fn carry_out(
     counts: &mut [u32; 8],
     heads: &mut [u32; 112],
     slots: &mut [u32; 1792],
@@ -162,23 +208,70 @@ fn carry_out(
     requires { ⌜ Carriable c x v ⌝ }
     ensures { λ r. ⌜ Reported (carriedRun (memory (now (counts .entry)) (now (heads .entry)) (now (slots .entry)) (now (copies .entry)) (now (works .entry)) (now (texts .entry)) (now (queue .entry)) (now (loads .entry))) (now (answers .entry)) c x v (tableIn (f .table))) f (memory (now (counts .exit)) (now (heads .exit)) (now (slots .exit)) (now (copies .exit)) (now (works .exit)) (now (texts .entry)) (now (queue .exit)) (now (loads .exit))) (now (answers .exit)) r ⌝ }
 {
-    let written = change_server(heads, slots, copies, works, loads, answers, c, x, v, f);
-    let count = change_flight(queue, loads, works, copies, c, x, v);
-    store_counts(counts, next_counts(c, count, x.calls));
-    Report {
-        refusal: 0,
-        answers: written,
-        sent: send_count(c.servers, v.sends),
-        copied: x.copied,
-        delivered: x.delivered,
-        lost: 0,
-        messages: count as u32,
-        effect: f,
-    }
+    let k = x.server as usize * 8 + x.bucket as usize;
+    fill_work(
+        works,
+        copies,
+        loads,
+        k,
+        x.message as usize,
+        v.fills,
+        f.table,
+    );
+    let t = carry_on(
+        counts,
+        heads,
+        slots,
+        copies,
+        works,
+        queue,
+        loads,
+        answers,
+        c,
+        x,
+        v,
+    );
+    report_of(t, x, f)
+}
+
+// The same where no call's effect was asked for: no table is handed on.
+pub fn carry_plain(
+    counts: &mut [u32; 8],
+    heads: &mut [u32; 112],
+    slots: &mut [u32; 1792],
+    copies: &mut [u8; 7168],
+    works: &mut [u8; 7168],
+    texts: &[u8; 3584],
+    queue: &mut [u32; 512],
+    loads: &mut [u8; 8192],
+    answers: &mut [u32; 32],
+    c: Counts,
+    x: Step,
+    v: Move,
+) -> Report
+    requires { ⌜ Carriable c x v ⌝ }
+    ensures { λ r. ⌜ PlainlyReported (carriedRun (memory (now (counts .entry)) (now (heads .entry)) (now (slots .entry)) (now (copies .entry)) (now (works .entry)) (now (texts .entry)) (now (queue .entry)) (now (loads .entry))) (now (answers .entry)) c x v []) (memory (now (counts .exit)) (now (heads .exit)) (now (slots .exit)) (now (copies .exit)) (now (works .exit)) (now (texts .entry)) (now (queue .exit)) (now (loads .exit))) (now (answers .exit)) r ⌝ }
+{
+    let k = x.server as usize * 8 + x.bucket as usize;
+    fill_plain(works, copies, loads, k, x.message as usize, v.fills);
+    let t = carry_on(
+        counts,
+        heads,
+        slots,
+        copies,
+        works,
+        queue,
+        loads,
+        answers,
+        c,
+        x,
+        v,
+    );
+    report_of(t, x, no_effect())
 }
 
 // A message is lost.
-fn lose(
+pub fn lose(
     counts: &mut [u32; 8],
     queue: &mut [u32; 512],
     loads: &mut [u8; 8192],

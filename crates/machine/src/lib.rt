@@ -5,7 +5,9 @@ use runs::Report;
 pub mod carrying;
 pub mod entry;
 pub mod fresh;
+pub mod handing;
 pub mod lines;
+pub mod numbers;
 
 // The tally of messages: sent, copied, delivered, lost, in flight.
 #[repr(C)]
@@ -15,6 +17,13 @@ pub struct Tally {
     pub delivered: u32,
     pub lost: u32,
     pub flight: u32,
+}
+
+// What a move that is carried out tells: how many answers were written, how many messages sent, and how many are in flight.
+pub struct Told {
+    pub answers: u32,
+    pub sent: u32,
+    pub messages: u32,
 }
 
 // What a line came to, and the tally after it.

@@ -2,6 +2,9 @@
 use crate::carrying::execute;
 use crate::carrying::refused;
 use crate::fresh::create;
+use crate::handing::hand_line;
+use crate::numbers::standing;
+use crate::numbers::within;
 use entries::Key;
 use entries::Value;
 use memory::Counts;
@@ -10,7 +13,6 @@ use parse::Kind;
 use parse::Line;
 use plans::Plan;
 use plans::calls::plan_call;
-use plans::deliveries::plan_hand;
 use plans::deliveries::plan_lose;
 use plans::parts::no_effect;
 use plans::parts::no_words;
@@ -21,34 +23,11 @@ use plans::servers::plan_timeout;
 use runs::Report;
 use server::Words;
 ghost use mathlib.Core.Path.{_≡_};
-ghost use Rattle.table.specs.Form.{within};
-ghost use Rattle.views.specs.Memory.{memory, standing};
+ghost use Rattle.views.specs.Memory.{memory};
 ghost use Rattle.plans.specs.Plans.{noKey, noValue};
 ghost use Rattle.plans.specs.Arrays.{Measured};
 ghost use Rattle.runs.specs.Runs.{wordsWith, wordsOf};
 ghost use Rattle.machine.specs.Contracts.{LinePlanned, Clustered, RanPlan, RanLine, sortOf};
-
-// A number from 1 to top.
-fn within(top: u32, n: u32) -> bool
-    ensures { λ r. ⌜ r ≡ within top n ⌝ }
-{
-    if n < 1 {
-        return false;
-    }
-    n <= top
-}
-
-// Whether a cluster stands: its measures are those of document 01.
-fn standing(c: Counts) -> bool
-    ensures { λ r. ⌜ r ≡ standing c ⌝ }
-{
-    if within(7, c.servers) {
-        if within(8, c.buckets) {
-            return c.messages <= 64;
-        }
-    }
-    false
-}
 
 fn no_key() -> Key
     ensures { λ r. ⌜ r ≡ noKey ⌝ }
@@ -106,7 +85,7 @@ fn words_of(line: Line) -> Words
     }
 }
 
-// What a line would do, by its kind.
+// What a line would do, by its kind. Messages that are handed over are carried out without a plan.
 fn plan_line(
     heads: &[u32; 112],
     slots: &[u32; 1792],
@@ -116,7 +95,7 @@ fn plan_line(
     c: Counts,
     line: Line,
 ) -> Plan
-    requires { ⌜ Measured c ⌝ }
+    requires { ⌜ Measured c × (sortOf (line .kind) ≡ 2) ⌝ }
     ensures { λ p. ⌜ LinePlanned (now (heads .entry)) (now (slots .entry)) (now (copies .entry)) (now (texts .entry)) (now (queue .entry)) c line p ⌝ }
 {
     let kind = line.kind;
@@ -131,15 +110,15 @@ fn plan_line(
         Kind::SetIf => plan_call(heads, slots, copies, c, s, w),
         Kind::Del => plan_call(heads, slots, copies, c, s, w),
         Kind::Keys => plan_call(heads, slots, copies, c, s, w),
-        Kind::Deliver => plan_hand(heads, slots, copies, texts, queue, c, s, true),
-        Kind::Copy => plan_hand(heads, slots, copies, texts, queue, c, s, false),
+        Kind::Deliver => refused_plan(7, no_effect()),
+        Kind::Copy => refused_plan(7, no_effect()),
         Kind::Lose => plan_lose(c, s),
         Kind::Timeout => plan_timeout(heads, slots, c, s, line.second),
         Kind::Stop => plan_stop(heads, slots, c, s),
     }
 }
 
-// 0 for a malformed line, 1 for a cluster line, 2 for the others.
+// 0 for a malformed line, 1 for a cluster line, 3 for `deliver`, 4 for `copy`, 2 for the others.
 fn sort(kind: Kind) -> u32
     ensures { λ r. ⌜ r ≡ sortOf kind ⌝ }
 {
@@ -152,8 +131,8 @@ fn sort(kind: Kind) -> u32
         Kind::SetIf => 2,
         Kind::Del => 2,
         Kind::Keys => 2,
-        Kind::Deliver => 2,
-        Kind::Copy => 2,
+        Kind::Deliver => 3,
+        Kind::Copy => 4,
         Kind::Lose => 2,
         Kind::Timeout => 2,
         Kind::Stop => 2,
@@ -183,7 +162,7 @@ fn cluster_line(
     2
 }
 
-// A line that needs a cluster.
+// A line that needs a cluster and hands no message over.
 fn planned_line(
     counts: &mut [u32; 8],
     heads: &mut [u32; 112],
@@ -196,6 +175,7 @@ fn planned_line(
     answers: &mut [u32; 32],
     line: Line,
 ) -> Report
+    requires { ⌜ sortOf (line .kind) ≡ 2 ⌝ }
     ensures { λ r. ⌜ RanPlan (memory (now (counts .entry)) (now (heads .entry)) (now (slots .entry)) (now (copies .entry)) (now (works .entry)) (now (texts .entry)) (now (queue .entry)) (now (loads .entry))) (now (answers .entry)) line (memory (now (counts .exit)) (now (heads .exit)) (now (slots .exit)) (now (copies .exit)) (now (works .exit)) (now (texts .exit)) (now (queue .exit)) (now (loads .exit))) (now (answers .exit)) r ⌝ }
 {
     let c = load_counts(counts);
@@ -242,7 +222,21 @@ pub fn run_line(
         let r = cluster_line(counts, heads, slots, copies, line.first, line.second);
         return refused(r, no_effect());
     }
-    planned_line(
+    if k == 2 {
+        return planned_line(
+            counts,
+            heads,
+            slots,
+            copies,
+            works,
+            texts,
+            queue,
+            loads,
+            answers,
+            line,
+        );
+    }
+    hand_line(
         counts,
         heads,
         slots,
@@ -252,6 +246,7 @@ pub fn run_line(
         queue,
         loads,
         answers,
-        line,
+        line.first,
+        k == 3,
     )
 }

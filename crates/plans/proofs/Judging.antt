@@ -14,14 +14,12 @@ use Rattle.server.specs.declared.Words.{Words}
 use Rattle.server.specs.declared.Effect.{Effect}
 use Rattle.server.specs.Views.{among, effectIn, wordsIn}
 use Rattle.memory.specs.declared.Counts.{Counts}
-use Rattle.memory.specs.Layout.{messageAt, wordsAt}
 use Rattle.moves.specs.declared.Local.{Local}
-use Rattle.moves.specs.Moves.{readsTable}
 use Rattle.views.specs.Memory.{Memory, slotOf, localAt, tableAt}
 use Rattle.plans.specs.declared.Step.{Step}
 use Rattle.plans.specs.declared.Plan.{Plan}
-use Rattle.plans.specs.Plans.{refusedPlan, placesLeft, roomy, unless, electPlan, timeoutPlan, stopPlan, inside, electAt, timeoutAt, stopAt, badLengths, callBucket, callPlan, callAt, messageRefusal, messageStep, gone, handPlan, receiverAt, handAt, loseAt}
-use Rattle.plans.specs.Arrays.{Measured, servers, Called, CallPlanned, receivers, Handed, HandPlanned}
+use Rattle.plans.specs.Plans.{refusedPlan, placesLeft, roomy, unless, electPlan, timeoutPlan, stopPlan, inside, electAt, timeoutAt, stopAt, badLengths, callBucket, callPlan, callAt, messageRefusal, messageStep, loseAt}
+use Rattle.plans.specs.Arrays.{Measured, servers, Called, CallPlanned}
 
 -- ---- the effect of a plan
 
@@ -77,14 +75,6 @@ unfolding callAt
 call-at-keeps m c s w f =
     either-keeps (inside c s (callBucket c w)) _ _ f (either-keeps (badLengths w) _ _ f refl (call-keeps c s _ w _ f)) refl
 
-hand-keeps : (c : Counts) (x : Step) (m : Message) (l : Local) (f : Effect) → handPlan c x m l f .effect ≡ f
-unfolding handPlan
-hand-keeps c x m l f = either-keeps (gone c x l) _ _ f refl (roomy-keeps c _)
-
-hand-at-keeps : (m : Memory) (c : Counts) (i : ℕ) (removes : Bool) (f : Effect) → handAt m c i removes f .effect ≡ f
-unfolding handAt
-hand-at-keeps m c i removes f = unless-keeps _ f _ (hand-keeps c _ _ _ f)
-
 pub lose-at-keeps : (c : Counts) (i : ℕ) (f : Effect) → loseAt c i f .effect ≡ f
 unfolding loseAt
 lose-at-keeps c i f = unless-keeps _ f _ refl
@@ -131,9 +121,6 @@ refused-or false false h = refl
 pub in-list : (c : Counts) (i : ℕ) → messageRefusal c i ≡ 0 → i < c .messages
 unfolding messageRefusal
 in-list c i h = leb-false _ _ (refused-or (leb maxAccepted (c .lines)) (leb (c .messages) i) h)
-
-pub listed : (c : Counts) (i : ℕ) → Measured c → messageRefusal c i ≡ 0 → i < 64
-listed c i m h = omega (arith, in-list c i h, m .messages)
 
 -- the server and the bucket that a message names have a place in the arrays
 pub step-slot : (c : Counts) (i : ℕ) (removes : Bool) (m : Message) (x : Step) → x ≡ messageStep c i removes m → (x .server < 7) × (x .server * 8 + x .bucket < 56)
@@ -187,59 +174,3 @@ module _ (heads slots copies : List ℕ) (c : Counts) (s : ℕ) (w : Words) (p :
         is = x .is ∙ ap (λ y. callPlan c s y w (localAt (servers heads slots) s (slotOf s y)) (p .effect)) e ∙ sym (call-at-inside h′ k (p .effect));
         effect = λ one r. x .effect one ∙ ap (λ y. calls.effect (wordsIn w) (tableAt copies (slotOf s y))) e;
       }
-
--- ---- messages
-
-module _ (heads slots copies texts queue : List ℕ) (c : Counts) (i : ℕ) (removes : Bool) (p : Plan) where
-  -- what is handed over, and to whom
-  abbrev step : Step
-  step = messageStep c i removes (messageAt queue i)
-
-  abbrev to : Local
-  to = receiverAt (receivers heads slots queue) i
-
-  abbrev localOf : Step → Local
-  localOf x = localAt (receivers heads slots queue) (x .server) (slotOf (x .server) (x .bucket))
-
-  abbrev effectOf : Step → calls.Effect
-  effectOf x = calls.effect (wordsIn (wordsAt slots texts (slotOf (x .server) (x .bucket)))) (tableAt copies (slotOf (x .server) (x .bucket)))
-
-  handed-to : (x : Step) (l : Local) (f : Effect)
-      → x ≡ step → l ≡ to → (readsTable (c .servers) (messageAt queue i) l ≡ true → effectIn f ≡ effectOf x)
-      → p ≡ handPlan c x (messageAt queue i) l f → Handed heads slots copies texts queue c i removes p
-  handed-to x l f e at g q = record {
-    is =
-        told (handPlan c step (messageAt queue i) to) f p (hand-keeps c step (messageAt queue i) to)
-        (q ∙ ap (λ y. handPlan c y (messageAt queue i) l f) e ∙ ap (λ y. handPlan c step (messageAt queue i) y f) at);
-    effect = λ h.
-        ap effectIn (ap (λ y. y .effect) q ∙ hand-keeps c x (messageAt queue i) l f)
-        ∙ g (ap (readsTable (c .servers) (messageAt queue i)) at ∙ h)
-        ∙ ap effectOf e;
-  }
-
-  pub handed : (m : Message) (x : Step) (l : Local) (f : Effect)
-      → m ≡ messageAt queue i
-      → x ≡ messageStep c i removes m
-      → l ≡ localOf x
-      → (readsTable (c .servers) m l ≡ true → effectIn f ≡ effectOf x)
-      → p ≡ handPlan c x m l f
-      → Handed heads slots copies texts queue c i removes p
-  handed m x l f em ex el g q =
-      let e : x ≡ step = ex ∙ ap (messageStep c i removes) em in
-      handed-to x l f e (el ∙ ap localOf e) (λ h. g (ap (λ y. readsTable (c .servers) y l) em ∙ h)) (q ∙ ap (λ y. handPlan c x y l f) em)
-
-  pub hand-listed : messageRefusal c i ≡ 0 → Handed heads slots copies texts queue c i removes p → HandPlanned heads slots copies texts queue c i removes p
-  unfolding handAt
-  hand-listed h x = record {
-    is = x .is ∙ sym (unless-none (messageRefusal c i) (p .effect) _ h);
-    effect = λ z reads. x .effect reads;
-  }
-
-  pub hand-refused : (r : ℕ) (f : Effect) → r ≡ messageRefusal c i → (r ≡ 0 → ⊥) → p ≡ refusedPlan r f → HandPlanned heads slots copies texts queue c i removes p
-  unfolding handAt
-  hand-refused r f e h q = record {
-    is =
-        told (handAt (receivers heads slots queue) c i removes) f p (hand-at-keeps (receivers heads slots queue) c i removes)
-        (q ∙ sym (unless-some r f _ h) ∙ ap (λ y. unless y f (handPlan c step (messageAt queue i) to f)) e);
-    effect = λ z reads. absurd (h (e ∙ z));
-  }

@@ -1,6 +1,5 @@
 -- The plans of specs/Plans.antt, from the arrays that each looks at.
 use mathlib.Core.Path.{_≡_}
-use mathlib.Core.Bool.{Bool, true}
 use mathlib.Core.List.{List, []}
 use Prim.Native.Nat.{ℕ, _≤_, min}
 use Rattle.model.specs.Calls as calls
@@ -8,11 +7,10 @@ use Rattle.server.specs.declared.Words.{Words}
 use Rattle.server.specs.declared.Effect.{Effect}
 use Rattle.server.specs.Views.{effectIn, wordsIn}
 use Rattle.memory.specs.declared.Counts.{Counts}
-use Rattle.memory.specs.Layout.{messageAt, wordsAt}
-use Rattle.moves.specs.Moves.{readsTable}
+use Rattle.memory.specs.Layout.{messageAt}
 use Rattle.views.specs.Memory.{Memory, memory, slotOf, localAt, tableAt}
 use Rattle.plans.specs.declared.Plan.{Plan}
-use Rattle.plans.specs.Plans.{electAt, timeoutAt, stopAt, callBucket, callPlan, callAt, messageStep, handPlan, receiverAt, handAt, messageRefusal}
+use Rattle.plans.specs.Plans.{electAt, timeoutAt, stopAt, callBucket, callPlan, callAt}
 
 -- counts within document 01's measures
 pub record Measured (c : Counts) : Type 0 where
@@ -47,24 +45,6 @@ pub record CallPlanned (heads slots copies : List ℕ) (c : Counts) (s : ℕ) (w
   pub is : p ≡ callAt (servers heads slots) c s w (p .effect)
   pub effect : c .servers ≤ 1 → p .refusal ≡ 0 → effectIn (p .effect) ≡ calls.effect (wordsIn w) (tableAt copies (slotOf s (callBucket c w)))
 
-abbrev pub receivers : (heads slots queue : List ℕ) → Memory
-receivers heads slots queue = memory [] heads slots [] [] [] queue []
-
 -- the slot of the server and bucket that message i names
 abbrev pub receiverSlot : List ℕ → ℕ → ℕ
 receiverSlot queue i = slotOf (min 6 (messageAt queue i .receiver)) (min 7 (messageAt queue i .bucket))
-
--- message i is in the list
-pub record Handed (heads slots copies texts queue : List ℕ) (c : Counts) (i : ℕ) (removes : Bool) (p : Plan) : Type 0 where
-  pub is : p ≡ handPlan c (messageStep c i removes (messageAt queue i)) (messageAt queue i) (receiverAt (receivers heads slots queue) i) (p .effect)
-  pub effect :
-      readsTable (c .servers) (messageAt queue i) (receiverAt (receivers heads slots queue) i) ≡ true →
-      effectIn (p .effect) ≡ calls.effect (wordsIn (wordsAt slots texts (receiverSlot queue i))) (tableAt copies (receiverSlot queue i))
-
--- the same unless it is refused with 5 or 7
-pub record HandPlanned (heads slots copies texts queue : List ℕ) (c : Counts) (i : ℕ) (removes : Bool) (p : Plan) : Type 0 where
-  pub is : p ≡ handAt (receivers heads slots queue) c i removes (p .effect)
-  pub effect :
-      messageRefusal c i ≡ 0 →
-      readsTable (c .servers) (messageAt queue i) (receiverAt (receivers heads slots queue) i) ≡ true →
-      effectIn (p .effect) ≡ calls.effect (wordsIn (wordsAt slots texts (receiverSlot queue i))) (tableAt copies (receiverSlot queue i))

@@ -1,22 +1,16 @@
-// Messages that are handed over or lost: `deliver`, `copy` and `lose`.
+// Messages that are handed over or lost: the parts of `deliver` and `copy`, and `lose`.
 use crate::Plan;
 use crate::Step;
 use crate::calls::effect_of;
 use crate::limits::chosen;
-use crate::limits::roomy;
 use crate::limits::unless;
-use crate::parts::move_plan;
 use crate::parts::no_effect;
 use crate::parts::no_message;
 use crate::parts::no_move;
 use crate::parts::no_words;
-use crate::parts::refused_plan;
-use crate::servers::load_local;
 use memory::Counts;
-use memory::messages::load_message;
 use memory::words::load_words;
 use moves::Local;
-use moves::handling::handled_move;
 use moves::handling::reads_table;
 use server::Effect;
 use server::Message;
@@ -25,14 +19,13 @@ ghost use mathlib.Core.Bool.{true};
 ghost use Prim.Native.Nat.{_<_, min};
 ghost use Rattle.model.specs.Calls as calls;
 ghost use Rattle.server.specs.Views.{effectIn, wordsIn};
-ghost use Rattle.memory.specs.Layout.{slotRoom, messageRoom, wordsAt};
+ghost use Rattle.memory.specs.Layout.{slotRoom, wordsAt};
 ghost use Rattle.moves.specs.Moves.{readsTable};
 ghost use Rattle.views.specs.Memory.{tableAt};
-ghost use Rattle.plans.specs.Plans.{messageRefusal, messageStep, lostPlan, handPlan, loseAt};
-ghost use Rattle.plans.specs.Arrays.{Measured, Handed, HandPlanned};
+ghost use Rattle.plans.specs.Plans.{messageRefusal, messageStep, lostPlan, loseAt};
 
 // 5 and 7, or 0.
-fn message_refusal(c: Counts, i: u32) -> u32
+pub fn message_refusal(c: Counts, i: u32) -> u32
     ensures { λ r. ⌜ r ≡ messageRefusal c i ⌝ }
 {
     if 1000000 <= c.lines {
@@ -51,7 +44,7 @@ fn lesser(top: u32, x: u32) -> u32
 }
 
 // A message that is handed over; `copy` leaves it in the list.
-fn message_step(c: Counts, i: u32, removes: bool, m: Message) -> Step
+pub fn message_step(c: Counts, i: u32, removes: bool, m: Message) -> Step
     ensures { λ r. ⌜ r ≡ messageStep c i removes m ⌝ }
 {
     Step {
@@ -90,24 +83,8 @@ fn lost_plan(c: Counts, i: u32, removes: bool, f: Effect) -> Plan
     }
 }
 
-// 12, or the handling of message m; to a server that is not there, or that is stopped, it is lost.
-fn hand_plan(c: Counts, x: Step, m: Message, l: Local, f: Effect) -> Plan
-    requires { ⌜ Measured c ⌝ }
-    ensures { λ r. ⌜ r ≡ handPlan c x m l f ⌝ }
-{
-    if c.servers <= x.server {
-        return lost_plan(c, x.message, x.removes, f);
-    }
-    let h = l.head;
-    if h.stopped == 1 {
-        return lost_plan(c, x.message, x.removes, f);
-    }
-    let v = handled_move(c.servers, x.server, f.result, m, l);
-    roomy(c, move_plan(x, v, f))
-}
-
 // What the call of slot k does, where message m brings its table to light.
-fn hand_effect(
+pub fn hand_effect(
     slots: &[u32; 1792],
     copies: &[u8; 7168],
     texts: &[u8; 3584],
@@ -124,49 +101,6 @@ fn hand_effect(
         return effect_of(copies, k, w);
     }
     no_effect()
-}
-
-// A message that is in the list.
-fn plan_listed(
-    heads: &[u32; 112],
-    slots: &[u32; 1792],
-    copies: &[u8; 7168],
-    texts: &[u8; 3584],
-    queue: &[u32; 512],
-    c: Counts,
-    i: u32,
-    removes: bool,
-) -> Plan
-    requires { ⌜ Measured c × (i < messageRoom) ⌝ }
-    ensures { λ p. ⌜ Handed (now (heads .entry)) (now (slots .entry)) (now (copies .entry)) (now (texts .entry)) (now (queue .entry)) c i removes p ⌝ }
-{
-    let m = load_message(queue, i as usize);
-    let x = message_step(c, i, removes, m);
-    let at = x.server as usize;
-    let k = at * 8 + x.bucket as usize;
-    let l = load_local(heads, slots, at, k);
-    let f = hand_effect(slots, copies, texts, c.servers, m, l, k);
-    hand_plan(c, x, m, l, f)
-}
-
-pub fn plan_hand(
-    heads: &[u32; 112],
-    slots: &[u32; 1792],
-    copies: &[u8; 7168],
-    texts: &[u8; 3584],
-    queue: &[u32; 512],
-    c: Counts,
-    i: u32,
-    removes: bool,
-) -> Plan
-    requires { ⌜ Measured c ⌝ }
-    ensures { λ p. ⌜ HandPlanned (now (heads .entry)) (now (slots .entry)) (now (copies .entry)) (now (texts .entry)) (now (queue .entry)) c i removes p ⌝ }
-{
-    let r = message_refusal(c, i);
-    if r == 0 {
-        return plan_listed(heads, slots, copies, texts, queue, c, i, removes);
-    }
-    refused_plan(r, no_effect())
 }
 
 pub fn plan_lose(c: Counts, i: u32) -> Plan

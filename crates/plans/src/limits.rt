@@ -45,7 +45,7 @@ pub fn chosen(b: bool, x: u32, y: u32) -> u32
 }
 
 // Whether there is a place for each message; the place of one that is removed is free.
-fn places_left(c: Counts, removes: bool, kind: u32) -> bool
+pub fn places_left(c: Counts, removes: bool, kind: u32) -> bool
     requires { ⌜ (c .servers ≤ 7) × (c .messages ≤ 64) ⌝ }
     ensures { λ r. ⌜ r ≡ placesLeft c removes kind ⌝ }
 {

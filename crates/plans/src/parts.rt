@@ -17,6 +17,8 @@ use server::Round;
 use server::Version;
 use server::Words;
 ghost use mathlib.Core.Path.{_≡_};
+ghost use mathlib.Core.List.{[]};
+ghost use Rattle.entries.specs.Decoded.{tableIn};
 ghost use Rattle.rounds.specs.Rounds.{noVersion};
 ghost use Rattle.moves.specs.Moves.{noRound, noCall, local};
 ghost use Rattle.plans.specs.Plans.{noWords, noMessage, noStep, noHead, noMove, refusedPlan, lineStep, movePlan, takePlan};
@@ -150,7 +152,9 @@ pub fn no_move() -> Move
 }
 
 // What stands for the effect of a line that asks for none.
-pub fn no_effect() -> Effect {
+pub fn no_effect() -> Effect
+    ensures { λ r. ⌜ (r .result ≡ 0) × (tableIn (r .table) ≡ []) ⌝ }
+{
     let value = Value {
         bytes: [0u8; 16],
         len: 0,

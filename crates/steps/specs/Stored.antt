@@ -2,7 +2,6 @@
 use mathlib.Core.Path.{_≡_}
 use mathlib.Core.List.{List}
 use Prim.Native.Nat.{ℕ, _+_, _≤_}
-use Rattle.entries.specs.Entries.{Entry}
 use Rattle.server.specs.declared.Version.{Version}
 use Rattle.server.specs.declared.Round.{Round}
 use Rattle.server.specs.declared.Call.{Call}
@@ -10,7 +9,7 @@ use Rattle.memory.specs.Layout.{putHead, putVersion, putRound, putCall}
 use Rattle.moves.specs.declared.Local.{Local}
 use Rattle.moves.specs.declared.Move.{Move}
 use Rattle.views.specs.Memory.{slotOf}
-use Rattle.views.specs.Changes.{putLocal, slotsAfter, filledFrom, keptFrom, Written, endedCall}
+use Rattle.views.specs.Changes.{putLocal, slotsAfter, keptFrom, Written, endedCall}
 use Rattle.views.specs.Queue.{Flight, flight}
 
 abbrev pub putSlot : List ℕ → ℕ → Version → Round → Call → List ℕ
@@ -37,12 +36,11 @@ pub record Flown (x : Flight) (queue loads : List ℕ) (r : ℕ) : Type 0 where
   pub is : flight queue loads r ≡ x
   pub few : r ≤ 64
 
--- the arrays of a server after a move
-pub record MovedServer (heads slots copies works loads : List ℕ) (most s b i : ℕ) (v : Move) (made : List Entry) (heads′ slots′ copies′ works′ : List ℕ) : Type 0 where
+-- the arrays of a server after a move, once its working content is filled
+pub record MovedServer (heads slots copies works loads : List ℕ) (most s b i : ℕ) (v : Move) (heads′ slots′ copies′ : List ℕ) : Type 0 where
   pub head : heads′ ≡ putHead heads s (v .local .head)
   pub slot : slots′ ≡ slotsAfter slots most s (slotOf s b) v
-  pub work : works′ ≡ filledFrom works copies loads (slotOf s b) i made (v .fills)
-  pub copy : copies′ ≡ keptFrom copies works′ loads (slotOf s b) i (v .keeps)
+  pub copy : copies′ ≡ keptFrom copies works loads (slotOf s b) i (v .keeps)
 
 -- a server's head and slots after a move
 pub record Settled (heads slots : List ℕ) (most s k : ℕ) (v : Move) (heads′ slots′ : List ℕ) : Type 0 where

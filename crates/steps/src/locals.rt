@@ -1,7 +1,5 @@
 // A server's head and one of its slots: loaded together, stored together, and cleared when leading ends.
-use crate::contents::fill_work;
 use crate::contents::keep_copy;
-use entries::Decoded;
 use memory::heads::load_head;
 use memory::heads::store_head;
 use memory::slots::load_call;
@@ -18,7 +16,6 @@ use server::Version;
 ghost use mathlib.Core.Path.{_≡_};
 ghost use Prim.Native.Nat.{_<_, _≤_};
 ghost use Rattle.memory.specs.Layout.{serverRoom, slotRoom, messageRoom, headAt, versionAt, roundAt, callAt};
-ghost use Rattle.entries.specs.Decoded.{tableIn};
 ghost use Rattle.moves.specs.Moves.{local, noRound, noCall};
 ghost use Rattle.views.specs.Changes.{isIdle, clearedSlot, clearedSlots};
 ghost use Rattle.steps.specs.Stored.{Stored, putSlot, Settled, MovedServer};
@@ -129,25 +126,23 @@ fn settle(heads: &mut [u32; 112], slots: &mut [u32; 1792], most: usize, s: usize
     }
 }
 
-// A move at server s and bucket b; i is the place of the message handed over, t the new table of the call's effect.
+// A move at server s and bucket b, whose working content is filled; i is the place of the message handed over.
 pub fn move_server(
     heads: &mut [u32; 112],
     slots: &mut [u32; 1792],
     copies: &mut [u8; 7168],
-    works: &mut [u8; 7168],
+    works: &[u8; 7168],
     loads: &[u8; 8192],
     most: usize,
     s: usize,
     b: usize,
     i: usize,
     v: Move,
-    t: Decoded,
 )
     requires { ⌜ (s < serverRoom) × ((b < 8) × ((most ≤ 8) × (i < messageRoom))) ⌝ }
-    ensures { λ _. ⌜ MovedServer (now (heads .entry)) (now (slots .entry)) (now (copies .entry)) (now (works .entry)) (now (loads .entry)) most s b i v (tableIn t) (now (heads .exit)) (now (slots .exit)) (now (copies .exit)) (now (works .exit)) ⌝ }
+    ensures { λ _. ⌜ MovedServer (now (heads .entry)) (now (slots .entry)) (now (copies .entry)) (now (works .entry)) (now (loads .entry)) most s b i v (now (heads .exit)) (now (slots .exit)) (now (copies .exit)) ⌝ }
 {
     let k = s * 8 + b;
-    fill_work(works, copies, loads, k, i, v.fills, t);
     keep_copy(copies, works, loads, k, i, v.keeps);
     settle(heads, slots, most, s, k, v);
 }

@@ -1,5 +1,5 @@
 -- `lines::plan_line` meets its contract: kind by kind.
-use Rattle.machine.proofs.Planning.{malformed-planned, cluster-planned, elect-planned, timeout-planned, stop-planned, lose-planned, get-planned, set-planned, setif-planned, del-planned, keys-planned, deliver-planned, copy-planned}
+use Rattle.machine.proofs.Planning.{malformed-planned, cluster-planned, elect-planned, timeout-planned, stop-planned, lose-planned, get-planned, set-planned, setif-planned, del-planned, keys-planned, deliver-unplanned, copy-unplanned}
 use borrow.Author.Needs.{needs}
 use Rattle.machine.proofs.lines.plan_line.Statement.{statement}
 use Rattle.machine.proofs.lines.plan_line.Tie as tie
@@ -64,14 +64,20 @@ plan-call-requires-5 c κs = search needs
 enum-told-9 : tie.Need-enum-told-9
 enum-told-9 c = search needs
 
-plan-hand-requires : tie.Need-plan-hand-requires
-plan-hand-requires c κs = search needs
+no-effect-requires-3 : tie.Need-no-effect-requires-3
+no-effect-requires-3 c κs = search needs
+
+refused-plan-requires-3 : tie.Need-refused-plan-requires-3
+refused-plan-requires-3 c κs = search needs
 
 enum-told-10 : tie.Need-enum-told-10
 enum-told-10 c = search needs
 
-plan-hand-requires-2 : tie.Need-plan-hand-requires-2
-plan-hand-requires-2 c κs = search needs
+no-effect-requires-4 : tie.Need-no-effect-requires-4
+no-effect-requires-4 c κs = search needs
+
+refused-plan-requires-4 : tie.Need-refused-plan-requires-4
+refused-plan-requires-4 c κs = search needs
 
 enum-told-11 : tie.Need-enum-told-11
 enum-told-11 c = search needs
@@ -116,10 +122,10 @@ returns-8 : tie.Need-returns-8
 returns-8 c = keys-planned _ _ _ _ _ _ _ _ _ (c .before .enum-told8 .given .1) (c .before .before .before .words-of .ensures) (c .plan-call5 .ensures)
 
 returns-9 : tie.Need-returns-9
-returns-9 c = deliver-planned _ _ _ _ _ _ _ _ (c .before .enum-told9 .given .1) (c .plan-hand .ensures)
+returns-9 c = deliver-unplanned _ _ _ _ _ _ _ _ (c .before .before .enum-told9 .given .1) (c .before .before .before .before .before .pre .1)
 
 returns-10 : tie.Need-returns-10
-returns-10 c = copy-planned _ _ _ _ _ _ _ _ (c .before .enum-told10 .given .1) (c .plan-hand2 .ensures)
+returns-10 c = copy-unplanned _ _ _ _ _ _ _ _ (c .before .before .enum-told10 .given .1) (c .before .before .before .before .before .pre .1)
 
 returns-11 : tie.Need-returns-11
 returns-11 c = lose-planned _ _ _ _ _ _ _ _ (c .before .enum-told11 .given .1) (c .plan-lose .ensures)
@@ -154,9 +160,11 @@ plan-line-spec =
     enum-told-8
     plan-call-requires-5
     enum-told-9
-    plan-hand-requires
+    no-effect-requires-3
+    refused-plan-requires-3
     enum-told-10
-    plan-hand-requires-2
+    no-effect-requires-4
+    refused-plan-requires-4
     enum-told-11
     plan-lose-requires
     enum-told-12

@@ -15,7 +15,7 @@ standing-requires : tie.Need-standing-requires
 standing-requires c κs = search needs
 
 plan-line-requires : tie.Need-plan-line-requires
-plan-line-requires c κs = standing-measured _ (sym (c .before .before .before .before .before .before .standing .ensures) ∙ c .before .before .before .before .before .if1 .taken)
+plan-line-requires c κs = (standing-measured _ (sym (c .before .before .before .before .before .before .standing .ensures) ∙ c .before .before .before .before .before .if1 .taken), c .before .before .before .before .before .before .before .before .before .pre)
 
 execute-requires : tie.Need-execute-requires
 execute-requires c κs = subst (Executable _) (sym (c .before .before .before .before .before .before .before .before .before .plan-line .ensures .is)) (executable _ _ _ _ (standing-measured _ (sym (c .before .before .before .before .before .before .before .before .before .before .before .before .before .before .before .before .standing .ensures) ∙ c .before .before .before .before .before .before .before .before .before .before .before .before .before .before .before .if1 .taken)))

@@ -1,8 +1,8 @@
--- `lines::within` meets its contract: 1 and the greatest are looked at.
+-- `numbers::within` meets its contract: 1 and the greatest are looked at.
 use borrow.Author.Tests.{le-leb, lt-leb}
 use Rattle.table.specs.Form.{within}
-use Rattle.machine.proofs.lines.within.Statement.{statement}
-use Rattle.machine.proofs.lines.within.Tie as tie
+use Rattle.machine.proofs.numbers.within.Statement.{statement}
+use Rattle.machine.proofs.numbers.within.Tie as tie
 
 returns : tie.Need-returns
 unfolding within

@@ -1,8 +1,8 @@
--- `lines::standing` meets its contract: servers, buckets and messages.
+-- `numbers::standing` meets its contract: servers, buckets and messages.
 use Rattle.views.specs.Memory.{standing}
 use borrow.Author.Needs.{needs}
-use Rattle.machine.proofs.lines.standing.Statement.{statement}
-use Rattle.machine.proofs.lines.standing.Tie as tie
+use Rattle.machine.proofs.numbers.standing.Statement.{statement}
+use Rattle.machine.proofs.numbers.standing.Tie as tie
 
 within-requires : tie.Need-within-requires
 within-requires c κs = search needs

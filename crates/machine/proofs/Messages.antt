@@ -1,0 +1,217 @@
+-- A message that is handed over: what its parts leave is the run of its plan, though no plan is made.
+use mathlib.Core.Path.{_≡_, refl, sym, ap, _∙_, subst}
+use mathlib.Core.Logic.{_≢_}
+use mathlib.Core.Bool.{Bool, true, false, true≢false}
+use mathlib.Core.List.{List, []}
+use Prim.Native.Nat.{ℕ, _≤_, _<_}
+use native.Mathlib.Nat.{min-le-left}
+use native.Mathlib.Omega.{arith}
+use borrow.Author.Tests.{le-leb, lt-leb, eq-eqb, ne-eqb}
+use Rattle.entries.specs.Decoded.{tableIn}
+use Rattle.model.specs.Calls as calls
+use Rattle.server.specs.declared.Effect.{Effect}
+use Rattle.server.specs.declared.Message.{Message}
+use Rattle.server.specs.Views.{flagIn, effectIn, wordsIn}
+use Rattle.memory.specs.declared.Counts.{Counts}
+use Rattle.memory.specs.Layout.{countsAt, messageAt, wordsAt}
+use Rattle.moves.specs.declared.Local.{Local}
+use Rattle.moves.specs.declared.Move.{Move}
+use Rattle.moves.specs.Moves.{handledMove, readsTable}
+use Rattle.views.specs.Memory.{Memory, memory, slotOf, localAt, standing, tableAt}
+use Rattle.plans.specs.declared.Step.{Step}
+use Rattle.plans.specs.declared.Plan.{Plan}
+use Rattle.plans.specs.Plans.{refusedPlan, placesLeft, roomy, unless, movePlan, messageRefusal, messageStep, lostPlan, gone, receiverAt, handPlan, handAt}
+use Rattle.plans.specs.Arrays.{Measured}
+use Rattle.plans.proofs.Judging.{unless-none, unless-some}
+use Rattle.runs.specs.declared.Report.{Report}
+use Rattle.runs.specs.Runs.{Ran, ran, refusedRun, lostRun, carriedRun, taken, executed}
+use Rattle.machine.specs.Contracts.{Losable, Carriable, Handable, Lost, Reported, PlainlyReported, handledRun, HandledPlainly, HandledThere, HandedListed, HandRan}
+use Rattle.machine.proofs.Executing.{executes-lost}
+
+-- the report of a line that is refused with n
+abbrev pub refusal : ℕ → Effect → Report
+refusal n f = record { refusal = n; answers = 0; sent = 0; copied = 0; delivered = 0; lost = 0; messages = 0; effect = f }
+
+pub carries : {c : Counts} {x : Step} {v : Move} {b : Bool} → Handable c x → b ≡ placesLeft c (x .removes) (v .sends) → b ≡ true → Carriable c x v
+carries {c} {x} h e t =
+    let m = h .measured in
+    record {
+      servers = m .servers;
+      buckets = m .buckets;
+      server = h .server;
+      bucket = h .bucket;
+      place = omega (arith, h .listed, m .messages);
+      losable = record { messages = m .messages; there = λ _. h .listed };
+      room = sym e ∙ t;
+    }
+
+module _ (m : Memory) (l : List ℕ) (c : Counts) (x : Step) (y : Message) (to : Local) where
+  moves-plan : (f : Effect) (v : Move) → placesLeft c (x .removes) (v .sends) ≡ true → carriedRun m l c x v (tableIn (f .table)) ≡ executed m l c (roomy c (movePlan x v f))
+  unfolding executed roomy taken
+  moves-plan f v e = rw (roomy, e)
+
+  refuses-plan : (f : Effect) (v : Move) → placesLeft c (x .removes) (v .sends) ≡ false → refusedRun m l 12 ≡ executed m l c (roomy c (movePlan x v f))
+  unfolding executed roomy
+  refuses-plan f v e = rw (roomy, e)
+
+  -- the move is carried out
+  pub handled : (f : Effect) (v : Move) (b : Bool) (z : Ran) → v ≡ handledMove (c .servers) (x .server) (f .result) y to → b ≡ placesLeft c (x .removes) (v .sends) → b ≡ true
+      → z ≡ carriedRun m l c x v (tableIn (f .table)) → z ≡ handledRun m l c x y to f
+  handled f v b z e h t q = q ∙ moves-plan f v (sym h ∙ t) ∙ ap (λ v. executed m l c (roomy c (movePlan x v f))) e
+
+  -- 12
+  pub unroomy : (f : Effect) (v : Move) (b : Bool) (r : Report) → v ≡ handledMove (c .servers) (x .server) (f .result) y to → b ≡ placesLeft c (x .removes) (v .sends) → b ≡ false
+      → r ≡ refusal 12 f → ran m l r ≡ handledRun m l c x y to f
+  unfolding refusedRun
+  unroomy f v b r e h t q = ap (ran m l) q ∙ refuses-plan f v (sym h ∙ t) ∙ ap (λ v. executed m l c (roomy c (movePlan x v f))) e
+
+  pub handled-plainly : (v : Move) (b : Bool) {m′ : Memory} {l′ : List ℕ} {r : Report} → v ≡ handledMove (c .servers) (x .server) 0 y to → b ≡ placesLeft c (x .removes) (v .sends) → b ≡ true
+      → PlainlyReported (carriedRun m l c x v []) m′ l′ r → HandledPlainly m l c x y to m′ l′ r
+  handled-plainly v b {m′} {l′} {r} e h t q = record {
+    is =
+        handled (r .effect) v b (ran m′ l′ r) (e ∙ ap (λ n. handledMove (c .servers) (x .server) n y to) (sym (q .result))) h t
+        (q .is ∙ ap (carriedRun m l c x v) (sym (q .table)));
+  }
+
+  pub unroomy-plainly : (f : Effect) (v : Move) (b : Bool) (r : Report) → f .result ≡ 0 → v ≡ handledMove (c .servers) (x .server) 0 y to → b ≡ placesLeft c (x .removes) (v .sends) → b ≡ false
+      → r ≡ refusal 12 f → HandledPlainly m l c x y to m l r
+  unroomy-plainly f v b r z e h t q =
+      let same : r .effect ≡ f = ap (λ r. r .effect) q in
+      record {
+        is =
+            unroomy f v b r (e ∙ ap (λ n. handledMove (c .servers) (x .server) n y to) (sym z)) h t q ∙ ap (handledRun m l c x y to) (sym same);
+      }
+
+  pub there-asked : (k : ℕ) (f : Effect) {m′ : Memory} {l′ : List ℕ} {r : Report}
+      → (readsTable (c .servers) y to ≡ true → effectIn f ≡ calls.effect (wordsIn (wordsAt (m .slots) (m .texts) k)) (tableAt (m .copies) k))
+      → Reported (handledRun m l c x y to f) f m′ l′ r → HandledThere m l c x y to k m′ l′ r
+  there-asked k f g q = record {
+    is = q .is ∙ ap (handledRun m l c x y to) (sym (q .effect));
+    effect = λ h. ap effectIn (q .effect) ∙ g h;
+  }
+
+  pub there-plain : (k : ℕ) (b : Bool) {m′ : Memory} {l′ : List ℕ} {r : Report} → b ≡ readsTable (c .servers) y to → b ≡ false
+      → HandledPlainly m l c x y to m′ l′ r → HandledThere m l c x y to k m′ l′ r
+  there-plain k b e t q = record { is = q .is; effect = λ h. absurd (true≢false (sym h ∙ sym e ∙ t)) }
+
+  -- to a server that is not gone a message is handed over
+  pub handed-to : (f : Effect) (z : Ran) → gone c x to ≡ false → z ≡ handledRun m l c x y to f → z ≡ executed m l c (handPlan c x y to f)
+  unfolding handPlan
+  handed-to f z g q = rw (handPlan, g) q
+
+-- ---- whether the receiver is gone
+
+pub not-there : (c : Counts) (x : Step) (to : Local) → c .servers ≤ x .server → gone c x to ≡ true
+unfolding gone
+not-there c x to h = rw (gone, le-leb _ _ h)
+
+pub stopped-there : (c : Counts) (x : Step) (to : Local) → x .server < c .servers → to .head .stopped ≡ 1 → gone c x to ≡ true
+unfolding gone flagIn
+stopped-there c x to h s = rw (gone, flagIn, lt-leb _ _ h, eq-eqb _ _ s)
+
+pub still-there : (c : Counts) (x : Step) (to : Local) → x .server < c .servers → to .head .stopped ≢ 1 → gone c x to ≡ false
+unfolding gone flagIn
+still-there c x to h s = rw (gone, flagIn, lt-leb _ _ h, ne-eqb _ _ s)
+
+pub flag-of-one : (n : ℕ) → n ≡ 1 → flagIn n ≡ true
+unfolding flagIn
+flag-of-one n h = rw (flagIn, eq-eqb _ _ h)
+
+-- ---- a message of the list
+
+pub losable : (c : Counts) (i : ℕ) (removes : Bool) (y : Message) (x : Step) → x ≡ messageStep c i removes y → Measured c → i < c .messages → Losable c x
+losable c i removes y x e m h = record { messages = m .messages; there = λ _. rw (ap (λ x. x .message) e) h }
+
+pub handable : (c : Counts) (i : ℕ) (removes : Bool) (y : Message) (x : Step) → x ≡ messageStep c i removes y → Measured c → i < c .messages → x .server < c .servers → Handable c x
+handable c i removes y x e m h s = record {
+  measured = m;
+  server = s;
+  bucket = let b : x .bucket ≤ 7 = rw (ap (λ x. x .bucket) e) (min-le-left 7 (y .bucket)) in omega arith;
+  listed = rw (ap (λ x. x .message) e) h;
+}
+
+module _ (counts heads slots copies works texts queue loads l : List ℕ) (c : Counts) (i : ℕ) (removes : Bool) where
+  abbrev before : Memory
+  before = memory counts heads slots copies works texts queue loads
+
+  abbrev asks : Step → calls.Effect
+  asks x = calls.effect (wordsIn (wordsAt slots texts (slotOf (x .server) (x .bucket)))) (tableAt copies (slotOf (x .server) (x .bucket)))
+
+  -- from what was loaded to what stands in the arrays
+  pub listed : (x : Step) (y : Message) (to : Local) {m′ : Memory} {l′ : List ℕ} {r : Report}
+      → y ≡ messageAt queue i → x ≡ messageStep c i removes y → to ≡ localAt before (x .server) (slotOf (x .server) (x .bucket))
+      → ran m′ l′ r ≡ executed before l c (handPlan c x y to (r .effect))
+      → (flagIn (to .head .stopped) ≡ false → readsTable (c .servers) y to ≡ true → effectIn (r .effect) ≡ asks x)
+      → HandedListed before l c i removes m′ l′ r
+  listed x y to {r = r} ey ex et q g =
+      let e : x ≡ messageStep c i removes (messageAt queue i) = ex ∙ ap (messageStep c i removes) ey in
+      let at : to ≡ receiverAt before i = et ∙ ap (λ x. localAt before (x .server) (slotOf (x .server) (x .bucket))) e in
+      record {
+        is =
+            q
+            ∙ ap (λ x. executed before l c (handPlan c x y to (r .effect))) e
+            ∙ ap (λ y. executed before l c (handPlan c (messageStep c i removes (messageAt queue i)) y to (r .effect))) ey
+            ∙ ap (λ to. executed before l c (handPlan c (messageStep c i removes (messageAt queue i)) (messageAt queue i) to (r .effect))) at;
+        effect = λ s h.
+            g (ap (λ to. flagIn (to .head .stopped)) at ∙ s) (ap (λ y. readsTable (c .servers) y to) ey ∙ ap (readsTable (c .servers) (messageAt queue i)) at ∙ h)
+            ∙ ap asks e;
+      }
+
+  lost-plan : (y : Message) (to : Local) (f : Effect) → gone c (messageStep c i removes y) to ≡ true → handPlan c (messageStep c i removes y) y to f ≡ lostPlan c i removes f
+  unfolding handPlan
+  lost-plan y to f e = rw (handPlan, e)
+
+  -- to a server that is gone it is lost
+  pub lost-to : (x : Step) (y : Message) (to : Local) (f : Effect) {counts′ queue′ loads′ : List ℕ} {r : Report} → x ≡ messageStep c i removes y → gone c x to ≡ true
+      → Lost counts queue loads c x f counts′ queue′ loads′ r
+      → ran (memory counts′ heads slots copies works texts queue′ loads′) l r ≡ executed before l c (handPlan c x y to (r .effect))
+  lost-to x y to f {counts′} {queue′} {loads′} {r} e g h =
+      let h1 : Lost counts queue loads c (messageStep c i removes y) f counts′ queue′ loads′ r = subst (λ x. Lost counts queue loads c x f counts′ queue′ loads′ r) e h in
+      let h2 : Lost counts queue loads c (lostPlan c i removes f .step) f counts′ queue′ loads′ r = record { rest = h1 .rest; counted = h1 .counted; report = h1 .report } in
+      let same : r .effect ≡ f = ap (λ r. r .effect) (h .report) in
+      executes-lost counts heads slots copies works texts queue loads l c (lostPlan c i removes f) refl refl h2 .is
+      ∙ ap (executed before l c) (sym (lost-plan y to f (ap (λ x. gone c x to) (sym e) ∙ g)))
+      ∙ ap (λ f. executed before l c (handPlan c (messageStep c i removes y) y to f)) (sym same)
+      ∙ ap (λ x. executed before l c (handPlan c x y to (r .effect))) (sym e)
+
+-- ---- the whole line
+
+module _ (m : Memory) (l : List ℕ) (c : Counts) (e : c ≡ countsAt (m .counts)) (i : ℕ) (removes : Bool) where
+  abbrev handOrRefuse : Effect → Counts → Bool → Ran
+  handOrRefuse f c b = elim b [ true ↦ executed m l c (handAt m c i removes f) | false ↦ refusedRun m l 2 ]
+
+  hand-by : (f : Effect) (b : Bool) → standing c ≡ b → elim (standing (countsAt (m .counts))) [ true ↦ executed m l (countsAt (m .counts)) (handAt m (countsAt (m .counts)) i removes f) | false ↦ refusedRun m l 2 ] ≡ handOrRefuse f c b
+  hand-by f b s = ap (λ c. handOrRefuse f c (standing c)) (sym e) ∙ ap (handOrRefuse f c) s
+
+  pub hands-listed : {m′ : Memory} {l′ : List ℕ} {r : Report} → standing c ≡ true → messageRefusal c i ≡ 0 → HandedListed m l c i removes m′ l′ r → HandRan m l i removes m′ l′ r
+  unfolding handAt
+  hands-listed {r = r} s z h = record {
+    is = h .is ∙ ap (executed m l c) (sym (unless-none (messageRefusal c i) (r .effect) _ z)) ∙ sym (hand-by (r .effect) true s);
+    effect = λ _. rw (← e) (λ _ stopped reads. h .effect stopped reads);
+  }
+
+  -- the plan, unless the line is refused with n
+  abbrev unlessHand : ℕ → Effect → Plan
+  unlessHand n f = unless n f (handPlan c (messageStep c i removes (messageAt (m .queue) i)) (messageAt (m .queue) i) (receiverAt m i) f)
+
+  refused-plan : (n : ℕ) (f : Effect) → n ≢ 0 → refusedRun m l n ≡ executed m l c (refusedPlan n f)
+  unfolding executed
+  refused-plan n f h = rw (executed, ne-eqb _ _ h)
+
+  pub hands-refused : (n : ℕ) (f : Effect) {r : Report} → standing c ≡ true → n ≡ messageRefusal c i → n ≢ 0 → r ≡ refusal n f → HandRan m l i removes m l r
+  unfolding handAt refusedRun
+  hands-refused n f {r} s z h q = record {
+    is =
+        ap (ran m l) q
+        ∙ refused-plan n (r .effect) h
+        ∙ ap (executed m l c) (sym (unless-some n (r .effect) _ h) ∙ ap (λ n. unlessHand n (r .effect)) z)
+        ∙ sym (hand-by (r .effect) true s);
+    effect = λ _. rw (← e) (λ none stopped reads. absurd (h (z ∙ none)));
+  }
+
+  pub hands-nowhere : (f : Effect) {r : Report} → standing c ≡ false → r ≡ refusal 2 f → HandRan m l i removes m l r
+  unfolding refusedRun
+  hands-nowhere f {r} s q = record {
+    is = ap (ran m l) q ∙ sym (hand-by (r .effect) false s);
+    effect = λ z. absurd (true≢false (sym z ∙ ap standing (sym e) ∙ s));
+  }

@@ -1,0 +1,37 @@
+-- `carrying::carry_on` meets its contract: the server, the messages, then the counts.
+use borrow.Author.Needs.{needs}
+use Rattle.machine.proofs.carrying.carry_on.Statement.{statement}
+use Rattle.machine.proofs.carrying.carry_on.Tie as tie
+
+change-server-requires : tie.Need-change-server-requires
+change-server-requires c κs = search needs
+
+change-flight-requires : tie.Need-change-flight-requires
+change-flight-requires c κs = search needs
+
+next-counts-requires : tie.Need-next-counts-requires
+next-counts-requires c κs = search needs
+
+store-counts-requires : tie.Need-store-counts-requires
+store-counts-requires c κs = search needs
+
+send-count-requires : tie.Need-send-count-requires
+send-count-requires c κs = search needs
+
+cast-t26 : tie.Need-cast-t26
+cast-t26 c = search needs
+
+returns : tie.Need-returns
+returns c = record { server = c .before .before .before .before .before .before .before .before .change-server .ensures; flown = c .before .before .before .before .change-flight .ensures; counted = rw (c .before .store-counts .ensures, c .before .before .next-counts .ensures); sends = c .send-count .ensures }
+
+pub carry-on-spec : {M : Type 1} → statement M
+carry-on-spec =
+    tie.close
+    (tie.spec
+    change-server-requires
+    change-flight-requires
+    next-counts-requires
+    store-counts-requires
+    send-count-requires
+    cast-t26
+    returns)

@@ -1,0 +1,256 @@
+// Messages that are handed over: judged, and carried out at once. Most lines are such, so no plan is made of them, and the effect of
+// a call is made and handed on only where a message asks for it.
+use crate::carrying::carry_out;
+use crate::carrying::carry_plain;
+use crate::carrying::lose;
+use crate::carrying::refused;
+use crate::numbers::standing;
+use memory::Counts;
+use memory::counters::load_counts;
+use memory::messages::load_message;
+use moves::Local;
+use moves::handling::handled_move;
+use moves::handling::reads_table;
+use plans::Step;
+use plans::deliveries::hand_effect;
+use plans::deliveries::message_refusal;
+use plans::deliveries::message_step;
+use plans::limits::places_left;
+use plans::parts::no_effect;
+use plans::servers::load_local;
+use runs::Report;
+use server::Effect;
+use server::Message;
+ghost use mathlib.Core.Path.{_≡_};
+ghost use Prim.Native.Nat.{_<_};
+ghost use Rattle.views.specs.Memory.{memory, slotOf};
+ghost use Rattle.moves.specs.Moves.{handledMove};
+ghost use Rattle.plans.specs.Plans.{movePlan, roomy};
+ghost use Rattle.plans.specs.Arrays.{Measured};
+ghost use Rattle.runs.specs.Runs.{executed};
+ghost use Rattle.machine.specs.Contracts.{Handable, Reported, HandledPlainly, HandledThere, HandedListed, HandRan};
+
+// A message whose call's effect f is asked for.
+fn hand_asked(
+    counts: &mut [u32; 8],
+    heads: &mut [u32; 112],
+    slots: &mut [u32; 1792],
+    copies: &mut [u8; 7168],
+    works: &mut [u8; 7168],
+    texts: &[u8; 3584],
+    queue: &mut [u32; 512],
+    loads: &mut [u8; 8192],
+    answers: &mut [u32; 32],
+    c: Counts,
+    x: Step,
+    m: Message,
+    l: Local,
+    f: Effect,
+) -> Report
+    requires { ⌜ Handable c x ⌝ }
+    ensures { λ r. ⌜ Reported (executed (memory (now (counts .entry)) (now (heads .entry)) (now (slots .entry)) (now (copies .entry)) (now (works .entry)) (now (texts .entry)) (now (queue .entry)) (now (loads .entry))) (now (answers .entry)) c (roomy c (movePlan x (handledMove (c .servers) (x .server) (f .result) m l) f))) f (memory (now (counts .exit)) (now (heads .exit)) (now (slots .exit)) (now (copies .exit)) (now (works .exit)) (now (texts .entry)) (now (queue .exit)) (now (loads .exit))) (now (answers .exit)) r ⌝ }
+{
+    let v = handled_move(c.servers, x.server, f.result, m, l);
+    if places_left(c, x.removes, v.sends) {
+        return carry_out(
+            counts,
+            heads,
+            slots,
+            copies,
+            works,
+            texts,
+            queue,
+            loads,
+            answers,
+            c,
+            x,
+            v,
+            f,
+        );
+    }
+    refused(12, f)
+}
+
+// A message that asks for no effect.
+fn hand_plain(
+    counts: &mut [u32; 8],
+    heads: &mut [u32; 112],
+    slots: &mut [u32; 1792],
+    copies: &mut [u8; 7168],
+    works: &mut [u8; 7168],
+    texts: &[u8; 3584],
+    queue: &mut [u32; 512],
+    loads: &mut [u8; 8192],
+    answers: &mut [u32; 32],
+    c: Counts,
+    x: Step,
+    m: Message,
+    l: Local,
+) -> Report
+    requires { ⌜ Handable c x ⌝ }
+    ensures { λ r. ⌜ HandledPlainly (memory (now (counts .entry)) (now (heads .entry)) (now (slots .entry)) (now (copies .entry)) (now (works .entry)) (now (texts .entry)) (now (queue .entry)) (now (loads .entry))) (now (answers .entry)) c x m l (memory (now (counts .exit)) (now (heads .exit)) (now (slots .exit)) (now (copies .exit)) (now (works .exit)) (now (texts .entry)) (now (queue .exit)) (now (loads .exit))) (now (answers .exit)) r ⌝ }
+{
+    let v = handled_move(c.servers, x.server, 0, m, l);
+    if places_left(c, x.removes, v.sends) {
+        return carry_plain(
+            counts,
+            heads,
+            slots,
+            copies,
+            works,
+            texts,
+            queue,
+            loads,
+            answers,
+            c,
+            x,
+            v,
+        );
+    }
+    refused(12, no_effect())
+}
+
+// A message to a server that is there and not stopped.
+fn hand_there(
+    counts: &mut [u32; 8],
+    heads: &mut [u32; 112],
+    slots: &mut [u32; 1792],
+    copies: &mut [u8; 7168],
+    works: &mut [u8; 7168],
+    texts: &[u8; 3584],
+    queue: &mut [u32; 512],
+    loads: &mut [u8; 8192],
+    answers: &mut [u32; 32],
+    c: Counts,
+    x: Step,
+    m: Message,
+    l: Local,
+    k: usize,
+) -> Report
+    requires { ⌜ Handable c x × (k < 56) ⌝ }
+    ensures { λ r. ⌜ HandledThere (memory (now (counts .entry)) (now (heads .entry)) (now (slots .entry)) (now (copies .entry)) (now (works .entry)) (now (texts .entry)) (now (queue .entry)) (now (loads .entry))) (now (answers .entry)) c x m l k (memory (now (counts .exit)) (now (heads .exit)) (now (slots .exit)) (now (copies .exit)) (now (works .exit)) (now (texts .entry)) (now (queue .exit)) (now (loads .exit))) (now (answers .exit)) r ⌝ }
+{
+    if reads_table(c.servers, m, l) {
+        let f = hand_effect(slots, copies, texts, c.servers, m, l, k);
+        return hand_asked(
+            counts,
+            heads,
+            slots,
+            copies,
+            works,
+            texts,
+            queue,
+            loads,
+            answers,
+            c,
+            x,
+            m,
+            l,
+            f,
+        );
+    }
+    hand_plain(
+        counts,
+        heads,
+        slots,
+        copies,
+        works,
+        texts,
+        queue,
+        loads,
+        answers,
+        c,
+        x,
+        m,
+        l,
+    )
+}
+
+// A message that is in the list; to a server that is not there, or that is stopped, it is lost.
+fn hand_listed(
+    counts: &mut [u32; 8],
+    heads: &mut [u32; 112],
+    slots: &mut [u32; 1792],
+    copies: &mut [u8; 7168],
+    works: &mut [u8; 7168],
+    texts: &[u8; 3584],
+    queue: &mut [u32; 512],
+    loads: &mut [u8; 8192],
+    answers: &mut [u32; 32],
+    c: Counts,
+    i: u32,
+    removes: bool,
+) -> Report
+    requires { ⌜ Measured c × (i < c .messages) ⌝ }
+    ensures { λ r. ⌜ HandedListed (memory (now (counts .entry)) (now (heads .entry)) (now (slots .entry)) (now (copies .entry)) (now (works .entry)) (now (texts .entry)) (now (queue .entry)) (now (loads .entry))) (now (answers .entry)) c i removes (memory (now (counts .exit)) (now (heads .exit)) (now (slots .exit)) (now (copies .exit)) (now (works .exit)) (now (texts .entry)) (now (queue .exit)) (now (loads .exit))) (now (answers .exit)) r ⌝ }
+{
+    let m = load_message(queue, i as usize);
+    let x = message_step(c, i, removes, m);
+    let at = x.server as usize;
+    let k = at * 8 + x.bucket as usize;
+    let l = load_local(heads, slots, at, k);
+    if c.servers <= x.server {
+        let f = hand_effect(slots, copies, texts, c.servers, m, l, k);
+        return lose(counts, queue, loads, c, x, f);
+    }
+    let h = l.head;
+    if h.stopped == 1 {
+        return lose(counts, queue, loads, c, x, no_effect());
+    }
+    hand_there(
+        counts,
+        heads,
+        slots,
+        copies,
+        works,
+        texts,
+        queue,
+        loads,
+        answers,
+        c,
+        x,
+        m,
+        l,
+        k,
+    )
+}
+
+// The message at place i is handed over; `copy` leaves it in the list.
+pub fn hand_line(
+    counts: &mut [u32; 8],
+    heads: &mut [u32; 112],
+    slots: &mut [u32; 1792],
+    copies: &mut [u8; 7168],
+    works: &mut [u8; 7168],
+    texts: &[u8; 3584],
+    queue: &mut [u32; 512],
+    loads: &mut [u8; 8192],
+    answers: &mut [u32; 32],
+    i: u32,
+    removes: bool,
+) -> Report
+    ensures { λ r. ⌜ HandRan (memory (now (counts .entry)) (now (heads .entry)) (now (slots .entry)) (now (copies .entry)) (now (works .entry)) (now (texts .entry)) (now (queue .entry)) (now (loads .entry))) (now (answers .entry)) i removes (memory (now (counts .exit)) (now (heads .exit)) (now (slots .exit)) (now (copies .exit)) (now (works .exit)) (now (texts .entry)) (now (queue .exit)) (now (loads .exit))) (now (answers .exit)) r ⌝ }
+{
+    let c = load_counts(counts);
+    if standing(c) {
+        let r = message_refusal(c, i);
+        if r == 0 {
+            return hand_listed(
+                counts,
+                heads,
+                slots,
+                copies,
+                works,
+                texts,
+                queue,
+                loads,
+                answers,
+                c,
+                i,
+                removes,
+            );
+        }
+        return refused(r, no_effect());
+    }
+    refused(2, no_effect())
+}
