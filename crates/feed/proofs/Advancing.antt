@@ -12,8 +12,8 @@ use Rattle.print.specs.Printed.{Printed}
 use Rattle.print.proofs.Printing.{printed-none}
 use Rattle.views.specs.Memory.{Memory}
 use Rattle.machine.specs.declared.Tally.{Tally}
-use Rattle.feed.specs.Worlds.{Held, held, World, world}
-use Rattle.feed.specs.Feeding.{Fed, nothing, bytes, line, past, lineRoom, PartFed, KeptFrom, AtFeed, waits, ends, Advanced}
+use Rattle.feed.specs.Sessions.{Held, held, Session, session}
+use Rattle.feed.specs.Feeding.{Stops, Fed, nothing, bytes, line, past, PartFed, KeptFrom, AtFeed, waits, ends, Advanced}
 use Rattle.feed.specs.declared.Progress.{Progress}
 use Rattle.feed.proofs.Feeding.{fed-on}
 
@@ -26,7 +26,7 @@ absurd-more e f =
 -- ---- one step
 
 -- nothing after the last line is read
-pub advanced-past : (w : World) (input out : List ℕ) (p p′ : Progress) → maxLines ≤ w .lines → p .taken ≤ length input → p .written ≤ length out
+pub advanced-past : (w : Session) (input out : List ℕ) (p p′ : Progress) → maxLines ≤ w .lines → p .taken ≤ length input → p .written ≤ length out
     → p′ .taken ≡ length input → p′ .written ≡ p .written → p′ .more ≡ false → Advanced w input out p w out p′
 advanced-past w input out p p′ h i o t u m =
     record {
@@ -42,15 +42,15 @@ advanced-past w input out p p′ h i o t u m =
     }
 
 -- the part ends in the middle of a line
-pub advanced-kept : (w : World) (input out : List ℕ) (h′ : Held) (p p′ : Progress) → w .lines < maxLines → p .written ≤ length out
+pub advanced-kept : (w : Session) (input out : List ℕ) (h′ : Held) (p p′ : Progress) → w .lines < maxLines → p .written ≤ length out
     → KeptFrom (w .held) input (p .taken) h′ (p′ .taken) → length input ≤ p′ .taken → p′ .written ≡ p .written → p′ .more ≡ false
-    → Advanced w input out p (world (w .memory) (w .answers) (w .tally) (w .lines) h′) out p′
+    → Advanced w input out p (session (w .memory) (w .answers) (w .tally) (w .lines) h′) out p′
 advanced-kept w input out h′ p p′ h o k e u m =
     let x = k .keeps in
     record {
       bytes = x .bytes;
       text = [];
-      feeds = subst (λ (y : Held). Fed w (x .bytes) [] (world (w .memory) (w .answers) (w .tally) (w .lines) y)) (sym (x .keeps)) (bytes nothing h (x .bytes) (x .plain));
+      feeds = subst (λ (y : Held). Fed w (length out - p .written) (x .bytes) [] (session (w .memory) (w .answers) (w .tally) (w .lines) y)) (sym (x .keeps)) (bytes nothing h (x .bytes) (x .plain));
       read = x .read;
       printed = subst (λ (n : ℕ). Printed [] out (p .written) out n) (sym u) (printed-none out (p .written) refl);
       within = x .within;
@@ -60,34 +60,34 @@ advanced-kept w input out h′ p p′ h o k e u m =
     }
 
 -- the part has a line feed
-pub advanced-feed : (w : World) (input out : List ℕ) (h′ : Held) (taken : ℕ) (w′ : World) (out′ : List ℕ) (p p′ : Progress) → w .lines < maxLines → p .written ≤ length out
+pub advanced-feed : (w : Session) (input out : List ℕ) (h′ : Held) (taken : ℕ) (w′ : Session) (out′ : List ℕ) (p p′ : Progress) → w .lines < maxLines → p .written ≤ length out
     → KeptFrom (w .held) input (p .taken) h′ taken → taken < length input
-    → AtFeed (world (w .memory) (w .answers) (w .tally) (w .lines) h′) out (p .written) taken (taken + 1) w′ out′ p′
+    → AtFeed (session (w .memory) (w .answers) (w .tally) (w .lines) h′) out (p .written) taken (taken + 1) w′ out′ p′
     → Advanced w input out p w′ out′ p′
 advanced-feed w input out h′ taken w′ out′ p p′ h o k i (waits r e d q u m) =
     let x = k .keeps in
-    let f : Fed w (x .bytes) [] (world (w .memory) (w .answers) (w .tally) (w .lines) h′) =
-    subst (λ (y : Held). Fed w (x .bytes) [] (world (w .memory) (w .answers) (w .tally) (w .lines) y)) (sym (x .keeps)) (bytes nothing h (x .bytes) (x .plain)) in
+    let f : Fed w (length out - p .written) (x .bytes) [] (session (w .memory) (w .answers) (w .tally) (w .lines) h′) =
+    subst (λ (y : Held). Fed w (length out - p .written) (x .bytes) [] (session (w .memory) (w .answers) (w .tally) (w .lines) y)) (sym (x .keeps)) (bytes nothing h (x .bytes) (x .plain)) in
     record {
       bytes = x .bytes;
       text = [];
-      feeds = subst (λ (y : World). Fed w (x .bytes) [] y) (sym e) f;
+      feeds = subst (λ (y : Session). Fed w (length out - p .written) (x .bytes) [] y) (sym e) f;
       read = rw q (x .read);
       printed = rw (d, u) (printed-none out (p .written) refl);
       within = omega (arith, x .within);
       room = omega arith;
       goes = λ y. absurd-more m y;
-      stops = λ y g. (rw q (k .stops i), omega arith);
+      stops = λ y g. record { feed = rw q (k .stops i); short = omega arith; early = rw e h };
     }
-advanced-feed w input out h′ taken w′ out′ p p′ h o k i (ends t r q m) =
+advanced-feed w input out h′ taken w′ out′ p p′ h o k i (ends s t r q m) =
     let x = k .keeps in
-    let f : Fed w (x .bytes) [] (world (w .memory) (w .answers) (w .tally) (w .lines) h′) =
-    subst (λ (y : Held). Fed w (x .bytes) [] (world (w .memory) (w .answers) (w .tally) (w .lines) y)) (sym (x .keeps)) (bytes nothing h (x .bytes) (x .plain)) in
+    let f : Fed w (length out - p .written) (x .bytes) [] (session (w .memory) (w .answers) (w .tally) (w .lines) h′) =
+    subst (λ (y : Held). Fed w (length out - p .written) (x .bytes) [] (session (w .memory) (w .answers) (w .tally) (w .lines) y)) (sym (x .keeps)) (bytes nothing h (x .bytes) (x .plain)) in
     let feed : getD input taken 0 ≡ 10 = k .stops i in
     record {
       bytes = x .bytes ++ (10 ∷ []);
       text = t .text;
-      feeds = line f h w′ (t .text) (t .ends);
+      feeds = line f h (omega arith) w′ (t .text) (t .ends);
       read = rw (q, add-one, take-suc input taken 0 i, feed, x .read) (append-assoc (take (p .taken) input) (x .bytes) (10 ∷ []));
       printed = t .told .printed;
       within = omega arith;
@@ -99,19 +99,19 @@ advanced-feed w input out h′ taken w′ out′ p p′ h o k i (ends t r q m) =
 -- ---- all steps
 
 -- so far
-pub record Going (w : World) (input out : List ℕ) (w′ : World) (out′ : List ℕ) (p : Progress) : Type 0 where
+pub record Going (w : Session) (input out : List ℕ) (w′ : Session) (out′ : List ℕ) (p : Progress) : Type 0 where
   pub text : List ℕ
-  pub feeds : Fed w (take (p .taken) input) text w′
+  pub feeds : Fed w (length out) (take (p .taken) input) text w′
   pub wrote : out′ ≡ text ++ drop (length text) out
   pub count : p .written ≡ length text
   pub within : p .taken ≤ length input
   pub room : p .written ≤ length out
   pub size : length out′ ≡ length out
-  pub stops : p .more ≡ false → p .taken < length input → (getD input (p .taken) 0 ≡ 10) × (length out < p .written + lineRoom)
+  pub stops : p .more ≡ false → p .taken < length input → Stops w′ input out (p .taken) (p .written)
 
 pub going-starts : (m : Memory) (l : List ℕ) (n : ℕ) (buffer : List ℕ) (count : ℕ) (input out : List ℕ) (t : Tally) (p : Progress)
     → p ≡ record { tally = t; lines = n; held = count; taken = 0; written = 0; more = true }
-    → Going (world m l (p .tally) n (held buffer count)) input out (world m l (p .tally) (p .lines) (held buffer (p .held))) out p
+    → Going (session m l (p .tally) n (held buffer count)) input out (session m l (p .tally) (p .lines) (held buffer (p .held))) out p
 going-starts m l n buffer count input out t p e =
     rw e
     (record {
@@ -136,30 +136,31 @@ written-on x y out mid out′ e f =
 written-size : (x out mid : List ℕ) → mid ≡ x ++ drop (length x) out → length x ≤ length out → length mid ≡ length out
 written-size x out mid e h = rw (e, length-append x (drop (length x) out), length-drop (length x) out) (omega arith)
 
-pub going-on : (w : World) (input out : List ℕ) (v : World) (mid : List ℕ) (p : Progress) (w′ : World) (out′ : List ℕ) (p′ : Progress)
+pub going-on : (w : Session) (input out : List ℕ) (v : Session) (mid : List ℕ) (p : Progress) (w′ : Session) (out′ : List ℕ) (p′ : Progress)
     → Going w input out v mid p → Advanced v input mid p w′ out′ p′ → Going w input out w′ out′ p′
 going-on w input out v mid p w′ out′ p′ g a =
     let wrote : out′ ≡ (g .text ++ a .text) ++ drop (length (g .text ++ a .text)) out =
     written-on (g .text) (a .text) out mid out′ (g .wrote) (subst (λ (n : ℕ). out′ ≡ take n mid ++ a .text ++ drop (n + length (a .text)) mid) (g .count) (a .printed .is)) in
     let count : p′ .written ≡ length (g .text ++ a .text) = a .printed .ends ∙ rw (g .count, length-append (g .text) (a .text)) in
     let room : p′ .written ≤ length out = omega (arith, a .room, g .size) in
+    let left : length mid - p .written ≡ length out - length (g .text) = omega (arith, g .size, g .count) in
     record {
       text = g .text ++ a .text;
-      feeds = subst (λ (l : List ℕ). Fed w l (g .text ++ a .text) w′) (sym (a .read)) (fed-on w (g .feeds) (a .feeds));
+      feeds = subst (λ (l : List ℕ). Fed w (length out) l (g .text ++ a .text) w′) (sym (a .read)) (fed-on w (length out) (g .feeds) (subst (λ (n : ℕ). Fed v n (a .bytes) (a .text) w′) left (a .feeds)));
       wrote = wrote;
       count = count;
       within = a .within;
       room = room;
       size = written-size (g .text ++ a .text) out out′ wrote (omega arith);
-      stops = λ e h. (a .stops e h .0, omega (arith, a .stops e h .1, g .size));
+      stops = λ e h. record { feed = a .stops e h .feed; short = omega (arith, a .stops e h .short, g .size); early = a .stops e h .early };
     }
 
-pub going-ends : (m : Memory) (l : List ℕ) (u t : Tally) (n : ℕ) (h : Held) (input out : List ℕ) (w′ : World) (out′ : List ℕ) (p : Progress)
-    → u ≡ t → Going (world m l u n h) input out w′ out′ p → p .more ≡ false → PartFed (world m l t n h) input out w′ out′ (p .taken) (p .written)
+pub going-ends : (m : Memory) (l : List ℕ) (u t : Tally) (n : ℕ) (h : Held) (input out : List ℕ) (w′ : Session) (out′ : List ℕ) (p : Progress)
+    → u ≡ t → Going (session m l u n h) input out w′ out′ p → p .more ≡ false → PartFed (session m l t n h) input out w′ out′ (p .taken) (p .written)
 going-ends m l u t n h input out w′ out′ p e g f =
     record {
       text = g .text;
-      feeds = subst (λ (x : Tally). Fed (world m l x n h) (take (p .taken) input) (g .text) w′) e (g .feeds);
+      feeds = subst (λ (x : Tally). Fed (session m l x n h) (length out) (take (p .taken) input) (g .text) w′) e (g .feeds);
       wrote = g .wrote;
       count = g .count;
       within = g .within;

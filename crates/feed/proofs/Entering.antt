@@ -8,13 +8,13 @@ use borrow.Author.Tests.{lt-ltb, le-ltb}
 use Rattle.model.specs.Measures.{maxLines}
 use Rattle.model.specs.Print.{tallyText}
 use Rattle.print.specs.Printed.{Printed}
-use Rattle.views.specs.Memory.{Memory}
+use Rattle.views.specs.Memory.{Memory, memory}
 use Rattle.machine.specs.declared.Tally.{Tally}
 use Rattle.machine.specs.Meaning.{tallyIn}
 use Rattle.input.specs.Reading.{Reading, ended, endedText, lastRead, lastText, finished, finishedText}
-use Rattle.feed.specs.Worlds.{Held, held, World, world, presentLine, readingIn}
+use Rattle.feed.specs.Sessions.{Held, held, Session, session, presentLine, readingIn}
 use Rattle.feed.specs.Feeding.{PartFed, Ready}
-use Rattle.feed.specs.Entry.{worldIn, MeasuredIn, WorldFed, LastLine, none, past, one, LastTold, Finished}
+use Rattle.feed.specs.Entry.{sessionIn, MeasuredIn, SessionFed, LastLine, none, past, one, LastTold, Finished, Finishes}
 use Rattle.feed.specs.declared.Progress.{Progress}
 use Rattle.feed.proofs.Feeding.{fed-means, line-means, line-ready}
 use Rattle.feed.proofs.Advancing.{written-on}
@@ -38,23 +38,23 @@ word-2 (x ∷ (y ∷ (z ∷ r))) a b c e = refl
 
 -- ---- a part
 
-world-fed : (w : World) (input out : List ℕ) (w′ : World) (out′ : List ℕ) (taken written : ℕ) → length (w .held .bytes) ≡ 121 → PartFed w input out w′ out′ taken written → WorldFed w input out w′ out′ taken written
-world-fed w input out w′ out′ taken written s f =
+session-fed : (w : Session) (input out : List ℕ) (w′ : Session) (out′ : List ℕ) (taken written : ℕ) → length (w .held .bytes) ≡ 121 → PartFed w input out w′ out′ taken written → SessionFed w input out w′ out′ taken written
+session-fed w input out w′ out′ taken written s f =
     record {
       leaves = f;
       means = λ h.
-          let m = fed-means w (record { measured = h; size = s }) (f .feeds) in
+          let m = fed-means w (length out) (record { measured = h; size = s }) (f .feeds) in
           record { reads = m .reads; prints = m .prints; measured = m .ready .measured };
     }
 
 pub part-fed : (m : Memory) (l reader line : List ℕ) (t : Tally) (input out : List ℕ) (m′ : Memory) (l′ reader′ line′ : List ℕ) (p : Progress) (out′ : List ℕ)
     → length reader ≡ 3 → length line ≡ 121
-    → PartFed (world m l t (getD reader 0 0) (held line (getD reader 1 0))) input out (world m′ l′ (p .tally) (p .lines) (held line′ (p .held))) out′ (p .taken) (p .written)
+    → PartFed (session m l t (getD reader 0 0) (held line (getD reader 1 0))) input out (session m′ l′ (p .tally) (p .lines) (held line′ (p .held))) out′ (p .taken) (p .written)
     → reader′ ≡ set (set (set reader 0 (p .lines)) 1 (p .held)) 2 (p .written)
-    → WorldFed (worldIn m l reader line t) input out (worldIn m′ l′ reader′ line′ (p .tally)) out′ (p .taken) (getD reader′ 2 0)
+    → SessionFed (sessionIn m l reader line t) input out (sessionIn m′ l′ reader′ line′ (p .tally)) out′ (p .taken) (getD reader′ 2 0)
 part-fed m l reader line t input out m′ l′ reader′ line′ p out′ r s f e =
     rw (e, word-0 reader (p .lines) (p .held) (p .written) r, word-1 reader (p .lines) (p .held) (p .written) r, word-2 reader (p .lines) (p .held) (p .written) r)
-    (world-fed _ input out _ out′ (p .taken) (p .written) s f)
+    (session-fed _ input out _ out′ (p .taken) (p .written) s f)
 
 -- ---- the end
 
@@ -73,12 +73,12 @@ unfolding presentLine
 present-some h c s = rw (length-take (h .count) (h .bytes), s) (omega arith)
 
 -- what the last line stands for
-record LastMeans (w w′ : World) (text : List ℕ) : Type 0 where
+record LastMeans (w w′ : Session) (text : List ℕ) : Type 0 where
   reads : finished (readingIn w) ≡ readingIn w′
   prints : lastText (readingIn w) (presentLine (w .held)) ≡ text
   measured : MeasuredIn w′
 
-last-means : (w w′ : World) (text : List ℕ) → Ready w → LastLine w w′ text → LastMeans w w′ text
+last-means : (w w′ : Session) (text : List ℕ) → Ready w → LastLine w w′ text → LastMeans w w′ text
 unfolding finished lastRead lastText
 last-means w w′ text r (none e) = record { reads = rw e; prints = rw e; measured = r .measured }
 last-means w w′ text r (past h) =
@@ -89,7 +89,7 @@ last-means w w′ text r (one u x c h e) =
     let m = line-means w u x r e in
     record { reads = k .0 ∙ m .0; prints = k .1 ∙ m .1; measured = line-ready w u x r e .measured }
 
-pub finished-told : (w : World) (out : List ℕ) (v : World) (mid : List ℕ) (written : ℕ) (out′ : List ℕ) (r : ℕ) → length (w .held .bytes) ≡ 121 → 1088 ≤ length out
+finished-told : (w : Session) (out : List ℕ) (v : Session) (mid : List ℕ) (written : ℕ) (out′ : List ℕ) (r : ℕ) → length (w .held .bytes) ≡ 121 → 1088 ≤ length out
     → LastTold w out v mid written → Printed (tallyText (tallyIn (v .tally))) mid written out′ r → Finished w out v out′ r
 unfolding finishedText
 finished-told w out v mid written out′ r s h k p =
@@ -110,15 +110,24 @@ finished-told w out v mid written out′ r s h k p =
           record { reads = m .reads; wrote = rw t wrote; count = rw t count; measured = m .measured };
     }
 
-pub finished-waits : (w : World) (out : List ℕ) → length out < 1088 → Finished w out w out 0
+finished-waits : (w : Session) (out : List ℕ) → length out < 1088 → Finished w out w out 0
 finished-waits w out h =
     record { waits = λ g. record { same = refl; kept = refl; zero = refl }; leaves = λ g. absurd (omega arith); means = λ g. absurd (omega arith) }
 
-pub end-finished : (m : Memory) (l reader line : List ℕ) (t : Tally) (out : List ℕ) (m′ : Memory) (l′ reader′ mid : List ℕ) (p : Progress) (out′ : List ℕ) (r : ℕ)
-    → length reader ≡ 3 → length line ≡ 121 → 1088 ≤ length out
-    → LastTold (world m l t (getD reader 0 0) (held line (getD reader 1 0))) out (world m′ l′ (p .tally) (p .lines) (held line (p .held))) mid (p .written)
-    → Printed (tallyText (tallyIn (p .tally))) mid (p .written) out′ r
-    → reader′ ≡ set (set (set reader 0 (p .lines)) 1 (p .held)) 2 r
-    → Finished (worldIn m l reader line t) out (worldIn m′ l′ reader′ line (p .tally)) out′ r
-end-finished m l reader line t out m′ l′ reader′ mid p out′ r q s h k g e =
-    rw (e, word-0 reader (p .lines) (p .held) r q, word-1 reader (p .lines) (p .held) r q) (finished-told _ out _ mid (p .written) out′ r s h k g)
+module _ (counts heads slots copies works texts queue loads answers reader line : List ℕ) (t : Tally) (out : List ℕ) where
+  pub end-waits : length out < 1088
+      → Finishes counts heads slots copies works texts queue loads answers reader line t out counts heads slots copies works texts queue loads answers reader line out (record { tally = t; taken = 0 })
+  end-waits h = record { does = finished-waits _ out h; rests = λ g. refl; wrote = λ g. absurd (omega arith) }
+
+  pub end-finished : (counts′ heads′ slots′ copies′ works′ texts′ queue′ loads′ answers′ reader′ mid : List ℕ) (p : Progress) (out′ : List ℕ) (r : ℕ)
+      → length reader ≡ 3 → length line ≡ 121 → 1088 ≤ length out
+      → LastTold (session (memory counts heads slots copies works texts queue loads) answers t (getD reader 0 0) (held line (getD reader 1 0))) out (session (memory counts′ heads′ slots′ copies′ works′ texts′ queue′ loads′) answers′ (p .tally) (p .lines) (held line (p .held))) mid (p .written)
+      → Printed (tallyText (tallyIn (p .tally))) mid (p .written) out′ r
+      → reader′ ≡ set (set (set reader 0 (p .lines)) 1 (p .held)) 2 r
+      → Finishes counts heads slots copies works texts queue loads answers reader line t out counts′ heads′ slots′ copies′ works′ texts′ queue′ loads′ answers′ reader′ line out′ (record { tally = p .tally; taken = r })
+  end-finished counts′ heads′ slots′ copies′ works′ texts′ queue′ loads′ answers′ reader′ mid p out′ r q s h k g e =
+      record {
+        does = rw (e, word-0 reader (p .lines) (p .held) r q, word-1 reader (p .lines) (p .held) r q) (finished-told _ out _ mid (p .written) out′ r s h k g);
+        rests = λ f. absurd (omega arith);
+        wrote = λ f. rw e (word-2 reader (p .lines) (p .held) r q);
+      }

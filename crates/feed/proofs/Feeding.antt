@@ -1,7 +1,9 @@
 -- What is fed stands for what the definitions make of the same bytes.
 use mathlib.Core.Path.{_≡_, refl, sym, ap, subst, _∙_}
 use mathlib.Core.List.{List, [], _∷_, _++_, append-assoc, append-nil}
-use Prim.Native.Nat.{ℕ, _+_}
+use Prim.Native.Nat.{ℕ, _+_, _-_}
+use native.Mathlib.Omega.{arith}
+use lib.ListN.{length, length-append}
 use Rattle.model.specs.Lines as lines
 use Rattle.model.specs.Run.{step}
 use Rattle.runs.specs.Meaning.{stateIn}
@@ -9,58 +11,65 @@ use Rattle.runs.proofs.Reading.{step-read}
 use Rattle.machine.specs.Meaning.{tallyIn, outcomeIn}
 use Rattle.input.specs.Reading.{Reading, reading, ended, endedText, fed, fedText}
 use Rattle.input.proofs.Parts.{fed-append, fedText-append, line-kept, line-silent, line-feed, past-kept, past-silent}
-use Rattle.feed.specs.Worlds.{held, World, presentLine, readingIn}
+use Rattle.feed.specs.Sessions.{held, Session, presentLine, readingIn}
 use Rattle.feed.specs.Feeding.{LineEnded, Fed, nothing, bytes, line, past, Ready}
 use Rattle.feed.proofs.Holding.{putAll-means, putAll-size}
 
 -- the same bytes and the same text
-same-fed : (w : World) {a b x y : List ℕ} {u : World} → a ≡ b → x ≡ y → Fed w a x u → Fed w b y u
-same-fed w {a} {b} {x} {y} {u} e d f = subst (λ (i : List ℕ). Fed w i y u) e (subst (λ (t : List ℕ). Fed w a t u) d f)
+same-fed : (w : Session) (room : ℕ) {a b x y : List ℕ} {u : Session} → a ≡ b → x ≡ y → Fed w room a x u → Fed w room b y u
+same-fed w room {a} {b} {x} {y} {u} e d f = subst (λ (i : List ℕ). Fed w room i y u) e (subst (λ (t : List ℕ). Fed w room a t u) d f)
 
--- one part after the other
-pub fed-on : (w : World) {a x b y : List ℕ} {v u : World} → Fed w a x v → Fed v b y u → Fed w (a ++ b) (x ++ y) u
-fed-on w {a} {x} f nothing = same-fed w (sym (append-nil a)) (sym (append-nil x)) f
-fed-on w {a} {x} f (bytes {input = b} g h l n) = same-fed w (append-assoc a b l) refl (bytes (fed-on w f g) h l n)
-fed-on w {a} {x} f (line {input = b} {text = y} g h u more e) =
-    same-fed w (append-assoc a b (10 ∷ [])) (append-assoc x y more) (line (fed-on w f g) h u more e)
-fed-on w {a} {x} f (past {input = b} g h l) = same-fed w (append-assoc a b l) refl (past (fed-on w f g) h l)
+-- one part after the other, in the room that the first leaves
+pub fed-on : (w : Session) (room : ℕ) {a x b y : List ℕ} {v u : Session} → Fed w room a x v → Fed v (room - length x) b y u → Fed w room (a ++ b) (x ++ y) u
+fed-on w room {a} {x} f nothing = same-fed w room (sym (append-nil a)) (sym (append-nil x)) f
+fed-on w room {a} {x} f (bytes {input = b} g h l n) = same-fed w room (append-assoc a b l) refl (bytes (fed-on w room f g) h l n)
+fed-on w room {a} {x} f (line {input = b} {text = y} g h r u more e) =
+    same-fed w room (append-assoc a b (10 ∷ [])) (append-assoc x y more) (line (fed-on w room f g) h (omega (arith, r, length-append x y)) u more e)
+fed-on w room {a} {x} f (past {input = b} g h l) = same-fed w room (append-assoc a b l) refl (past (fed-on w room f g) h l)
+
+-- where nothing was taken nothing is written
+pub fed-nothing : (w : Session) (room : ℕ) {input text : List ℕ} {v : Session} → Fed w room input text v → length input ≡ 0 → length text ≡ 0
+fed-nothing w room nothing e = refl
+fed-nothing w room (bytes {input = a} g h l n) e = fed-nothing w room g (omega (arith, length-append a l))
+fed-nothing w room (line {input = a} g h r u more k) e = absurd (omega (arith, length-append a (10 ∷ [])))
+fed-nothing w room (past {input = a} g h l) e = fed-nothing w room g (omega (arith, length-append a l))
 
 -- what a part stands for
-pub record Means (w : World) (input text : List ℕ) (v : World) : Type 0 where
+pub record Means (w : Session) (input text : List ℕ) (v : Session) : Type 0 where
   pub reads : fed (readingIn w) input ≡ readingIn v
   pub prints : fedText (readingIn w) input ≡ text
   pub ready : Ready v
 
-pub line-means : (v u : World) (more : List ℕ) → Ready v → LineEnded v u more → (ended (readingIn v) ≡ readingIn u) × (endedText (readingIn v) ≡ more)
+pub line-means : (v u : Session) (more : List ℕ) → Ready v → LineEnded v u more → (ended (readingIn v) ≡ readingIn u) × (endedText (readingIn v) ≡ more)
 unfolding presentLine
 line-means v u more r e =
     let x : step (stateIn (v .memory) (tallyIn (v .tally))) (presentLine (v .held)) ≡ record { state = stateIn (u .memory) (tallyIn (e .told .tally)); outcome = outcomeIn (e .told .report) (u .answers) } =
     step-read _ _ _ (e .runs .reads) ∙ e .runs .performs .means (r .measured) in
     (rw (x, e .next, e .counted, e .clear), rw (x, e .printed))
 
-pub line-ready : (v u : World) (more : List ℕ) → Ready v → LineEnded v u more → Ready u
+pub line-ready : (v u : Session) (more : List ℕ) → Ready v → LineEnded v u more → Ready u
 line-ready v u more r e = record { measured = rw (e .counted) (e .runs .performs .measured (r .measured)); size = rw (e .clear) (r .size) }
 
-pub fed-means : (w : World) {input text : List ℕ} {v : World} → Ready w → Fed w input text v → Means w input text v
+pub fed-means : (w : Session) (room : ℕ) {input text : List ℕ} {v : Session} → Ready w → Fed w room input text v → Means w input text v
 unfolding fed fedText
-fed-means w r nothing = record { reads = refl; prints = refl; ready = r }
-fed-means w r (bytes {input = a} {text = x} {v = v} g h l n) =
-    let m = fed-means w r g in
+fed-means w room r nothing = record { reads = refl; prints = refl; ready = r }
+fed-means w room r (bytes {input = a} {text = x} {v = v} g h l n) =
+    let m = fed-means w room r g in
     record {
       reads = fed-append (readingIn w) a l ∙ ap (λ (y : Reading). fed y l) (m .reads) ∙ line-kept (readingIn v) l h n ∙ ap (λ (k : List ℕ). reading (readingIn v .state) (v .lines) k) (sym (putAll-means (v .held) l (m .ready .size)));
       prints = fedText-append (readingIn w) a l ∙ rw (m .reads, line-silent (readingIn v) l h n, append-nil (fedText (readingIn w) a)) (m .prints);
       ready = record { measured = m .ready .measured; size = putAll-size (v .held) l ∙ m .ready .size };
     }
-fed-means w r (line {input = a} {text = x} {v = v} g h u more e) =
-    let m = fed-means w r g in
-    let k = line-means v u more (m .ready) e in
+fed-means w room r (line {input = a} {text = x} {v = v} g h k u more e) =
+    let m = fed-means w room r g in
+    let j = line-means v u more (m .ready) e in
     record {
-      reads = fed-append (readingIn w) a (10 ∷ []) ∙ ap (λ (y : Reading). fed y (10 ∷ [])) (m .reads) ∙ line-feed (readingIn v) h .0 ∙ k .0;
-      prints = fedText-append (readingIn w) a (10 ∷ []) ∙ rw (m .reads, m .prints, line-feed (readingIn v) h .1, k .1);
+      reads = fed-append (readingIn w) a (10 ∷ []) ∙ ap (λ (y : Reading). fed y (10 ∷ [])) (m .reads) ∙ line-feed (readingIn v) h .0 ∙ j .0;
+      prints = fedText-append (readingIn w) a (10 ∷ []) ∙ rw (m .reads, m .prints, line-feed (readingIn v) h .1, j .1);
       ready = line-ready v u more (m .ready) e;
     }
-fed-means w r (past {input = a} {text = x} {v = v} g h l) =
-    let m = fed-means w r g in
+fed-means w room r (past {input = a} {text = x} {v = v} g h l) =
+    let m = fed-means w room r g in
     record {
       reads = fed-append (readingIn w) a l ∙ ap (λ (y : Reading). fed y l) (m .reads) ∙ past-kept (readingIn v) l h;
       prints = fedText-append (readingIn w) a l ∙ rw (m .reads, past-silent (readingIn v) l h, append-nil (fedText (readingIn w) a)) (m .prints);

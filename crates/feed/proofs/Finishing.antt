@@ -9,27 +9,27 @@ use Rattle.model.specs.Measures.{maxLines}
 use Rattle.print.proofs.Printing.{printed-none, printed-size}
 use Rattle.views.specs.Memory.{Memory}
 use Rattle.machine.specs.declared.Tally.{Tally}
-use Rattle.feed.specs.Worlds.{held, World, world, presentLine}
+use Rattle.feed.specs.Sessions.{held, Session, session, presentLine}
 use Rattle.feed.specs.Feeding.{LineTold}
 use Rattle.feed.specs.Entry.{LastLine, none, past, one, LastTold}
 use Rattle.feed.specs.declared.Progress.{Progress}
 
 -- a last line that is not there, or is past the last line that is read, leaves everything as it is
-resting-told : (w : World) (out : List ℕ) → LastLine w w [] → LastTold w out w out 0
+resting-told : (w : Session) (out : List ℕ) → LastLine w w [] → LastTold w out w out 0
 resting-told w out e = record { text = []; ends = e; printed = printed-none out 0 refl; within = omega arith; size = refl }
 
 pub no-line : (m : Memory) (l : List ℕ) (t : Tally) (n : ℕ) (line : List ℕ) (count : ℕ) (out : List ℕ) (p : Progress) → count ≡ 0
     → p ≡ record { tally = t; lines = n; held = count; taken = 0; written = 0; more = false }
-    → LastTold (world m l t n (held line count)) out (world m l (p .tally) (p .lines) (held line (p .held))) out (p .written)
+    → LastTold (session m l t n (held line count)) out (session m l (p .tally) (p .lines) (held line (p .held))) out (p .written)
 unfolding presentLine
-no-line m l t n line count out p z e = rw (e, z) (resting-told (world m l t n (held line 0)) out (none refl))
+no-line m l t n line count out p z e = rw (e, z) (resting-told (session m l t n (held line 0)) out (none refl))
 
 pub past-line : (m : Memory) (l : List ℕ) (t : Tally) (n : ℕ) (line : List ℕ) (count : ℕ) (out : List ℕ) (p : Progress) → maxLines ≤ n
     → p ≡ record { tally = t; lines = n; held = count; taken = 0; written = 0; more = false }
-    → LastTold (world m l t n (held line count)) out (world m l (p .tally) (p .lines) (held line (p .held))) out (p .written)
-past-line m l t n line count out p z e = rw e (resting-told (world m l t n (held line count)) out (past z))
+    → LastTold (session m l t n (held line count)) out (session m l (p .tally) (p .lines) (held line (p .held))) out (p .written)
+past-line m l t n line count out p z e = rw e (resting-told (session m l t n (held line count)) out (past z))
 
-pub one-line : (w : World) (out : List ℕ) (w′ : World) (out′ : List ℕ) (written : ℕ) → 1 ≤ w .held .count → w .lines < maxLines → 1088 ≤ length out
+pub one-line : (w : Session) (out : List ℕ) (w′ : Session) (out′ : List ℕ) (written : ℕ) → 1 ≤ w .held .count → w .lines < maxLines → 1088 ≤ length out
     → LineTold w w′ out 0 out′ written → LastTold w out w′ out′ written
 one-line w out w′ out′ written c n r k =
     record { text = k .text; ends = one w′ (k .text) c n (k .ends); printed = k .told .printed; within = k .told .within; size = printed-size (omega (arith, k .told .within, k .told .printed .ends)) (k .told .printed) }

@@ -14,7 +14,7 @@ use borrow.Author.Tests.{lt-leb, le-leb, ltb-true, ltb-false}
 use Rattle.model.specs.Measures.{maxLineBytes}
 use Rattle.input.specs.Reading.{kept, keptAll}
 use Rattle.input.proofs.Parts.{no-feed-append}
-use Rattle.feed.specs.Worlds.{Held, held, presentLine, put, putAll}
+use Rattle.feed.specs.Sessions.{Held, held, presentLine, put, putAll}
 use Rattle.feed.specs.Feeding.{KeptTo}
 
 pub putAll-append : (h : Held) (a b : List ℕ) → putAll h (a ++ b) ≡ putAll (putAll h a) b

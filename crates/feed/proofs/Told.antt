@@ -6,7 +6,7 @@ use Rattle.views.specs.Memory.{Memory}
 use Rattle.machine.specs.declared.Tally.{Tally}
 use Rattle.machine.specs.declared.Stepped.{Stepped}
 use Rattle.output.proofs.Answered.{answers-at-most}
-use Rattle.feed.specs.Worlds.{Held}
+use Rattle.feed.specs.Sessions.{Held}
 use Rattle.feed.specs.Feeding.{LineRun}
 
 -- a line has at most eight answers

@@ -1,35 +1,32 @@
--- Every way of cutting a script into parts, with an output of any room for each of them, prints what the definition's run prints for the
--- whole script, and leaves its state and tally.
+-- Every way of cutting a script into parts prints what the definition's run prints for the whole script, and leaves its state and tally.
 use mathlib.Core.Path.{_≡_, refl, sym, ap, _∙_}
-use mathlib.Core.List.{List, [], _++_}
+use mathlib.Core.List.{List, _++_}
 use Prim.Native.Nat.{ℕ, _≤_}
+use native.Mathlib.Omega.{arith}
+use native.Mathlib.Decide.{decLe}
 use lib.ListN.{length, take, drop}
 use lib.Seq.{take-append-seam}
-use Rattle.model.specs.Lines.{initialState}
-use Rattle.model.specs.Run.{linesOf, stateAfter, run}
+use Rattle.model.specs.Run.{run}
 use Rattle.input.specs.Reading.{Reading, start, fed, fedText, finished, finishedText}
 use Rattle.input.proofs.Parts.{fed-append, fedText-append}
 use Rattle.input.proofs.Whole.{printed-whole, state-whole}
-use Rattle.feed.specs.Worlds.{World, readingIn}
-use Rattle.feed.specs.Entry.{MeasuredIn, WorldFed, finishRoom, Finished}
-use Rattle.feed.proofs.Starting.{zeros, zeros-start, zeros-measured}
+use Rattle.feed.specs.Sessions.{Session, readingIn}
+use Rattle.feed.specs.Whole.{zeros, Calls, begins, feeds, Whole}
+use Rattle.feed.specs.Entry.{MeasuredIn, SessionFed, finishRoom, Finished}
+use Rattle.feed.specs.Feeding.{lineRoom}
+use Rattle.feed.proofs.Feeding.{fed-nothing}
+use Rattle.feed.proofs.Starting.{zeros-start, zeros-measured}
 
--- calls of `feed`, one after the other: the bytes taken so far, and the bytes written
-pub data Calls (w : World) : List ℕ → List ℕ → World → Type 0 where
-  begins : Calls w [] [] w
-  feeds : {script text : List ℕ} {v : World} → Calls w script text v → (input out : List ℕ) (u : World) (out′ : List ℕ) (taken written : ℕ)
-      → WorldFed v input out u out′ taken written → Calls w (script ++ take taken input) (text ++ take written out′) u
-
-record CallsMean (w : World) (script text : List ℕ) (v : World) : Type 0 where
+record CallsMean (w : Session) (script text : List ℕ) (v : Session) : Type 0 where
   reads : fed (readingIn w) script ≡ readingIn v
   prints : fedText (readingIn w) script ≡ text
   measured : MeasuredIn v
 
 -- what a call wrote is its text
-written : (w : World) (input out : List ℕ) (u : World) (out′ : List ℕ) (taken n : ℕ) (f : WorldFed w input out u out′ taken n) → take n out′ ≡ f .leaves .text
+written : (w : Session) (input out : List ℕ) (u : Session) (out′ : List ℕ) (taken n : ℕ) (f : SessionFed w input out u out′ taken n) → take n out′ ≡ f .leaves .text
 written w input out u out′ taken n f = rw (f .leaves .wrote, f .leaves .count) (take-append-seam (f .leaves .text) (drop (length (f .leaves .text)) out))
 
-calls-mean : (w : World) {script text : List ℕ} {v : World} → MeasuredIn w → Calls w script text v → CallsMean w script text v
+calls-mean : (w : Session) {script text : List ℕ} {v : Session} → MeasuredIn w → Calls w script text v → CallsMean w script text v
 unfolding fed fedText
 calls-mean w m begins = record { reads = refl; prints = refl; measured = m }
 calls-mean w m (feeds {script = script} {text = text} {v = v} c input out u out′ taken n f) =
@@ -41,14 +38,9 @@ calls-mean w m (feeds {script = script} {text = text} {v = v} c input out u out�
       measured = p .measured;
     }
 
--- what is printed, and the state and the tally
-pub record Whole (script text : List ℕ) (u : World) : Type 0 where
-  pub prints : text ≡ run script
-  pub leaves : readingIn u .state ≡ stateAfter initialState (linesOf script)
-
-pub script-whole : (heads slots copies works texts queue loads answers line : List ℕ) {script text : List ℕ} {v : World}
+pub script-whole : (heads slots copies works texts queue loads answers line : List ℕ) {script text : List ℕ} {v : Session}
     → Calls (zeros heads slots copies works texts queue loads answers line) script text v
-    → (out : List ℕ) (u : World) (out′ : List ℕ) (r : ℕ) → finishRoom ≤ length out → Finished v out u out′ r
+    → (out : List ℕ) (u : Session) (out′ : List ℕ) (r : ℕ) → finishRoom ≤ length out → Finished v out u out′ r
     → Whole script (text ++ take r out′) u
 script-whole heads slots copies works texts queue loads answers line {script} {text} {v} c out u out′ r room f =
     let z = zeros-start heads slots copies works texts queue loads answers line in
@@ -61,3 +53,15 @@ script-whole heads slots copies works texts queue loads answers line {script} {t
       prints = rw (last, ← prints, ← reads) (printed-whole script);
       leaves = ap (λ (x : Reading). x .state) (sym (m .reads)) ∙ ap (λ (x : Reading). finished x .state) (sym reads) ∙ state-whole script;
     }
+
+-- a call with room for a line takes a byte, where there is one
+pub takes-some : (w : Session) (input out : List ℕ) (u : Session) (out′ : List ℕ) (taken n : ℕ) → lineRoom ≤ length out → 1 ≤ length input → SessionFed w input out u out′ taken n → 1 ≤ taken
+takes-some w input out u out′ taken n r i f = go (decLe 1 taken)
+  where
+    go : Dec (1 ≤ taken) → 1 ≤ taken
+    go (yes h) = h
+    go (no h) =
+        let z : taken ≡ 0 = omega arith in
+        let e : length (take taken input) ≡ 0 = rw z refl in
+        let k = fed-nothing w (length out) (f .leaves .feeds) e in
+        absurd (omega (arith, k, f .leaves .count, f .leaves .stops (omega arith) .short))

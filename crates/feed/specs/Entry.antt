@@ -12,36 +12,36 @@ use Rattle.machine.specs.declared.Tally.{Tally}
 use Rattle.machine.specs.Meaning.{tallyIn}
 use Rattle.print.specs.Printed.{Printed}
 use Rattle.input.specs.Reading.{fed, fedText, finished, finishedText}
-use Rattle.feed.specs.Worlds.{held, World, world, presentLine, readingIn}
+use Rattle.feed.specs.Sessions.{held, Session, session, presentLine, readingIn}
 use Rattle.feed.specs.Feeding.{LineEnded, PartFed, lineRoom}
 use Rattle.feed.specs.declared.Answer.{Answer}
 
-abbrev pub worldIn : Memory → (answers reader line : List ℕ) → Tally → World
-worldIn m answers reader line t = world m answers t (getD reader 0 0) (held line (getD reader 1 0))
+abbrev pub sessionIn : Memory → (answers reader line : List ℕ) → Tally → Session
+sessionIn m answers reader line t = session m answers t (getD reader 0 0) (held line (getD reader 1 0))
 
 -- within the measures of document 01
-abbrev pub MeasuredIn : World → Type 0
+abbrev pub MeasuredIn : Session → Type 0
 MeasuredIn w = Measured (clusterIn (w .memory)) (tallyIn (w .tally))
 
 -- ---- a part of the input
 
 -- what the bytes taken of a part stand for; a state within the measures is left so
-pub record PartMeans (w : World) (input : List ℕ) (w′ : World) (text : List ℕ) : Type 0 where
+pub record PartMeans (w : Session) (input : List ℕ) (w′ : Session) (text : List ℕ) : Type 0 where
   pub reads : fed (readingIn w) input ≡ readingIn w′
   pub prints : fedText (readingIn w) input ≡ text
   pub measured : MeasuredIn w′
 
-pub record WorldFed (w : World) (input out : List ℕ) (w′ : World) (out′ : List ℕ) (taken written : ℕ) : Type 0 where
+pub record SessionFed (w : Session) (input out : List ℕ) (w′ : Session) (out′ : List ℕ) (taken written : ℕ) : Type 0 where
   pub leaves : PartFed w input out w′ out′ taken written
   pub means : MeasuredIn w → PartMeans w (take taken input) w′ (leaves .text)
 
 abbrev pub Feeds : (counts heads slots copies works texts queue loads answers reader line : List ℕ) → Tally → (input out : List ℕ) → (counts′ heads′ slots′ copies′ works′ texts′ queue′ loads′ answers′ reader′ line′ out′ : List ℕ) → Answer → Type 0
 Feeds counts heads slots copies works texts queue loads answers reader line t input out counts′ heads′ slots′ copies′ works′ texts′ queue′ loads′ answers′ reader′ line′ out′ r =
-    WorldFed
-    (worldIn (memory counts heads slots copies works texts queue loads) answers reader line t)
+    SessionFed
+    (sessionIn (memory counts heads slots copies works texts queue loads) answers reader line t)
     input
     out
-    (worldIn (memory counts′ heads′ slots′ copies′ works′ texts′ queue′ loads′) answers′ reader′ line′ (r .tally))
+    (sessionIn (memory counts′ heads′ slots′ copies′ works′ texts′ queue′ loads′) answers′ reader′ line′ (r .tally))
     out′
     (r .taken)
     (getD reader′ 2 0)
@@ -49,13 +49,13 @@ Feeds counts heads slots copies works texts queue loads answers reader line t in
 -- ---- the end of the input
 
 -- what follows the last line feed: nothing, or past the last line that is read, or one more line
-pub data LastLine (w : World) : World → List ℕ → Type 0 where
+pub data LastLine (w : Session) : Session → List ℕ → Type 0 where
   none : presentLine (w .held) ≡ [] → LastLine w w []
   past : maxLines ≤ w .lines → LastLine w w []
-  one : (u : World) (text : List ℕ) → 1 ≤ w .held .count → w .lines < maxLines → LineEnded w u text → LastLine w u text
+  one : (u : Session) (text : List ℕ) → 1 ≤ w .held .count → w .lines < maxLines → LineEnded w u text → LastLine w u text
 
 -- the last line, told at the start of the output
-pub record LastTold (w : World) (out : List ℕ) (w′ : World) (out′ : List ℕ) (written : ℕ) : Type 0 where
+pub record LastTold (w : Session) (out : List ℕ) (w′ : Session) (out′ : List ℕ) (written : ℕ) : Type 0 where
   pub text : List ℕ
   pub ends : LastLine w w′ text
   pub printed : Printed text out 0 out′ written
@@ -67,34 +67,36 @@ abbrev pub finishRoom : ℕ
 finishRoom = 1088
 
 -- the last line and the tally are printed
-pub record WorldFinished (w : World) (out : List ℕ) (w′ : World) (out′ : List ℕ) (r : ℕ) : Type 0 where
+pub record SessionFinished (w : Session) (out : List ℕ) (w′ : Session) (out′ : List ℕ) (r : ℕ) : Type 0 where
   pub text : List ℕ
   pub ends : LastLine w w′ text
   pub wrote : out′ ≡ (text ++ tallyText (tallyIn (w′ .tally))) ++ drop (length (text ++ tallyText (tallyIn (w′ .tally)))) out
   pub count : r ≡ length (text ++ tallyText (tallyIn (w′ .tally)))
 
 -- without room nothing happens, and 0 is answered
-pub record Waits (w : World) (out : List ℕ) (w′ : World) (out′ : List ℕ) (r : ℕ) : Type 0 where
+pub record Waits (w : Session) (out : List ℕ) (w′ : Session) (out′ : List ℕ) (r : ℕ) : Type 0 where
   pub same : w′ ≡ w
   pub kept : out′ ≡ out
   pub zero : r ≡ 0
 
-pub record FinishMeans (w : World) (out : List ℕ) (w′ : World) (out′ : List ℕ) (r : ℕ) : Type 0 where
+pub record FinishMeans (w : Session) (out : List ℕ) (w′ : Session) (out′ : List ℕ) (r : ℕ) : Type 0 where
   pub reads : finished (readingIn w) ≡ readingIn w′
   pub wrote : out′ ≡ finishedText (readingIn w) ++ drop (length (finishedText (readingIn w))) out
   pub count : r ≡ length (finishedText (readingIn w))
   pub measured : MeasuredIn w′
 
-pub record Finished (w : World) (out : List ℕ) (w′ : World) (out′ : List ℕ) (r : ℕ) : Type 0 where
+pub record Finished (w : Session) (out : List ℕ) (w′ : Session) (out′ : List ℕ) (r : ℕ) : Type 0 where
   pub waits : length out < finishRoom → Waits w out w′ out′ r
-  pub leaves : finishRoom ≤ length out → WorldFinished w out w′ out′ r
+  pub leaves : finishRoom ≤ length out → SessionFinished w out w′ out′ r
   pub means : finishRoom ≤ length out → MeasuredIn w → FinishMeans w out w′ out′ r
 
-abbrev pub Finishes : (counts heads slots copies works texts queue loads answers reader line : List ℕ) → Tally → (out : List ℕ) → (counts′ heads′ slots′ copies′ works′ texts′ queue′ loads′ answers′ reader′ line′ out′ : List ℕ) → Answer → Type 0
-Finishes counts heads slots copies works texts queue loads answers reader line t out counts′ heads′ slots′ copies′ works′ texts′ queue′ loads′ answers′ reader′ line′ out′ r =
-    Finished
-    (worldIn (memory counts heads slots copies works texts queue loads) answers reader line t)
-    out
-    (worldIn (memory counts′ heads′ slots′ copies′ works′ texts′ queue′ loads′) answers′ reader′ line′ (r .tally))
-    out′
-    (r .taken)
+-- the words of the reader: as they were where nothing happens, else with what was written
+pub record Finishes (counts heads slots copies works texts queue loads answers reader line : List ℕ) (t : Tally) (out : List ℕ) (counts′ heads′ slots′ copies′ works′ texts′ queue′ loads′ answers′ reader′ line′ out′ : List ℕ) (r : Answer) : Type 0 where
+  pub does : Finished
+      (sessionIn (memory counts heads slots copies works texts queue loads) answers reader line t)
+      out
+      (sessionIn (memory counts′ heads′ slots′ copies′ works′ texts′ queue′ loads′) answers′ reader′ line′ (r .tally))
+      out′
+      (r .taken)
+  pub rests : length out < finishRoom → reader′ ≡ reader
+  pub wrote : finishRoom ≤ length out → getD reader′ 2 0 ≡ r .taken

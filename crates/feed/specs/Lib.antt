@@ -1,4 +1,5 @@
 -- What the contracts of `feed` cite.
-pub mod Worlds
+pub mod Sessions
 pub mod Feeding
 pub mod Entry
+pub mod Whole

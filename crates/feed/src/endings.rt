@@ -7,7 +7,7 @@ ghost use mathlib.Core.Bool.{false};
 ghost use Prim.Native.Nat.{_≤_};
 ghost use lib.ListN.{length};
 ghost use Rattle.views.specs.Memory.{memory};
-ghost use Rattle.feed.specs.Worlds.{held, world};
+ghost use Rattle.feed.specs.Sessions.{held, session};
 ghost use Rattle.feed.specs.Entry.{LastTold};
 
 // Nothing is done.
@@ -42,7 +42,7 @@ pub fn finish_line(
     count: usize,
 ) -> Progress
     requires { ⌜ 1088 ≤ length (now out) ⌝ }
-    ensures { λ r. ⌜ LastTold (world (memory (now (counts .entry)) (now (heads .entry)) (now (slots .entry)) (now (copies .entry)) (now (works .entry)) (now (texts .entry)) (now (queue .entry)) (now (loads .entry))) (now (answers .entry)) t lines (held (now (line .entry)) count)) (now (out .entry)) (world (memory (now (counts .exit)) (now (heads .exit)) (now (slots .exit)) (now (copies .exit)) (now (works .exit)) (now (texts .exit)) (now (queue .exit)) (now (loads .exit))) (now (answers .exit)) (r .tally) (r .lines) (held (now (line .entry)) (r .held))) (now (out .exit)) (r .written) ⌝ }
+    ensures { λ r. ⌜ LastTold (session (memory (now (counts .entry)) (now (heads .entry)) (now (slots .entry)) (now (copies .entry)) (now (works .entry)) (now (texts .entry)) (now (queue .entry)) (now (loads .entry))) (now (answers .entry)) t lines (held (now (line .entry)) count)) (now (out .entry)) (session (memory (now (counts .exit)) (now (heads .exit)) (now (slots .exit)) (now (copies .exit)) (now (works .exit)) (now (texts .exit)) (now (queue .exit)) (now (loads .exit))) (now (answers .exit)) (r .tally) (r .lines) (held (now (line .entry)) (r .held))) (now (out .exit)) (r .written) ⌝ }
 {
     if count == 0 {
         return resting(t, lines, count);

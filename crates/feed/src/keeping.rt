@@ -8,7 +8,7 @@ ghost use Prim.Native.Nat.{_≤_};
 ghost use lib.ListN.{length};
 ghost use Rattle.model.specs.Parse.{parse};
 ghost use Rattle.parse.specs.Meaning.{lineIn, keptOf};
-ghost use Rattle.feed.specs.Worlds.{held, put, presentLine};
+ghost use Rattle.feed.specs.Sessions.{held, put, presentLine};
 ghost use Rattle.feed.specs.Feeding.{KeptFrom};
 
 // One more byte, where there is room.

@@ -2,11 +2,11 @@
 // goes into a lent output. What a part leaves is said in specs/Feeding.antt.
 use machine::Tally;
 
-pub mod endings;
+mod endings;
 pub mod entry;
-pub mod keeping;
-pub mod lines;
-pub mod parts;
+mod keeping;
+mod lines;
+mod parts;
 
 // The bytes kept of the present line, and how far the input was read for it.
 pub struct Kept {

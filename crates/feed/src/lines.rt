@@ -13,7 +13,7 @@ ghost use Rattle.model.specs.Print.{outcomeText};
 ghost use Rattle.machine.specs.Meaning.{outcomeIn};
 ghost use Rattle.output.specs.Told.{Told};
 ghost use Rattle.views.specs.Memory.{memory};
-ghost use Rattle.feed.specs.Worlds.{held, world};
+ghost use Rattle.feed.specs.Sessions.{held, session};
 ghost use Rattle.feed.specs.Feeding.{LineRun, LineTold};
 
 // The present line, read and run.
@@ -68,7 +68,7 @@ pub fn end_line(
     at: usize,
 ) -> Ending
     requires { ⌜ (lines < 4294967295) × (at + 1024 ≤ length (now out)) ⌝ }
-    ensures { λ r. ⌜ LineTold (world (memory (now (counts .entry)) (now (heads .entry)) (now (slots .entry)) (now (copies .entry)) (now (works .entry)) (now (texts .entry)) (now (queue .entry)) (now (loads .entry))) (now (answers .entry)) t lines (held (now (line .entry)) count)) (world (memory (now (counts .exit)) (now (heads .exit)) (now (slots .exit)) (now (copies .exit)) (now (works .exit)) (now (texts .exit)) (now (queue .exit)) (now (loads .exit))) (now (answers .exit)) (r .tally) (lines + 1) (held (now (line .entry)) 0)) (now (out .entry)) at (now (out .exit)) (r .written) ⌝ }
+    ensures { λ r. ⌜ LineTold (session (memory (now (counts .entry)) (now (heads .entry)) (now (slots .entry)) (now (copies .entry)) (now (works .entry)) (now (texts .entry)) (now (queue .entry)) (now (loads .entry))) (now (answers .entry)) t lines (held (now (line .entry)) count)) (session (memory (now (counts .exit)) (now (heads .exit)) (now (slots .exit)) (now (copies .exit)) (now (works .exit)) (now (texts .exit)) (now (queue .exit)) (now (loads .exit))) (now (answers .exit)) (r .tally) (lines + 1) (held (now (line .entry)) 0)) (now (out .entry)) at (now (out .exit)) (r .written) ⌝ }
 {
     let s = run_held(
         counts,

@@ -9,7 +9,7 @@ ghost use mathlib.Core.Bool.{true};
 ghost use mathlib.Core.Path.{_≡_};
 ghost use lib.ListN.{length};
 ghost use Rattle.views.specs.Memory.{memory};
-ghost use Rattle.feed.specs.Worlds.{held, world};
+ghost use Rattle.feed.specs.Sessions.{held, session};
 ghost use Rattle.feed.specs.Feeding.{AtFeed, Advanced, PartFed};
 
 // A line feed is reached: the line is run, if there is room for what it prints. The byte after the line feed is at `next`.
@@ -30,7 +30,7 @@ fn at_feed(
     next: usize,
 ) -> Progress
     requires { ⌜ (p .lines < 4294967295) × (p .written ≤ length (now out)) ⌝ }
-    ensures { λ r. ⌜ AtFeed (world (memory (now (counts .entry)) (now (heads .entry)) (now (slots .entry)) (now (copies .entry)) (now (works .entry)) (now (texts .entry)) (now (queue .entry)) (now (loads .entry))) (now (answers .entry)) (p .tally) (p .lines) (held (now (line .entry)) (k .held))) (now (out .entry)) (p .written) (k .taken) next (world (memory (now (counts .exit)) (now (heads .exit)) (now (slots .exit)) (now (copies .exit)) (now (works .exit)) (now (texts .exit)) (now (queue .exit)) (now (loads .exit))) (now (answers .exit)) (r .tally) (r .lines) (held (now (line .entry)) (r .held))) (now (out .exit)) r ⌝ }
+    ensures { λ r. ⌜ AtFeed (session (memory (now (counts .entry)) (now (heads .entry)) (now (slots .entry)) (now (copies .entry)) (now (works .entry)) (now (texts .entry)) (now (queue .entry)) (now (loads .entry))) (now (answers .entry)) (p .tally) (p .lines) (held (now (line .entry)) (k .held))) (now (out .entry)) (p .written) (k .taken) next (session (memory (now (counts .exit)) (now (heads .exit)) (now (slots .exit)) (now (copies .exit)) (now (works .exit)) (now (texts .exit)) (now (queue .exit)) (now (loads .exit))) (now (answers .exit)) (r .tally) (r .lines) (held (now (line .entry)) (r .held))) (now (out .exit)) r ⌝ }
 {
     let t = p.tally;
     if out.len() - p.written < 1024 {
@@ -88,7 +88,7 @@ fn advance(
     p: Progress,
 ) -> Progress
     requires { ⌜ (p .taken ≤ length (now input)) × (p .written ≤ length (now out)) ⌝ }
-    ensures { λ r. ⌜ Advanced (world (memory (now (counts .entry)) (now (heads .entry)) (now (slots .entry)) (now (copies .entry)) (now (works .entry)) (now (texts .entry)) (now (queue .entry)) (now (loads .entry))) (now (answers .entry)) (p .tally) (p .lines) (held (now (line .entry)) (p .held))) (now (input .entry)) (now (out .entry)) p (world (memory (now (counts .exit)) (now (heads .exit)) (now (slots .exit)) (now (copies .exit)) (now (works .exit)) (now (texts .exit)) (now (queue .exit)) (now (loads .exit))) (now (answers .exit)) (r .tally) (r .lines) (held (now (line .exit)) (r .held))) (now (out .exit)) r ⌝ }
+    ensures { λ r. ⌜ Advanced (session (memory (now (counts .entry)) (now (heads .entry)) (now (slots .entry)) (now (copies .entry)) (now (works .entry)) (now (texts .entry)) (now (queue .entry)) (now (loads .entry))) (now (answers .entry)) (p .tally) (p .lines) (held (now (line .entry)) (p .held))) (now (input .entry)) (now (out .entry)) p (session (memory (now (counts .exit)) (now (heads .exit)) (now (slots .exit)) (now (copies .exit)) (now (works .exit)) (now (texts .exit)) (now (queue .exit)) (now (loads .exit))) (now (answers .exit)) (r .tally) (r .lines) (held (now (line .exit)) (r .held))) (now (out .exit)) r ⌝ }
 {
     let t = p.tally;
     if p.lines < 4294967295 {
@@ -163,7 +163,7 @@ pub fn feed_part(
     lines: usize,
     count: usize,
 ) -> Progress
-    ensures { λ r. ⌜ PartFed (world (memory (now (counts .entry)) (now (heads .entry)) (now (slots .entry)) (now (copies .entry)) (now (works .entry)) (now (texts .entry)) (now (queue .entry)) (now (loads .entry))) (now (answers .entry)) t lines (held (now (line .entry)) count)) (now (input .entry)) (now (out .entry)) (world (memory (now (counts .exit)) (now (heads .exit)) (now (slots .exit)) (now (copies .exit)) (now (works .exit)) (now (texts .exit)) (now (queue .exit)) (now (loads .exit))) (now (answers .exit)) (r .tally) (r .lines) (held (now (line .exit)) (r .held))) (now (out .exit)) (r .taken) (r .written) ⌝ }
+    ensures { λ r. ⌜ PartFed (session (memory (now (counts .entry)) (now (heads .entry)) (now (slots .entry)) (now (copies .entry)) (now (works .entry)) (now (texts .entry)) (now (queue .entry)) (now (loads .entry))) (now (answers .entry)) t lines (held (now (line .entry)) count)) (now (input .entry)) (now (out .entry)) (session (memory (now (counts .exit)) (now (heads .exit)) (now (slots .exit)) (now (copies .exit)) (now (works .exit)) (now (texts .exit)) (now (queue .exit)) (now (loads .exit))) (now (answers .exit)) (r .tally) (r .lines) (held (now (line .exit)) (r .held))) (now (out .exit)) (r .taken) (r .written) ⌝ }
 {
     let mut p = begun(t, lines, count);
     while p.more {

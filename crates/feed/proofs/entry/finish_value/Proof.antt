@@ -1,5 +1,5 @@
 -- `entry::finish_value` meets its contract.
-use Rattle.feed.proofs.Entering.{finished-waits, end-finished}
+use Rattle.feed.proofs.Entering.{end-waits, end-finished}
 use borrow.Author.Needs.{needs}
 use Rattle.feed.proofs.entry.finish_value.Statement.{statement}
 use Rattle.feed.proofs.entry.finish_value.Tie as tie
@@ -8,7 +8,7 @@ sizes-requires : tie.Need-sizes-requires
 sizes-requires c κs = search needs
 
 returns : tie.Need-returns
-returns c = finished-waits _ _ (c .if1 .taken)
+returns c = end-waits _ _ _ _ _ _ _ _ _ _ _ _ _ (c .if1 .taken)
 
 element-copy-out-lines : tie.Need-element-copy-out-lines
 element-copy-out-lines c = search needs
@@ -29,7 +29,7 @@ same-length : tie.Need-same-length
 same-length c = search needs
 
 returns-2 : tie.Need-returns-2
-returns-2 c = end-finished _ _ (c .before .before .before .before .before .before .before .before .before .before .before .before .before .before .before .before .before .before .before .before .before .before .before .before .before .before .before .before .before .before .args .reader .now) _ _ _ _ _ _ _ (c .before .before .before .before .before .before .before .before .before .finish-line .result) _ _ (c .before .before .before .before .before .before .before .before .before .before .before .before .before .before .before .before .before .before .before .before .before .before .before .before .sizes .ensures .0) (c .before .before .before .before .before .before .before .before .before .before .before .before .before .before .before .before .before .before .before .before .before .before .before .before .sizes .ensures .1) (c .before .before .before .before .before .before .before .before .before .before .before .before .before .before .before .before .before .before .before .before .before .before .before .if1 .left) (c .before .before .before .before .before .before .before .before .before .finish-line .ensures) (c .before .before .before .before .put-end .ensures .0) (c .put-reader .ensures)
+returns-2 c = end-finished _ _ _ _ _ _ _ _ _ (c .before .before .before .before .before .before .before .before .before .before .before .before .before .before .before .before .before .before .before .before .before .before .before .before .before .before .before .before .before .before .args .reader .now) _ _ _ _ _ _ _ _ _ _ _ _ _ _ (c .before .before .before .before .before .before .before .before .before .finish-line .result) _ _ (c .before .before .before .before .before .before .before .before .before .before .before .before .before .before .before .before .before .before .before .before .before .before .before .before .sizes .ensures .0) (c .before .before .before .before .before .before .before .before .before .before .before .before .before .before .before .before .before .before .before .before .before .before .before .before .sizes .ensures .1) (c .before .before .before .before .before .before .before .before .before .before .before .before .before .before .before .before .before .before .before .before .before .before .before .if1 .left) (c .before .before .before .before .before .before .before .before .before .finish-line .ensures) (c .before .before .before .before .put-end .ensures .0) (c .put-reader .ensures)
 
 pub finish-value-spec : {M : Type 1} → statement M
 finish-value-spec =

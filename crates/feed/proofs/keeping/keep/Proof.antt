@@ -5,7 +5,7 @@ use native.Mathlib.Omega.{arith}
 use borrow.Author.Tests.{ne-eqb}
 use borrow.Author.Needs.{needs}
 use mathlib.Core.Path.{sym, subst}
-use Rattle.feed.specs.Worlds.{Held, held}
+use Rattle.feed.specs.Sessions.{Held, held}
 use Rattle.feed.specs.Feeding.{KeptTo}
 use Rattle.feed.proofs.Holding.{starts, goes}
 use Rattle.feed.proofs.keeping.keep.Statement.{statement}

@@ -1,7 +1,7 @@
 -- `keeping::keep_byte` meets its contract.
 use borrow.Author.Tests.{lt-ltb, le-ltb}
 use borrow.Author.Needs.{needs}
-use Rattle.feed.specs.Worlds.{put}
+use Rattle.feed.specs.Sessions.{put}
 use Rattle.feed.proofs.keeping.keep_byte.Statement.{statement}
 use Rattle.feed.proofs.keeping.keep_byte.Tie as tie
 

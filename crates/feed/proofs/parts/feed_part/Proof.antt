@@ -4,14 +4,14 @@ use native.Mathlib.Omega.{arith}
 use lib.ListN.{length}
 use borrow.Author.Needs.{needs}
 use Rattle.views.specs.Memory.{memory}
-use Rattle.feed.specs.Worlds.{held, world}
+use Rattle.feed.specs.Sessions.{held, session}
 use Rattle.feed.proofs.Advancing.{Going, going-starts, going-on, going-ends, stepsLeft, steps-fall}
 use Rattle.feed.proofs.parts.feed_part.Statement.{statement}
 use Rattle.feed.proofs.parts.feed_part.Tie as tie
 
 abbrev Inv-loop : tie.InvT-loop
 Inv-loop counts₀ heads₀ slots₀ copies₀ works₀ texts₀ queue₀ loads₀ answers₀ line₀ out₀ input lines count p₀ counts heads slots copies works texts queue loads answers line out p =
-    Going (world (memory counts₀ heads₀ slots₀ copies₀ works₀ texts₀ queue₀ loads₀) answers₀ (p₀ .tally) lines (held line₀ count)) input out₀ (world (memory counts heads slots copies works texts queue loads) answers (p .tally) (p .lines) (held line (p .held))) out p
+    Going (session (memory counts₀ heads₀ slots₀ copies₀ works₀ texts₀ queue₀ loads₀) answers₀ (p₀ .tally) lines (held line₀ count)) input out₀ (session (memory counts heads slots copies works texts queue loads) answers (p .tally) (p .lines) (held line (p .held))) out p
 
 abbrev μ-loop : tie.MeasureT-loop
 μ-loop counts₀ heads₀ slots₀ copies₀ works₀ texts₀ queue₀ loads₀ answers₀ line₀ out₀ input lines count p₀ counts heads slots copies works texts queue loads answers line out p =

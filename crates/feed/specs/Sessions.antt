@@ -33,18 +33,18 @@ putAll h [] = h
 putAll h (b ∷ l) = putAll (put h b) l
 
 -- the cluster's memory, the answers of the last line, the tally, the lines read, and the present line
-pub record World : Type 0 where
+pub record Session : Type 0 where
   pub memory : Memory
   pub answers : List ℕ
   pub tally : Tally
   pub lines : ℕ
   pub held : Held
 
-abbrev pub world : Memory → List ℕ → Tally → ℕ → Held → World
-world m l t n h = record { memory = m; answers = l; tally = t; lines = n; held = h }
+abbrev pub session : Memory → List ℕ → Tally → ℕ → Held → Session
+session m l t n h = record { memory = m; answers = l; tally = t; lines = n; held = h }
 
-abbrev pub keeping : World → List ℕ → World
-keeping w l = world (w .memory) (w .answers) (w .tally) (w .lines) (putAll (w .held) l)
+abbrev pub keeping : Session → List ℕ → Session
+keeping w l = session (w .memory) (w .answers) (w .tally) (w .lines) (putAll (w .held) l)
 
-abbrev pub readingIn : World → Reading
+abbrev pub readingIn : Session → Reading
 readingIn w = reading (stateIn (w .memory) (tallyIn (w .tally))) (w .lines) (presentLine (w .held))
