@@ -10,12 +10,12 @@ use Rattle.table.specs.Form.{sameBytes}
 use Rattle.model.specs.Text.{bytes}
 use Rattle.model.specs.Calls.{get, set, setif, del, keys}
 use Rattle.model.specs.Lines.{Line, cluster, elect, call, deliver, copy, lose, timeout, stop}
-use Rattle.model.specs.Parse.{digit, number, hexDigit, pairs, hexadecimal, made, made2, made3, made4}
+use Rattle.model.specs.Parse.{number, hexDigit, pairs, hexadecimal, made, made2, made3, made4, lineOf1}
 use Rattle.parse.specs.declared.Kind.{Kind}
 use Rattle.parse.specs.declared.Kind.the-variants as K
 use Rattle.parse.specs.Digits.{present, allThree, nibble, pairBytes}
 use Rattle.parse.specs.Kept.{kept}
-use Rattle.parse.specs.Meaning.{lineFor, keptWords, keptLine, keptOf, numbersFor, callFor}
+use Rattle.parse.specs.Meaning.{kindOf1, lineFor, keptWords, keptLine, keptOf, numbersFor, numberFor, callFor}
 use Rattle.parse.proofs.Sameness.{same-true}
 use Rattle.parse.proofs.Pairs.{joined, pair-step, hexadecimal-pairs}
 
@@ -79,8 +79,8 @@ call-fails c (some s) (some k) (some e) (some v) h = cc
 
 -- ---- the model's readings, by kinds: `f` makes the line of kind c
 
-one-number : (c : Kind) (f : ℕ → Line) → ((n : ℕ) → lineFor c n 0 [] [] [] ≡ some (keptLine (f n))) → (x : Option ℕ) → numbersFor c x (number (bytes "0")) ≡ keptOf (made f x)
-unfolding numbersFor keptOf made number digit bytes
+one-number : (c : Kind) (f : ℕ → Line) → ((n : ℕ) → lineFor c n 0 [] [] [] ≡ some (keptLine (f n))) → (x : Option ℕ) → numberFor c x ≡ keptOf (made f x)
+unfolding numberFor keptOf made
 one-number c f h none = refl
 one-number c f h (some n) = h n
 
@@ -96,25 +96,45 @@ with-key c f h none y = refl
 with-key c f h (some s) none = refl
 with-key c f h (some s) (some k) = h s k _ _
 
-pub elect-line : (x : Option ℕ) → numbersFor K.Elect x (number (bytes "0")) ≡ keptOf (made elect x)
-unfolding lineFor keptLine
-elect-line = one-number K.Elect elect (λ n. refl)
+-- a line of two words, by the tests of the first
+kindBy : Bool → Bool → Bool → Bool → Bool → Kind
+kindBy p q r s t =
+    elim p [
+      | true ↦ K.Elect
+      | false ↦
+          elim q [
+            | true ↦ K.Deliver
+            | false ↦
+                elim r [ true ↦ K.Copy | false ↦ elim s [ true ↦ K.Lose | false ↦ elim t [ true ↦ K.Stop | false ↦ K.Malformed ] ] ]
+          ]
+    ]
 
-pub deliver-line : (x : Option ℕ) → numbersFor K.Deliver x (number (bytes "0")) ≡ keptOf (made deliver x)
-unfolding lineFor keptLine
-deliver-line = one-number K.Deliver deliver (λ n. refl)
+lineBy : Bool → Bool → Bool → Bool → Bool → Option ℕ → Option Line
+lineBy p q r s t x =
+    elim p [
+      | true ↦ made elect x
+      | false ↦
+          elim q [
+            | true ↦ made deliver x
+            | false ↦
+                elim r [ true ↦ made copy x | false ↦ elim s [ true ↦ made lose x | false ↦ elim t [ true ↦ made stop x | false ↦ none ] ] ]
+          ]
+    ]
 
-pub copy-line : (x : Option ℕ) → numbersFor K.Copy x (number (bytes "0")) ≡ keptOf (made copy x)
-unfolding lineFor keptLine
-copy-line = one-number K.Copy copy (λ n. refl)
+by-tests : (p q r s t : Bool) (x : Option ℕ) → numberFor (kindBy p q r s t) x ≡ keptOf (lineBy p q r s t x)
+unfolding kindBy lineBy lineFor keptLine numberFor keptOf
+by-tests true q r s t x = one-number K.Elect elect (λ n. refl) x
+by-tests false true r s t x = one-number K.Deliver deliver (λ n. refl) x
+by-tests false false true s t x = one-number K.Copy copy (λ n. refl) x
+by-tests false false false true t x = one-number K.Lose lose (λ n. refl) x
+by-tests false false false false true x = one-number K.Stop stop (λ n. refl) x
+by-tests false false false false false none = refl
+by-tests false false false false false (some n) = refl
 
-pub lose-line : (x : Option ℕ) → numbersFor K.Lose x (number (bytes "0")) ≡ keptOf (made lose x)
-unfolding lineFor keptLine
-lose-line = one-number K.Lose lose (λ n. refl)
-
-pub stop-line : (x : Option ℕ) → numbersFor K.Stop x (number (bytes "0")) ≡ keptOf (made stop x)
-unfolding lineFor keptLine
-stop-line = one-number K.Stop stop (λ n. refl)
+pub number-line : (w a : List ℕ) → numberFor (kindOf1 w) (number a) ≡ keptOf (lineOf1 w a)
+unfolding kindBy lineBy kindOf1 lineOf1
+number-line w a =
+    by-tests (sameBytes w (bytes "elect")) (sameBytes w (bytes "deliver")) (sameBytes w (bytes "copy")) (sameBytes w (bytes "lose")) (sameBytes w (bytes "stop")) (number a)
 
 pub cluster-line : (x y : Option ℕ) → numbersFor K.Cluster x y ≡ keptOf (made2 cluster x y)
 unfolding lineFor keptLine

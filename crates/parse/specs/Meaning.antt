@@ -1,8 +1,11 @@
 -- What a line by value stands for, and what is kept of a line: all of it, but for the bytes of a key or value that is
 -- too long (`kept`). No rule can see the difference (`performed` of proofs/Keeping.antt).
+use mathlib.Core.Bool.{true, false}
 use mathlib.Core.List.{List, []}
 use mathlib.Core.Option.{Option, none, some}
 use Prim.Native.Nat.{ℕ}
+use Rattle.table.specs.Form.{sameBytes}
+use Rattle.model.specs.Text.{bytes}
 use Rattle.model.specs.Measures.{maxKeyBytes, maxValueBytes}
 use Rattle.model.specs.Calls.{Words, get, set, setif, del, keys}
 use Rattle.model.specs.Lines.{Line, cluster, elect, call, deliver, copy, lose, timeout, stop}
@@ -10,6 +13,27 @@ use Rattle.parse.specs.Kept.{kept, keyIn, valueIn}
 use Rattle.parse.specs.declared.Kind.{Kind}
 use Rattle.parse.specs.declared.Kind.the-variants as K
 use Rattle.parse.specs.declared.Line.{Line as Parsed}
+
+-- the kind of a line of two words, by the first
+unfoldable pub kindOf1 : List ℕ → Kind
+kindOf1 w =
+    elim (sameBytes w (bytes "elect")) [
+      | true ↦ K.Elect
+      | false ↦
+          elim (sameBytes w (bytes "deliver")) [
+            | true ↦ K.Deliver
+            | false ↦
+                elim (sameBytes w (bytes "copy")) [
+                  | true ↦ K.Copy
+                  | false ↦
+                      elim (sameBytes w (bytes "lose")) [
+                        | true ↦ K.Lose
+                        | false ↦
+                            elim (sameBytes w (bytes "stop")) [ true ↦ K.Stop | false ↦ K.Malformed ]
+                      ]
+                ]
+          ]
+    ]
 
 -- the line of a kind with its numbers, key, expected value and value; what the kind does not use is not looked at
 unfoldable pub lineFor : Kind → ℕ → ℕ → List ℕ → List ℕ → List ℕ → Option Line
@@ -57,6 +81,11 @@ unfoldable pub numbersFor : Kind → Option ℕ → Option ℕ → Option Line
 numbersFor k none y = none
 numbersFor k (some a) none = none
 numbersFor k (some a) (some b) = lineFor k a b [] [] []
+
+-- a line of one number
+unfoldable pub numberFor : Kind → Option ℕ → Option Line
+numberFor k none = none
+numberFor k (some a) = lineFor k a 0 [] [] []
 
 unfoldable pub callFor : Kind → Option ℕ → Option (List ℕ) → Option (List ℕ) → Option (List ℕ) → Option Line
 callFor c none k e v = none

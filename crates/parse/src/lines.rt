@@ -16,7 +16,7 @@ ghost use mathlib.Core.Option.{none};
 ghost use Rattle.model.specs.Parse.{number, hexadecimal, words, lineOf1, lineOf2, lineOf3, lineOf4, lineOf};
 ghost use Rattle.parse.specs.Digits.{present, allThree};
 ghost use Rattle.parse.specs.Kept.{keyIn, valueIn};
-ghost use Rattle.parse.specs.Meaning.{lineFor, lineIn, keptOf, numbersFor, callFor};
+ghost use Rattle.parse.specs.Meaning.{kindOf1, lineFor, lineIn, keptOf, numbersFor, callFor};
 
 fn blank_key() -> Key
     ensures { λ r. ⌜ keyIn r ≡ [] ⌝ }
@@ -113,25 +113,37 @@ fn call_line(kind: Kind, server: &[u8], key: &[u8], expected: &[u8], value: &[u8
     }
 }
 
+// The kind of a line of two words.
+fn kind_of_1(word: &[u8]) -> Kind
+    ensures { λ r. ⌜ r ≡ kindOf1 (now (word .entry)) ⌝ }
+{
+    if same_word(word, b"elect") {
+        return Kind::Elect;
+    }
+    if same_word(word, b"deliver") {
+        return Kind::Deliver;
+    }
+    if same_word(word, b"copy") {
+        return Kind::Copy;
+    }
+    if same_word(word, b"lose") {
+        return Kind::Lose;
+    }
+    if same_word(word, b"stop") {
+        return Kind::Stop;
+    }
+    Kind::Malformed
+}
+
 fn line_of_1(word: &[u8], a: &[u8]) -> Line
     ensures { λ r. ⌜ lineIn r ≡ keptOf (lineOf1 (now (word .entry)) (now (a .entry))) ⌝ }
 {
-    if same_word(word, b"elect") {
-        return numbers_line(Kind::Elect, a, b"0");
+    let kind = kind_of_1(word);
+    let n = number(a);
+    match n {
+        Number::Not => malformed(),
+        Number::Is(x) => of_numbers(kind, x, 0),
     }
-    if same_word(word, b"deliver") {
-        return numbers_line(Kind::Deliver, a, b"0");
-    }
-    if same_word(word, b"copy") {
-        return numbers_line(Kind::Copy, a, b"0");
-    }
-    if same_word(word, b"lose") {
-        return numbers_line(Kind::Lose, a, b"0");
-    }
-    if same_word(word, b"stop") {
-        return numbers_line(Kind::Stop, a, b"0");
-    }
-    malformed()
 }
 
 fn line_of_2(word: &[u8], a: &[u8], b: &[u8]) -> Line

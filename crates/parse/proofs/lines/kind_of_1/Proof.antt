@@ -1,0 +1,82 @@
+-- `lines::kind_of_1` meets its contract: both make the same tests.
+use mathlib.Core.Path.{sym, _∙_}
+use Rattle.model.specs.Text.{bytes}
+use Rattle.parse.specs.Meaning.{kindOf1}
+use borrow.Author.Needs.{needs}
+use Rattle.parse.proofs.lines.kind_of_1.Statement.{statement}
+use Rattle.parse.proofs.lines.kind_of_1.Tie as tie
+
+slice-aggregate-same-word : tie.Need-slice-aggregate-same-word
+slice-aggregate-same-word c = search needs
+
+same-word-requires : tie.Need-same-word-requires
+same-word-requires c κs = search needs
+
+returns : tie.Need-returns
+unfolding kindOf1 bytes
+returns c = rw (kindOf1, sym (c .before .same-word .ensures) ∙ c .if1 .taken)
+
+slice-aggregate-same-word-2 : tie.Need-slice-aggregate-same-word-2
+slice-aggregate-same-word-2 c = search needs
+
+same-word-requires-2 : tie.Need-same-word-requires-2
+same-word-requires-2 c κs = search needs
+
+returns-2 : tie.Need-returns-2
+unfolding kindOf1 bytes
+returns-2 c = rw (kindOf1, sym (c .before .before .before .before .same-word .ensures) ∙ c .before .before .before .if1 .left, sym (c .before .same-word2 .ensures) ∙ c .if2 .taken)
+
+slice-aggregate-same-word-3 : tie.Need-slice-aggregate-same-word-3
+slice-aggregate-same-word-3 c = search needs
+
+same-word-requires-3 : tie.Need-same-word-requires-3
+same-word-requires-3 c κs = search needs
+
+returns-3 : tie.Need-returns-3
+unfolding kindOf1 bytes
+returns-3 c = rw (kindOf1, sym (c .before .before .before .before .before .before .before .same-word .ensures) ∙ c .before .before .before .before .before .before .if1 .left, sym (c .before .before .before .before .same-word2 .ensures) ∙ c .before .before .before .if2 .left, sym (c .before .same-word3 .ensures) ∙ c .if3 .taken)
+
+slice-aggregate-same-word-4 : tie.Need-slice-aggregate-same-word-4
+slice-aggregate-same-word-4 c = search needs
+
+same-word-requires-4 : tie.Need-same-word-requires-4
+same-word-requires-4 c κs = search needs
+
+returns-4 : tie.Need-returns-4
+unfolding kindOf1 bytes
+returns-4 c = rw (kindOf1, sym (c .before .before .before .before .before .before .before .before .before .before .same-word .ensures) ∙ c .before .before .before .before .before .before .before .before .before .if1 .left, sym (c .before .before .before .before .before .before .before .same-word2 .ensures) ∙ c .before .before .before .before .before .before .if2 .left, sym (c .before .before .before .before .same-word3 .ensures) ∙ c .before .before .before .if3 .left, sym (c .before .same-word4 .ensures) ∙ c .if4 .taken)
+
+slice-aggregate-same-word-5 : tie.Need-slice-aggregate-same-word-5
+slice-aggregate-same-word-5 c = search needs
+
+same-word-requires-5 : tie.Need-same-word-requires-5
+same-word-requires-5 c κs = search needs
+
+returns-5 : tie.Need-returns-5
+unfolding kindOf1 bytes
+returns-5 c = rw (kindOf1, sym (c .before .before .before .before .before .before .before .before .before .before .before .before .before .same-word .ensures) ∙ c .before .before .before .before .before .before .before .before .before .before .before .before .if1 .left, sym (c .before .before .before .before .before .before .before .before .before .before .same-word2 .ensures) ∙ c .before .before .before .before .before .before .before .before .before .if2 .left, sym (c .before .before .before .before .before .before .before .same-word3 .ensures) ∙ c .before .before .before .before .before .before .if3 .left, sym (c .before .before .before .before .same-word4 .ensures) ∙ c .before .before .before .if4 .left, sym (c .before .same-word5 .ensures) ∙ c .if5 .taken)
+
+returns-6 : tie.Need-returns-6
+unfolding kindOf1 bytes
+returns-6 c = rw (kindOf1, sym (c .before .before .before .before .before .before .before .before .before .before .before .before .before .same-word .ensures) ∙ c .before .before .before .before .before .before .before .before .before .before .before .before .if1 .left, sym (c .before .before .before .before .before .before .before .before .before .before .same-word2 .ensures) ∙ c .before .before .before .before .before .before .before .before .before .if2 .left, sym (c .before .before .before .before .before .before .before .same-word3 .ensures) ∙ c .before .before .before .before .before .before .if3 .left, sym (c .before .before .before .before .same-word4 .ensures) ∙ c .before .before .before .if4 .left, sym (c .before .same-word5 .ensures) ∙ c .if5 .left)
+
+pub kind-of-1-spec : {M : Type 1} → statement M
+kind-of-1-spec =
+    tie.close
+    (tie.spec
+    slice-aggregate-same-word
+    same-word-requires
+    returns
+    slice-aggregate-same-word-2
+    same-word-requires-2
+    returns-2
+    slice-aggregate-same-word-3
+    same-word-requires-3
+    returns-3
+    slice-aggregate-same-word-4
+    same-word-requires-4
+    returns-4
+    slice-aggregate-same-word-5
+    same-word-requires-5
+    returns-5
+    returns-6)
