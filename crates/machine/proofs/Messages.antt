@@ -24,7 +24,7 @@ use Rattle.plans.specs.Plans.{refusedPlan, placesLeft, roomy, unless, movePlan,
 use Rattle.plans.specs.Arrays.{Measured}
 use Rattle.plans.proofs.Judging.{unless-none, unless-some}
 use Rattle.runs.specs.declared.Report.{Report}
-use Rattle.runs.specs.Runs.{Ran, ran, refusedRun, lostRun, carriedRun, taken, executed}
+use Rattle.runs.specs.Runs.{Ran, ran, refusedRun, carriedRun, taken, executed}
 use Rattle.machine.specs.Contracts.{Losable, Carriable, Handable, Lost, Reported, PlainlyReported, handledRun, HandledPlainly, HandledThere, HandedListed, HandRan}
 use Rattle.machine.proofs.Executing.{executes-lost}
 

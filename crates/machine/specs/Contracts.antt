@@ -105,11 +105,11 @@ pub record Handable (c : Counts) (x : Step) : Type 0 where
 abbrev pub handledRun : Memory → List ℕ → Counts → Step → Message → Local → Effect → Ran
 handledRun m l c x y to f = executed m l c (roomy c (movePlan x (handledMove (c .servers) (x .server) (f .result) y to) f))
 
--- with an effect of result 0
+-- where it asks for no effect
 pub record HandledPlainly (m : Memory) (l : List ℕ) (c : Counts) (x : Step) (y : Message) (to : Local) (m′ : Memory) (l′ : List ℕ) (r : Report) : Type 0 where
   pub is : ran m′ l′ r ≡ handledRun m l c x y to (r .effect)
 
--- with the effect that it asks for
+-- with the effect, where it asks for one
 pub record HandledThere (m : Memory) (l : List ℕ) (c : Counts) (x : Step) (y : Message) (to : Local) (k : ℕ) (m′ : Memory) (l′ : List ℕ) (r : Report) : Type 0 where
   pub is : ran m′ l′ r ≡ handledRun m l c x y to (r .effect)
   pub effect : readsTable (c .servers) y to ≡ true → effectIn (r .effect) ≡ calls.effect (wordsIn (wordsAt (m .slots) (m .texts) k)) (tableAt (m .copies) k)

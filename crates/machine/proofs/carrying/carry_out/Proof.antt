@@ -1,6 +1,5 @@
 -- `carrying::carry_out` meets its contract: the working content, then the rest.
 use mathlib.Core.Path.{ap, _∙_}
-use Rattle.views.specs.Memory.{memory}
 use Rattle.runs.specs.Runs.{ran}
 use Rattle.machine.proofs.Assembling.{carried-out}
 use borrow.Author.Needs.{needs}
