@@ -1,5 +1,5 @@
 // The bench: a script from standard input, what it prints to standard output. What is done with the bytes is crate `feed`; here they
-// are read and written, in blocks of 65,536.
+// are read and written, in blocks of 65,536. Where reading or writing fails it stops there, and prints no tally.
 use entries::keys::at_most;
 use feed::entry::feed_value;
 use feed::entry::finish_value;
@@ -7,10 +7,15 @@ use libc::STDIN_FILENO;
 use libc::STDOUT_FILENO;
 use machine::Tally;
 
-// The tally after a block of the input, and whether to go on.
+// The tally after a block of the input, whether to go on, and if not, whether the input is at its end.
 struct Block {
     tally: Tally,
     more: bool,
+    ended: bool,
+}
+
+fn after_block(tally: Tally, more: bool, ended: bool) -> Block {
+    Block { tally, more, ended }
 }
 
 // The first n bytes are written out: false where that fails, as where nobody reads them any more.
@@ -19,7 +24,8 @@ fn write_out(out: &[u8], n: usize) -> bool {
     io::write_all(STDOUT_FILENO, &out[..k])
 }
 
-// A block of the input, in as many parts as the output has room for.
+// A block of the input, in as many parts as the output has room for. Each part takes a byte (`takes-some` in crate `feed`); the test
+// says so to the loop.
 fn feed_block(
     counts: &mut [u32; 8],
     heads: &mut [u32; 112],
@@ -59,17 +65,17 @@ fn feed_block(
         tally = a.tally;
         let is_written = write_out(out, reader[2]);
         if !is_written {
-            return Block { tally, more: false };
+            return after_block(tally, false, false);
         }
         if a.taken == 0 {
-            return Block { tally, more: false };
+            return after_block(tally, false, false);
         }
         left -= a.taken;
     }
-    Block { tally, more: true }
+    after_block(tally, true, false)
 }
 
-// One block is read and fed; at the end of the input there is no more.
+// One block is read and fed.
 fn next_block(
     counts: &mut [u32; 8],
     heads: &mut [u32; 112],
@@ -89,10 +95,7 @@ fn next_block(
     let got = libc::read(STDIN_FILENO, input);
     let n = io::count(got, input);
     if n == 0 {
-        return Block {
-            tally: t,
-            more: false,
-        };
+        return after_block(t, false, got == 0);
     }
     feed_block(
         counts,
@@ -126,14 +129,17 @@ fn feed_all(
     answers: &mut [u32; 32],
     reader: &mut [usize; 3],
     line: &mut [u8; 121],
-    t: Tally,
     input: &mut [u8],
     out: &mut [u8; 65536],
-) -> Tally {
-    let mut b = Block {
-        tally: t,
-        more: true,
+) -> Block {
+    let start = Tally {
+        sent: 0,
+        copied: 0,
+        delivered: 0,
+        lost: 0,
+        flight: 0,
     };
+    let mut b = after_block(start, true, false);
     let mut turns = u64::MAX;
     while turns > 0 && b.more {
         b = next_block(
@@ -154,11 +160,11 @@ fn feed_all(
         );
         turns -= 1;
     }
-    b.tally
+    b
 }
 
-// The last line and the tally.
-fn finish_all(
+// The whole input, then the last line and the tally.
+fn run(
     counts: &mut [u32; 8],
     heads: &mut [u32; 112],
     slots: &mut [u32; 1792],
@@ -170,10 +176,10 @@ fn finish_all(
     answers: &mut [u32; 32],
     reader: &mut [usize; 3],
     line: &mut [u8; 121],
-    t: Tally,
+    input: &mut [u8],
     out: &mut [u8; 65536],
 ) {
-    let a = finish_value(
+    let b = feed_all(
         counts,
         heads,
         slots,
@@ -185,10 +191,28 @@ fn finish_all(
         answers,
         reader,
         line,
-        t,
+        input,
         out,
     );
-    write_out(out, a.taken);
+    if b.ended {
+        let tally = b.tally;
+        let a = finish_value(
+            counts,
+            heads,
+            slots,
+            copies,
+            works,
+            texts,
+            queue,
+            loads,
+            answers,
+            reader,
+            line,
+            tally,
+            out,
+        );
+        write_out(out, a.taken);
+    }
 }
 
 fn main() {
@@ -205,14 +229,7 @@ fn main() {
     let mut line = [0u8; 121];
     let mut input = io::large_buffer();
     let mut out = io::large_buffer();
-    let start = Tally {
-        sent: 0,
-        copied: 0,
-        delivered: 0,
-        lost: 0,
-        flight: 0,
-    };
-    let tally = feed_all(
+    run(
         &mut counts,
         &mut heads,
         &mut slots,
@@ -224,23 +241,7 @@ fn main() {
         &mut answers,
         &mut reader,
         &mut line,
-        start,
         &mut input,
-        &mut out,
-    );
-    finish_all(
-        &mut counts,
-        &mut heads,
-        &mut slots,
-        &mut copies,
-        &mut works,
-        &mut texts,
-        &mut queue,
-        &mut loads,
-        &mut answers,
-        &mut reader,
-        &mut line,
-        tally,
         &mut out,
     );
 }

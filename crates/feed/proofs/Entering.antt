@@ -4,14 +4,13 @@ use mathlib.Core.List.{List, [], _∷_, _++_}
 use Prim.Native.Nat.{ℕ, _+_, _≤_, _<_}
 use native.Mathlib.Omega.{arith}
 use lib.ListN.{length, take, drop, getD, set, length-append, length-take}
-use borrow.Author.Tests.{lt-ltb, le-ltb}
-use Rattle.model.specs.Measures.{maxLines}
 use Rattle.model.specs.Print.{tallyText}
 use Rattle.print.specs.Printed.{Printed}
 use Rattle.views.specs.Memory.{Memory, memory}
 use Rattle.machine.specs.declared.Tally.{Tally}
 use Rattle.machine.specs.Meaning.{tallyIn}
-use Rattle.input.specs.Reading.{Reading, ended, endedText, lastRead, lastText, finished, finishedText}
+use Rattle.input.specs.Reading.{lastRead, lastText, finished, finishedText}
+use Rattle.input.proofs.Whole.{last-none, last-some}
 use Rattle.feed.specs.Sessions.{Held, held, Session, session, presentLine, readingIn}
 use Rattle.feed.specs.Feeding.{PartFed, Ready}
 use Rattle.feed.specs.Entry.{sessionIn, MeasuredIn, SessionFed, LastLine, none, past, one, LastTold, Finished, Finishes}
@@ -58,16 +57,6 @@ part-fed m l reader line t input out m′ l′ reader′ line′ p out′ r s f 
 
 -- ---- the end
 
-last-past : (r : Reading) (l : List ℕ) → maxLines ≤ r .lines → (lastRead r l ≡ r) × (lastText r l ≡ [])
-unfolding lastRead lastText
-last-past r [] h = (refl, refl)
-last-past r (b ∷ l) h = (rw (lastRead, le-ltb (r .lines) maxLines h), rw (lastText, le-ltb (r .lines) maxLines h))
-
-last-one : (r : Reading) (l : List ℕ) → 1 ≤ length l → r .lines < maxLines → (lastRead r l ≡ ended r) × (lastText r l ≡ endedText r)
-unfolding lastRead lastText
-last-one r [] n h = absurd (omega arith)
-last-one r (b ∷ l) n h = (rw (lastRead, lt-ltb (r .lines) maxLines h), rw (lastText, lt-ltb (r .lines) maxLines h))
-
 present-some : (h : Held) → 1 ≤ h .count → length (h .bytes) ≡ 121 → 1 ≤ length (presentLine h)
 unfolding presentLine
 present-some h c s = rw (length-take (h .count) (h .bytes), s) (omega arith)
@@ -82,10 +71,10 @@ last-means : (w w′ : Session) (text : List ℕ) → Ready w → LastLine w w�
 unfolding finished lastRead lastText
 last-means w w′ text r (none e) = record { reads = rw e; prints = rw e; measured = r .measured }
 last-means w w′ text r (past h) =
-    let k = last-past (readingIn w) (presentLine (w .held)) h in
+    let k = last-none (readingIn w) (presentLine (w .held)) h in
     record { reads = k .0; prints = k .1; measured = r .measured }
 last-means w w′ text r (one u x c h e) =
-    let k = last-one (readingIn w) (presentLine (w .held)) (present-some (w .held) c (r .size)) h in
+    let k = last-some (readingIn w) (presentLine (w .held)) h (present-some (w .held) c (r .size)) in
     let m = line-means w u x r e in
     record { reads = k .0 ∙ m .0; prints = k .1 ∙ m .1; measured = line-ready w u x r e .measured }
 

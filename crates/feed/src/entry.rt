@@ -6,7 +6,6 @@ use machine::Tally;
 use output::put_end;
 ghost use mathlib.Core.Path.{_≡_};
 ghost use lib.ListN.{length, set};
-ghost use Rattle.views.specs.Memory.{memory};
 ghost use Rattle.feed.specs.Entry.{Feeds, Finishes};
 
 // The sizes of two arrays, for the caller's proof: it does nothing.
@@ -120,10 +119,11 @@ pub fn finish_value(
     }
 }
 
-// A part of the input: how many bytes of it were taken. Bytes are left only from a line feed on, where the output has no room for
+// A part of the input, for callers in other languages too, who lend arrays of these sizes, no two of them overlapping: how many
+// bytes of it were taken. Bytes are left only from a line feed on, where the output has no room for
 // what a line can print (1,024 bytes); the bytes written are counted in `reader[2]`.
 #[no_mangle]
-pub extern "C" fn feed(
+pub extern "C" fn script_feed(
     counts: &mut [u32; 8],
     heads: &mut [u32; 112],
     slots: &mut [u32; 1792],
@@ -161,10 +161,10 @@ pub extern "C" fn feed(
     a.taken
 }
 
-// The end of the input: a last line without line feed, then the tally. It answers how many bytes it wrote, or 0 and does nothing
+// The end of the input, likewise: a last line without line feed, then the tally. It answers how many bytes it wrote, or 0 and does nothing
 // where the output has no room for them (1,088 bytes).
 #[no_mangle]
-pub extern "C" fn finish(
+pub extern "C" fn script_finish(
     counts: &mut [u32; 8],
     heads: &mut [u32; 112],
     slots: &mut [u32; 1792],

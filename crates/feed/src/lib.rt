@@ -31,7 +31,7 @@ pub struct Progress {
     pub more: bool,
 }
 
-// The tally after a part, and how many bytes of it were taken.
+// The tally after a call, and how many bytes of a part it took, or at the end how many it wrote.
 pub struct Answer {
     pub tally: Tally,
     pub taken: usize,

@@ -3,10 +3,8 @@ use mathlib.Core.Path.{_≡_, refl, sym, ap, _∙_}
 use mathlib.Core.List.{List, [], _∷_, _++_, append-assoc, append-nil}
 use mathlib.Core.Bool.{true, false}
 use Prim.Native.Nat.{ℕ, _≤_, _<_}
-use native.Mathlib.Omega.{arith}
-use native.Mathlib.Decide.{decLe}
 use lib.Dec.{eqb}
-use lib.ListN.{length, length-append}
+use lib.ListN.{length}
 use borrow.Author.Tests.{lt-ltb, le-ltb, le-leb, lt-leb}
 use Rattle.model.specs.Measures.{maxLines}
 use Rattle.input.specs.Reading.{Reading, reading, kept, keptAll, NoFeed, ended, endedText, byteRead, byteText, fed, fedText}
@@ -65,9 +63,6 @@ line-silent r [] h n = refl
 line-silent r (b ∷ l) h n =
     rw (byte-silent r b h (n .0), byte-kept r b h (n .0)) (line-silent (reading (r .state) (r .lines) (kept (r .line) b)) l h (n .1))
 
-pub line-bytes : (r : Reading) (l : List ℕ) → r .lines < maxLines → NoFeed l → (fed r l ≡ reading (r .state) (r .lines) (keptAll (r .line) l)) × (fedText r l ≡ [])
-line-bytes r l h n = (line-kept r l h n, line-silent r l h n)
-
 -- ---- a line feed ends the line
 
 pub line-feed : (r : Reading) → r .lines < maxLines → (fed r (10 ∷ []) ≡ ended r) × (fedText r (10 ∷ []) ≡ endedText r)
@@ -86,9 +81,6 @@ unfolding fedText
 past-silent r [] h = refl
 past-silent r (b ∷ l) h = rw (byte-past-silent r b h, byte-past r b h) (past-silent r l h)
 
-pub past-last : (r : Reading) (l : List ℕ) → maxLines ≤ r .lines → (fed r l ≡ r) × (fedText r l ≡ [])
-past-last r l h = (past-kept r l h, past-silent r l h)
-
 -- ---- what is kept of a line
 
 pub kept-more : (l : List ℕ) (b : ℕ) → length l ≤ 120 → kept l b ≡ l ++ (b ∷ [])
@@ -98,18 +90,6 @@ kept-more l b h = rw (kept, le-leb, h)
 pub kept-no-more : (l : List ℕ) (b : ℕ) → 120 < length l → kept l b ≡ l
 unfolding kept
 kept-no-more l b h = rw (kept, lt-leb, h)
-
-kept-one-short : (l : List ℕ) (b : ℕ) → length l ≤ 121 → length (kept l b) ≤ 121
-kept-one-short l b h = go (decLe (length l) 120)
-  where
-    go : Dec (length l ≤ 120) → length (kept l b) ≤ 121
-    go (yes k) = rw (kept-more l b k, length-append l (b ∷ [])) (omega arith)
-    go (no k) = rw (kept-no-more l b (omega arith)) h
-
-pub kept-short : (l m : List ℕ) → length l ≤ 121 → length (keptAll l m) ≤ 121
-unfolding keptAll
-kept-short l [] h = h
-kept-short l (b ∷ m) h = kept-short (kept l b) m (kept-one-short l b h)
 
 pub keptAll-append : (l a b : List ℕ) → keptAll l (a ++ b) ≡ keptAll (keptAll l a) b
 unfolding keptAll

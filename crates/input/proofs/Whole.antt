@@ -58,7 +58,7 @@ step-kept s l = go (decLe (length l) 120)
 
 -- ---- the end of the input
 
-last-none : (r : Reading) (l : List ℕ) → maxLines ≤ r .lines → (lastRead r l ≡ r) × (lastText r l ≡ [])
+pub last-none : (r : Reading) (l : List ℕ) → maxLines ≤ r .lines → (lastRead r l ≡ r) × (lastText r l ≡ [])
 unfolding lastRead lastText
 last-none r [] h = (refl, refl)
 last-none r (b ∷ l) h = (rw (lastRead, le-ltb (r .lines) maxLines h), rw (lastText, le-ltb (r .lines) maxLines h))
@@ -67,7 +67,7 @@ last-empty : (r : Reading) (l : List ℕ) → l ≡ [] → (lastRead r l ≡ r) 
 unfolding lastRead lastText
 last-empty r l e = (rw e, rw e)
 
-last-some : (r : Reading) (l : List ℕ) → r .lines < maxLines → 0 < length l → (lastRead r l ≡ ended r) × (lastText r l ≡ endedText r)
+pub last-some : (r : Reading) (l : List ℕ) → r .lines < maxLines → 0 < length l → (lastRead r l ≡ ended r) × (lastText r l ≡ endedText r)
 unfolding lastRead lastText
 last-some r [] h k = absurd (omega arith)
 last-some r (b ∷ l) h k = (rw (lastRead, lt-ltb (r .lines) maxLines h), rw (lastText, lt-ltb (r .lines) maxLines h))

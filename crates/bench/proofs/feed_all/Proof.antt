@@ -13,6 +13,9 @@ abbrev μ-loop : tie.MeasureT-loop
 μ-loop counts₀ heads₀ slots₀ copies₀ works₀ texts₀ queue₀ loads₀ answers₀ reader₀ line₀ input₀ out₀ b₀ turns₀ counts heads slots copies works texts queue loads answers reader line input out b turns =
     turns
 
+after-block-requires : tie.Need-after-block-requires Inv-loop μ-loop
+after-block-requires c κs = search needs
+
 loop-holds : tie.Need-loop-holds Inv-loop μ-loop
 loop-holds c = refl
 
@@ -34,16 +37,25 @@ same-length c = search needs
 returns : tie.Need-returns Inv-loop μ-loop
 returns c = tt
 
+same-length-2 : tie.Need-same-length-2 Inv-loop μ-loop
+same-length-2 c = search needs
+
+returns-2 : tie.Need-returns-2 Inv-loop μ-loop
+returns-2 c = search needs
+
 pub feed-all-spec : {M : Type 1} → statement M
 feed-all-spec =
     tie.close
     (tie.spec
     Inv-loop
     μ-loop
+    after-block-requires
     loop-holds
     next-block-requires
     sub-turns
     loop-less
     loop-again
     same-length
-    returns)
+    returns
+    same-length-2
+    returns-2)

@@ -1,5 +1,5 @@
 -- `feed_block` is safe and ends: each turn takes a byte.
-use Prim.Native.Nat.{_-_, _≤_}
+use Prim.Native.Nat.{_≤_}
 use native.Mathlib.Omega.{arith}
 use lib.ListN.{length}
 use borrow.Author.Needs.{needs}
@@ -39,8 +39,14 @@ element-copy-out-write-out c = search needs
 write-out-requires : tie.Need-write-out-requires Inv-loop μ-loop
 write-out-requires c κs = search needs
 
+after-block-requires : tie.Need-after-block-requires Inv-loop μ-loop
+after-block-requires c κs = search needs
+
 returns : tie.Need-returns Inv-loop μ-loop
 returns c = tt
+
+after-block-requires-2 : tie.Need-after-block-requires-2 Inv-loop μ-loop
+after-block-requires-2 c κs = search needs
 
 returns-2 : tie.Need-returns-2 Inv-loop μ-loop
 returns-2 c = tt
@@ -53,6 +59,9 @@ loop-less c = omega (arith, c .before .if2 .left, taken-within (c .before .befor
 
 loop-again : tie.Need-loop-again Inv-loop μ-loop
 loop-again c = omega (arith, c .before .before .before .before .before .before .before .before .before .before .before .before .before .before .before .before .before .before .before .before .before .before .before .before .loop .inv)
+
+after-block-requires-3 : tie.Need-after-block-requires-3 Inv-loop μ-loop
+after-block-requires-3 c κs = search needs
 
 returns-3 : tie.Need-returns-3 Inv-loop μ-loop
 returns-3 c = tt
@@ -71,9 +80,12 @@ feed-block-spec =
     feed-value-requires
     element-copy-out-write-out
     write-out-requires
+    after-block-requires
     returns
+    after-block-requires-2
     returns-2
     sub-left
     loop-less
     loop-again
+    after-block-requires-3
     returns-3)

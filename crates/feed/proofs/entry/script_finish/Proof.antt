@@ -1,4 +1,4 @@
--- `feed::entry::finish` meets its contract: a walk of its MIR, by hand. The arrays and the slices are passed on to `finish_value` for good, at their own lifetimes; the borrow of the counts is opened, the record is copied out for the call, and what `finish_value` answers is stored there before the borrow is closed.
+-- `feed::entry::script_finish` meets its contract: a walk of its MIR, by hand. The arrays and the slices are passed on to `finish_value` for good, at their own lifetimes; the borrow of the counts is opened, the record is copied out for the call, and what `finish_value` answers is stored there before the borrow is closed.
 -- All that the proof knows of `finish_value` is that it meets its contract.
 -- Assumes nothing.
 use mathlib.Core.Path.{_≡_, refl, ap}
@@ -52,10 +52,10 @@ use Rattle.feed.proofs.entry.finish_value as callee
 use Rattle.feed.proofs.entry.finish_value.Symbol as callee-def
 use Rattle.feed.proofs.entry.finish_value.Symbol.{name as #feed·entry·finish-value}
 use Rattle.feed.proofs.entry.finish_value.Met as callee-thm
-use Rattle.feed.proofs.entry.finish.Key.{name as #feed·entry·finish}
-use Rattle.feed.proofs.entry.finish as f
-use Rattle.feed.proofs.entry.finish.Statement as stated
-use Rattle.feed.proofs.entry.finish.Code as code
+use Rattle.feed.proofs.entry.script_finish.Key.{name as #feed·entry·script-finish}
+use Rattle.feed.proofs.entry.script_finish as f
+use Rattle.feed.proofs.entry.script_finish.Statement as stated
+use Rattle.feed.proofs.entry.script_finish.Code as code
 
 abbrev R0 : RattleType
 R0 = Array u32 tt 8
@@ -243,10 +243,10 @@ meets : {M : Type 1} (𝓤 : URA M) (H : Heap 𝓤) (A : Atoms 𝓤) → Given �
     → Meets 𝓤 H A f.signature (WpFn 𝓤 H (𝓣 .C) (𝓣 .Λ) code.function) (f.spec 𝓤 H A at-mem run)
 meets 𝓤 H A W at-mem run 𝓣 known = walk-meets 𝓤 H A f.ended stayed W (goes 𝓤 H A W at-mem run) (f.clauses 𝓤 H A at-mem run) (WpFn 𝓤 H (𝓣 .C) (𝓣 .Λ) code.function) (WpFn-mono 𝓤 H (W .laws) 𝓣 code.function) (walks 𝓤 H A W at-mem run (𝓣 .C) (𝓣 .Λ) (fmOf 𝓤 H (W .laws) 𝓣) known)
 
-pub finish-spec : {M : Type 1} → stated.statement M
+pub script-finish-spec : {M : Type 1} → stated.statement M
 unfolding code.routine tablesOf
-finish-spec 𝓤 H 𝓜 𝓖 𝓡 =
+script-finish-spec 𝓤 H 𝓜 𝓖 𝓡 =
     entered 𝓤 H (tripleOf 𝓤 H (𝓖 .A) f.signature (f.spec 𝓤 H (𝓖 .A) (𝓜 .mem) (𝓡 .run)))
-    (tables 𝓤 H 𝓜 𝓡 code.env .C) (tables 𝓤 H 𝓜 𝓡 code.env .Λ) #feed·entry·finish code.function (code.unfolded 𝓤 H 𝓜 𝓡)
+    (tables 𝓤 H 𝓜 𝓡 code.env .C) (tables 𝓤 H 𝓜 𝓡 code.env .Λ) #feed·entry·script-finish code.function (code.unfolded 𝓤 H 𝓜 𝓡)
     (meets 𝓤 H (𝓖 .A) (givenOf 𝓤 H 𝓜 𝓖) (𝓜 .mem) (𝓡 .run) (tablesOf 𝓤 H 𝓜 (tables 𝓤 H 𝓜 𝓡 code.env))
     (cited 𝓤 H (Line 𝓤 H (𝓖 .A) (𝓜 .mem) (𝓡 .run)) 𝓜 𝓡 code.env #feed·entry·finish-value callee-def.routine code.calls-feed·entry·finish-value (callee-thm.met 𝓤 H 𝓜 𝓖 𝓡)))
