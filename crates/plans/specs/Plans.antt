@@ -1,4 +1,4 @@
--- What each line would do, judged before anything changes. The conditions stand in document 01's order; the laws in crates/machine
+-- What each line would do, judged before anything changes. The conditions stand in document 01's order; the laws in crates/runs
 -- tie each plan to the definitions of crates/model/specs/Lines.antt.
 use mathlib.Core.Bool.{Bool, true, false}
 use Prim.Native.Nat.{ℕ, _+_, _-_, _%_, _^_, min}
