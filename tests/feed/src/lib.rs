@@ -1,0 +1,201 @@
+//! The proved calls that take a script in parts (crates/feed), linked from
+//! their static library. crates/memory/specs/Layout.antt says what lies where
+//! in the lent arrays.
+
+use std::hint::black_box;
+
+mod exported {
+    use super::Tally;
+
+    // An array is passed as a pointer, a slice as pointer and length; no
+    // pointer is kept.
+    #[link(name = "feed", kind = "static")]
+    extern "C" {
+        pub fn script_feed(
+            counts: &mut [u32; 8],
+            heads: &mut [u32; 112],
+            slots: &mut [u32; 1792],
+            copies: &mut [u8; 7168],
+            works: &mut [u8; 7168],
+            texts: &mut [u8; 3584],
+            queue: &mut [u32; 512],
+            loads: &mut [u8; 8192],
+            answers: &mut [u32; 32],
+            reader: &mut [usize; 3],
+            line: &mut [u8; 121],
+            tally: &mut Tally,
+            input: *const u8,
+            input_len: usize,
+            out: *mut u8,
+            out_len: usize,
+        ) -> usize;
+        pub fn script_finish(
+            counts: &mut [u32; 8],
+            heads: &mut [u32; 112],
+            slots: &mut [u32; 1792],
+            copies: &mut [u8; 7168],
+            works: &mut [u8; 7168],
+            texts: &mut [u8; 3584],
+            queue: &mut [u32; 512],
+            loads: &mut [u8; 8192],
+            answers: &mut [u32; 32],
+            reader: &mut [usize; 3],
+            line: &mut [u8; 121],
+            tally: &mut Tally,
+            out: *mut u8,
+            out_len: usize,
+        ) -> usize;
+    }
+}
+
+/// The tally of messages.
+#[repr(C)]
+#[derive(Clone, Copy, Default, PartialEq, Eq, Debug)]
+pub struct Tally {
+    pub sent: u32,
+    pub copied: u32,
+    pub delivered: u32,
+    pub lost: u32,
+    pub flight: u32,
+}
+
+/// A multiple of every alignment, so that no padding lies between.
+const GUARD: [u8; 64] = [0x5a; 64];
+
+/// Something lent, between bytes that nobody may write.
+#[repr(C)]
+#[derive(Clone, PartialEq, Eq)]
+pub struct Guarded<T> {
+    before: [u8; 64],
+    pub value: T,
+    after: [u8; 64],
+}
+
+impl<T> Guarded<T> {
+    fn new(value: T) -> Self {
+        Guarded {
+            before: GUARD,
+            value,
+            after: GUARD,
+        }
+    }
+
+    fn intact(&self) -> bool {
+        *black_box(&self.before) == GUARD && *black_box(&self.after) == GUARD
+    }
+}
+
+/// What is lent to every call for one script.
+#[derive(Clone, PartialEq, Eq)]
+pub struct Session {
+    pub counts: Guarded<[u32; 8]>,
+    pub heads: Guarded<[u32; 112]>,
+    pub slots: Guarded<[u32; 1792]>,
+    pub copies: Guarded<[u8; 7168]>,
+    pub works: Guarded<[u8; 7168]>,
+    pub texts: Guarded<[u8; 3584]>,
+    pub queue: Guarded<[u32; 512]>,
+    pub loads: Guarded<[u8; 8192]>,
+    pub answers: Guarded<[u32; 32]>,
+    /// Lines read, bytes held of the present line, bytes last written.
+    pub reader: Guarded<[usize; 3]>,
+    pub line: Guarded<[u8; 121]>,
+    pub tally: Guarded<Tally>,
+}
+
+impl Session {
+    /// Zeros: the start of a script.
+    pub fn new() -> Box<Self> {
+        Box::new(Session {
+            counts: Guarded::new([0; 8]),
+            heads: Guarded::new([0; 112]),
+            slots: Guarded::new([0; 1792]),
+            copies: Guarded::new([0; 7168]),
+            works: Guarded::new([0; 7168]),
+            texts: Guarded::new([0; 3584]),
+            queue: Guarded::new([0; 512]),
+            loads: Guarded::new([0; 8192]),
+            answers: Guarded::new([0; 32]),
+            reader: Guarded::new([0; 3]),
+            line: Guarded::new([0; 121]),
+            tally: Guarded::new(Tally::default()),
+        })
+    }
+
+    /// A part of the input: how many bytes of it were taken. `written` says how
+    /// many bytes of `out` were.
+    pub fn feed(&mut self, input: &[u8], out: &mut [u8]) -> usize {
+        unsafe {
+            exported::script_feed(
+                &mut self.counts.value,
+                &mut self.heads.value,
+                &mut self.slots.value,
+                &mut self.copies.value,
+                &mut self.works.value,
+                &mut self.texts.value,
+                &mut self.queue.value,
+                &mut self.loads.value,
+                &mut self.answers.value,
+                &mut self.reader.value,
+                &mut self.line.value,
+                &mut self.tally.value,
+                input.as_ptr(),
+                input.len(),
+                out.as_mut_ptr(),
+                out.len(),
+            )
+        }
+    }
+
+    /// The end of the input: how many bytes of `out` were written, 0 where it
+    /// has no room.
+    pub fn finish(&mut self, out: &mut [u8]) -> usize {
+        unsafe {
+            exported::script_finish(
+                &mut self.counts.value,
+                &mut self.heads.value,
+                &mut self.slots.value,
+                &mut self.copies.value,
+                &mut self.works.value,
+                &mut self.texts.value,
+                &mut self.queue.value,
+                &mut self.loads.value,
+                &mut self.answers.value,
+                &mut self.reader.value,
+                &mut self.line.value,
+                &mut self.tally.value,
+                out.as_mut_ptr(),
+                out.len(),
+            )
+        }
+    }
+
+    pub fn lines(&self) -> usize {
+        self.reader.value[0]
+    }
+
+    pub fn held(&self) -> usize {
+        self.reader.value[1]
+    }
+
+    /// Bytes that the last call wrote.
+    pub fn written(&self) -> usize {
+        self.reader.value[2]
+    }
+
+    /// Whether nothing around the arrays was written.
+    pub fn intact(&self) -> bool {
+        self.counts.intact()
+            && self.heads.intact()
+            && self.slots.intact()
+            && self.copies.intact()
+            && self.works.intact()
+            && self.texts.intact()
+            && self.queue.intact()
+            && self.loads.intact()
+            && self.answers.intact()
+            && self.reader.intact()
+            && self.line.intact()
+            && self.tally.intact()
+    }
+}
