@@ -1,8 +1,8 @@
 // The rounds of a call, from its first to its answer.
 use crate::Local;
 use crate::Move;
-use crate::parts::chosen;
-use crate::parts::no_version;
+use crate::nothing::chosen;
+use crate::nothing::no_version;
 use crate::parts::pick_version;
 use crate::parts::plain;
 use crate::parts::quiet;

@@ -9,6 +9,7 @@ use server::Version;
 pub mod handling;
 pub mod leading;
 pub mod lines;
+pub mod nothing;
 mod parts;
 mod replicas;
 mod replies;

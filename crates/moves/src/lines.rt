@@ -1,8 +1,8 @@
 // What script lines that name a server make of it.
 use crate::Local;
 use crate::Move;
+use crate::nothing::chosen;
 use crate::parts::ceasing;
-use crate::parts::chosen;
 use crate::parts::headed;
 use crate::parts::quiet;
 use server::votes::elected;

@@ -1,6 +1,7 @@
 // The parts that moves are made of.
 use crate::Local;
 use crate::Move;
+use crate::nothing::no_version;
 use server::Answer;
 use server::Call;
 use server::Head;
@@ -9,30 +10,13 @@ use server::Version;
 use server::votes::ceased;
 ghost use mathlib.Core.Path.{_≡_};
 ghost use Rattle.rounds.specs.Rounds.{pickVersion, noVersion};
-ghost use Rattle.moves.specs.Moves.{chosen, withHead, withRound, withCall, sending, quiet, ceasing};
-
-// A choice of a number.
-pub fn chosen(b: bool, x: u32, y: u32) -> u32
-    ensures { λ r. ⌜ r ≡ chosen b x y ⌝ }
-{
-    if b { x } else { y }
-}
+ghost use Rattle.moves.specs.Moves.{withHead, withRound, withCall, sending, quiet, ceasing};
 
 // A choice of a version.
 pub fn pick_version(b: bool, v: Version, w: Version) -> Version
     ensures { λ r. ⌜ r ≡ pickVersion b v w ⌝ }
 {
     if b { v } else { w }
-}
-
-// The version below all others.
-pub fn no_version() -> Version
-    ensures { λ r. ⌜ r ≡ noVersion ⌝ }
-{
-    Version {
-        election: 0,
-        counter: 0,
-    }
 }
 
 // The same local with another head.

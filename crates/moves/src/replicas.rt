@@ -1,8 +1,8 @@
 // What others ask of a server, as a voter and as a replica.
 use crate::Local;
 use crate::Move;
+use crate::nothing::chosen;
 use crate::parts::ceasing;
-use crate::parts::chosen;
 use crate::parts::headed;
 use crate::parts::pick_version;
 use crate::parts::plain;

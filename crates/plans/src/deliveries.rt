@@ -2,7 +2,6 @@
 use crate::Plan;
 use crate::Step;
 use crate::calls::effect_of;
-use crate::limits::chosen;
 use crate::limits::unless;
 use crate::parts::no_effect;
 use crate::parts::no_message;
@@ -12,6 +11,7 @@ use memory::Counts;
 use memory::words::load_words;
 use moves::Local;
 use moves::handling::reads_table;
+use moves::nothing::chosen;
 use server::Effect;
 use server::Message;
 ghost use mathlib.Core.Path.{_≡_};

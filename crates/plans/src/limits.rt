@@ -2,11 +2,11 @@
 use crate::Plan;
 use crate::parts::refused_plan;
 use memory::Counts;
+use moves::nothing::chosen;
 use server::Effect;
 use server::Head;
 ghost use mathlib.Core.Path.{_≡_};
 ghost use Prim.Native.Nat.{_≤_};
-ghost use Rattle.moves.specs.Moves.{chosen};
 ghost use Rattle.views.specs.Queue.{isBroadcast, sendCount};
 ghost use Rattle.plans.specs.Plans.{placesLeft, roomy, serverRefusal, inside, unless};
 
@@ -36,12 +36,6 @@ pub fn send_count(n: u32, kind: u32) -> u32
         return n - 1;
     }
     1
-}
-
-pub fn chosen(b: bool, x: u32, y: u32) -> u32
-    ensures { λ r. ⌜ r ≡ chosen b x y ⌝ }
-{
-    if b { x } else { y }
 }
 
 // Whether there is a place for each message; the place of one that is removed is free.

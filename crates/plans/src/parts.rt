@@ -8,13 +8,13 @@ use entries::slots::blank_slot;
 use memory::Counts;
 use moves::Local;
 use moves::Move;
+use moves::nothing::no_call;
+use moves::nothing::no_round;
+use moves::nothing::no_version;
 use server::Answer;
-use server::Call;
 use server::Effect;
 use server::Head;
 use server::Message;
-use server::Round;
-use server::Version;
 use server::Words;
 ghost use mathlib.Core.Path.{_≡_};
 ghost use mathlib.Core.List.{[]};
@@ -22,15 +22,6 @@ ghost use Rattle.entries.specs.Decoded.{tableIn};
 ghost use Rattle.rounds.specs.Rounds.{noVersion};
 ghost use Rattle.moves.specs.Moves.{noRound, noCall, local};
 ghost use Rattle.plans.specs.Plans.{noWords, noMessage, noStep, noHead, noMove, refusedPlan, lineStep, movePlan, takePlan};
-
-fn no_version() -> Version
-    ensures { λ r. ⌜ r ≡ noVersion ⌝ }
-{
-    Version {
-        election: 0,
-        counter: 0,
-    }
-}
 
 // The words of no call.
 pub fn no_words() -> Words
@@ -80,29 +71,6 @@ fn no_step() -> Step
         copied: 0,
         delivered: 0,
         calls: 0,
-    }
-}
-
-fn no_round() -> Round
-    ensures { λ r. ⌜ r ≡ noRound ⌝ }
-{
-    Round {
-        purpose: 0,
-        number: 0,
-        election: 0,
-        best: no_version(),
-        marks: [0u8; 7],
-    }
-}
-
-fn no_call() -> Call
-    ensures { λ r. ⌜ r ≡ noCall ⌝ }
-{
-    Call {
-        kind: 0,
-        number: 0,
-        rounds: 0,
-        sent: 0,
     }
 }
 

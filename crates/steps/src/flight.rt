@@ -36,20 +36,6 @@ fn is_broadcast(kind: u32) -> bool
     kind == 7
 }
 
-// How many messages a step sends among n servers.
-pub fn send_count(n: u32, kind: u32) -> u32
-    requires { ⌜ 1 ≤ n ⌝ }
-    ensures { λ r. ⌜ r ≡ sendCount n kind ⌝ }
-{
-    if kind == 0 {
-        return 0;
-    }
-    if is_broadcast(kind) {
-        return n - 1;
-    }
-    1
-}
-
 // PLEASEVOTE carries bucket 0 and round 0.
 fn unless_vote(kind: u32, x: u32) -> u32
     ensures { λ r. ⌜ r ≡ chosen (eqb kind 1) 0 x ⌝ }

@@ -1,37 +1,23 @@
-// A server's head and one of its slots: loaded together, stored together, and cleared when leading ends.
+// A server's head and one of its slots: stored together, and cleared when leading ends.
 use crate::contents::keep_copy;
-use memory::heads::load_head;
 use memory::heads::store_head;
 use memory::slots::load_call;
 use memory::slots::load_round;
-use memory::slots::load_version;
 use memory::slots::store_call;
 use memory::slots::store_round;
 use memory::slots::store_version;
 use moves::Local;
 use moves::Move;
+use moves::nothing::no_call;
+use moves::nothing::no_round;
 use server::Call;
 use server::Round;
 use server::Version;
 ghost use mathlib.Core.Path.{_≡_};
 ghost use Prim.Native.Nat.{_<_, _≤_};
-ghost use Rattle.memory.specs.Layout.{serverRoom, slotRoom, messageRoom, headAt, versionAt, roundAt, callAt};
-ghost use Rattle.moves.specs.Moves.{local, noRound, noCall};
+ghost use Rattle.memory.specs.Layout.{serverRoom, slotRoom, messageRoom};
 ghost use Rattle.views.specs.Changes.{isIdle, clearedSlot, clearedSlots};
 ghost use Rattle.steps.specs.Stored.{Stored, putSlot, Settled, MovedServer};
-
-// The head of server s with slot k.
-pub fn load_local(heads: &[u32; 112], slots: &[u32; 1792], s: usize, k: usize) -> Local
-    requires { ⌜ (s < serverRoom) × (k < slotRoom) ⌝ }
-    ensures { λ r. ⌜ r ≡ local (headAt (now (heads .entry)) s) (versionAt (now (slots .entry)) k) (roundAt (now (slots .entry)) k) (callAt (now (slots .entry)) k) ⌝ }
-{
-    Local {
-        head: load_head(heads, s),
-        version: load_version(slots, k),
-        round: load_round(slots, k),
-        call: load_call(slots, k),
-    }
-}
 
 // Server s gets this head, slot k the rest.
 pub fn store_local(heads: &mut [u32; 112], slots: &mut [u32; 1792], s: usize, k: usize, l: Local)
@@ -73,33 +59,6 @@ fn clear_slot(slots: &mut [u32; 1792], k: usize)
     }
     store_round(slots, k, no_round());
     store_call(slots, k, no_call());
-}
-
-fn no_round() -> Round
-    ensures { λ r. ⌜ r ≡ noRound ⌝ }
-{
-    let best = Version {
-        election: 0,
-        counter: 0,
-    };
-    Round {
-        purpose: 0,
-        number: 0,
-        election: 0,
-        best,
-        marks: [0u8; 7],
-    }
-}
-
-fn no_call() -> Call
-    ensures { λ r. ⌜ r ≡ noCall ⌝ }
-{
-    Call {
-        kind: 0,
-        number: 0,
-        rounds: 0,
-        sent: 0,
-    }
 }
 
 // The first `most` slots of server s have no round and no call any more.

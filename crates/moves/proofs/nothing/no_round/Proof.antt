@@ -1,7 +1,7 @@
--- `parts::no_round` meets its contract: what its calls ensure, put together.
+-- `nothing::no_round` meets its contract: what its calls ensure, put together.
 use borrow.Author.Needs.{needs}
-use Rattle.plans.proofs.parts.no_round.Statement.{statement}
-use Rattle.plans.proofs.parts.no_round.Tie as tie
+use Rattle.moves.proofs.nothing.no_round.Statement.{statement}
+use Rattle.moves.proofs.nothing.no_round.Tie as tie
 
 no-version-requires : tie.Need-no-version-requires
 no-version-requires c κs = search needs

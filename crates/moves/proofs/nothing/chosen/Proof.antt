@@ -1,7 +1,7 @@
--- `parts::chosen` meets its contract: both make the same choice.
+-- `nothing::chosen` meets its contract: both make the same choice.
 use Rattle.moves.specs.Moves.{chosen}
-use Rattle.moves.proofs.parts.chosen.Statement.{statement}
-use Rattle.moves.proofs.parts.chosen.Tie as tie
+use Rattle.moves.proofs.nothing.chosen.Statement.{statement}
+use Rattle.moves.proofs.nothing.chosen.Tie as tie
 
 returns : tie.Need-returns
 unfolding chosen

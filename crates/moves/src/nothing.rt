@@ -1,0 +1,47 @@
+// What stands where there is no version, round or call, and a choice of numbers.
+use server::Call;
+use server::Round;
+use server::Version;
+ghost use mathlib.Core.Path.{_≡_};
+ghost use Rattle.rounds.specs.Rounds.{noVersion};
+ghost use Rattle.moves.specs.Moves.{chosen, noRound, noCall};
+
+// A choice of a number.
+pub fn chosen(b: bool, x: u32, y: u32) -> u32
+    ensures { λ r. ⌜ r ≡ chosen b x y ⌝ }
+{
+    if b { x } else { y }
+}
+
+// The version below all others.
+pub fn no_version() -> Version
+    ensures { λ r. ⌜ r ≡ noVersion ⌝ }
+{
+    Version {
+        election: 0,
+        counter: 0,
+    }
+}
+
+pub fn no_round() -> Round
+    ensures { λ r. ⌜ r ≡ noRound ⌝ }
+{
+    Round {
+        purpose: 0,
+        number: 0,
+        election: 0,
+        best: no_version(),
+        marks: [0u8; 7],
+    }
+}
+
+pub fn no_call() -> Call
+    ensures { λ r. ⌜ r ≡ noCall ⌝ }
+{
+    Call {
+        kind: 0,
+        number: 0,
+        rounds: 0,
+        sent: 0,
+    }
+}
