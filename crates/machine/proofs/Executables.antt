@@ -125,7 +125,7 @@ module _ (c : Counts) where
   present false u h = refl
 
   -- a message is handed over only to a server that is there
-  stays : (x : Step) (l : Local) → gone c x l ≡ false → x .server < c .servers
+  pub stays : (x : Step) (l : Local) → gone c x l ≡ false → x .server < c .servers
   unfolding gone
   stays x l h = leb-false _ _ (present (leb (c .servers) (x .server)) (flagIn (l .head .stopped)) h)
 

@@ -8,24 +8,24 @@ use native.Mathlib.Nat.{min-le-left}
 use native.Mathlib.Omega.{arith}
 use borrow.Author.Tests.{le-leb, lt-leb, eq-eqb, ne-eqb}
 use Rattle.entries.specs.Decoded.{tableIn}
-use Rattle.model.specs.Calls as calls
 use Rattle.server.specs.declared.Effect.{Effect}
 use Rattle.server.specs.declared.Message.{Message}
-use Rattle.server.specs.Views.{flagIn, effectIn, wordsIn}
+use Rattle.server.specs.Views.{effectIn}
 use Rattle.memory.specs.declared.Counts.{Counts}
-use Rattle.memory.specs.Layout.{countsAt, messageAt, wordsAt}
+use Rattle.memory.specs.Layout.{countsAt, messageAt}
 use Rattle.moves.specs.declared.Local.{Local}
 use Rattle.moves.specs.declared.Move.{Move}
 use Rattle.moves.specs.Moves.{handledMove, readsTable}
-use Rattle.views.specs.Memory.{Memory, memory, slotOf, localAt, standing, tableAt}
+use Rattle.views.specs.Memory.{Memory, memory, slotOf, localAt, standing}
 use Rattle.plans.specs.declared.Step.{Step}
 use Rattle.plans.specs.declared.Plan.{Plan}
 use Rattle.plans.specs.Plans.{refusedPlan, placesLeft, roomy, unless, movePlan, messageRefusal, messageStep, lostPlan, gone, receiverAt, handPlan, handAt}
-use Rattle.plans.specs.Arrays.{Measured}
+use Rattle.plans.specs.Arrays.{Measured, askedAt}
 use Rattle.plans.proofs.Judging.{unless-none, unless-some}
 use Rattle.runs.specs.declared.Report.{Report}
 use Rattle.runs.specs.Runs.{Ran, ran, refusedRun, carriedRun, taken, executed}
-use Rattle.machine.specs.Contracts.{Losable, Carriable, Handable, Lost, Reported, PlainlyReported, handledRun, HandledPlainly, HandledThere, HandedListed, HandRan}
+use Rattle.machine.specs.Contracts.{Losable, Carriable, Handable, Lost, Reported, PlainlyReported, handledRun, HandledPlainly, HandedListed, HandRan}
+use Rattle.machine.proofs.Executables.{stays}
 use Rattle.machine.proofs.Executing.{executes-lost}
 
 -- the report of a line that is refused with n
@@ -82,97 +82,78 @@ module _ (m : Memory) (l : List ℕ) (c : Counts) (x : Step) (y : Message) (to :
             unroomy f v b r (e ∙ ap (λ n. handledMove (c .servers) (x .server) n y to) (sym z)) h t q ∙ ap (handledRun m l c x y to) (sym same);
       }
 
-  pub there-asked : (k : ℕ) (f : Effect) {m′ : Memory} {l′ : List ℕ} {r : Report}
-      → (readsTable (c .servers) y to ≡ true → effectIn f ≡ calls.effect (wordsIn (wordsAt (m .slots) (m .texts) k)) (tableAt (m .copies) k))
-      → Reported (handledRun m l c x y to f) f m′ l′ r → HandledThere m l c x y to k m′ l′ r
-  there-asked k f g q = record {
-    is = q .is ∙ ap (handledRun m l c x y to) (sym (q .effect));
-    effect = λ h. ap effectIn (q .effect) ∙ g h;
-  }
-
-  pub there-plain : (k : ℕ) (b : Bool) {m′ : Memory} {l′ : List ℕ} {r : Report} → b ≡ readsTable (c .servers) y to → b ≡ false
-      → HandledPlainly m l c x y to m′ l′ r → HandledThere m l c x y to k m′ l′ r
-  there-plain k b e t q = record { is = q .is; effect = λ h. absurd (true≢false (sym h ∙ sym e ∙ t)) }
-
   -- to a server that is not gone a message is handed over
-  pub handed-to : (f : Effect) (z : Ran) → gone c x to ≡ false → z ≡ handledRun m l c x y to f → z ≡ executed m l c (handPlan c x y to f)
+  handed-to : (f : Effect) (z : Ran) → gone c x to ≡ false → z ≡ handledRun m l c x y to f → z ≡ executed m l c (handPlan c x y to f)
   unfolding handPlan
   handed-to f z g q = rw (handPlan, g) q
 
--- ---- whether the receiver is gone
-
-pub not-there : (c : Counts) (x : Step) (to : Local) → c .servers ≤ x .server → gone c x to ≡ true
-unfolding gone
-not-there c x to h = rw (gone, le-leb _ _ h)
-
-pub stopped-there : (c : Counts) (x : Step) (to : Local) → x .server < c .servers → to .head .stopped ≡ 1 → gone c x to ≡ true
-unfolding gone flagIn
-stopped-there c x to h s = rw (gone, flagIn, lt-leb _ _ h, eq-eqb _ _ s)
-
-pub still-there : (c : Counts) (x : Step) (to : Local) → x .server < c .servers → to .head .stopped ≢ 1 → gone c x to ≡ false
-unfolding gone flagIn
-still-there c x to h s = rw (gone, flagIn, lt-leb _ _ h, ne-eqb _ _ s)
-
-pub flag-of-one : (n : ℕ) → n ≡ 1 → flagIn n ≡ true
-unfolding flagIn
-flag-of-one n h = rw (flagIn, eq-eqb _ _ h)
-
 -- ---- a message of the list
 
-pub losable : (c : Counts) (i : ℕ) (removes : Bool) (y : Message) (x : Step) → x ≡ messageStep c i removes y → Measured c → i < c .messages → Losable c x
-losable c i removes y x e m h = record { messages = m .messages; there = λ _. rw (ap (λ x. x .message) e) h }
+module _ (c : Counts) (i : ℕ) (removes : Bool) (y : Message) (x : Step) (e : x ≡ messageStep c i removes y) where
+  pub losable : Measured c → i < c .messages → Losable c x
+  losable m h = record { messages = m .messages; there = λ _. rw (ap (λ x. x .message) e) h }
 
-pub handable : (c : Counts) (i : ℕ) (removes : Bool) (y : Message) (x : Step) → x ≡ messageStep c i removes y → Measured c → i < c .messages → x .server < c .servers → Handable c x
-handable c i removes y x e m h s = record {
-  measured = m;
-  server = s;
-  bucket = let b : x .bucket ≤ 7 = rw (ap (λ x. x .bucket) e) (min-le-left 7 (y .bucket)) in omega arith;
-  listed = rw (ap (λ x. x .message) e) h;
-}
+  pub handable : Measured c → i < c .messages → (to : Local) → gone c x to ≡ false → Handable c x
+  handable m h to g = record {
+    measured = m;
+    server = stays c x to g;
+    bucket = let b : x .bucket ≤ 7 = rw (ap (λ x. x .bucket) e) (min-le-left 7 (y .bucket)) in omega arith;
+    listed = rw (ap (λ x. x .message) e) h;
+  }
 
 module _ (counts heads slots copies works texts queue loads l : List ℕ) (c : Counts) (i : ℕ) (removes : Bool) where
   abbrev before : Memory
   before = memory counts heads slots copies works texts queue loads
 
-  abbrev asks : Step → calls.Effect
-  asks x = calls.effect (wordsIn (wordsAt slots texts (slotOf (x .server) (x .bucket)))) (tableAt copies (slotOf (x .server) (x .bucket)))
+  -- the message, its step and its receiver as they were loaded
+  module _ (y : Message) (x : Step) (to : Local) (ey : y ≡ messageAt queue i) (ex : x ≡ messageStep c i removes y) (et : to ≡ localAt before (x .server) (slotOf (x .server) (x .bucket))) where
+    step-is : x ≡ messageStep c i removes (messageAt queue i)
+    step-is = ex ∙ ap (messageStep c i removes) ey
 
-  -- from what was loaded to what stands in the arrays
-  pub listed : (x : Step) (y : Message) (to : Local) {m′ : Memory} {l′ : List ℕ} {r : Report}
-      → y ≡ messageAt queue i → x ≡ messageStep c i removes y → to ≡ localAt before (x .server) (slotOf (x .server) (x .bucket))
-      → ran m′ l′ r ≡ executed before l c (handPlan c x y to (r .effect))
-      → (flagIn (to .head .stopped) ≡ false → readsTable (c .servers) y to ≡ true → effectIn (r .effect) ≡ asks x)
-      → HandedListed before l c i removes m′ l′ r
-  listed x y to {r = r} ey ex et q g =
-      let e : x ≡ messageStep c i removes (messageAt queue i) = ex ∙ ap (messageStep c i removes) ey in
-      let at : to ≡ receiverAt before i = et ∙ ap (λ x. localAt before (x .server) (slotOf (x .server) (x .bucket))) e in
-      record {
-        is =
-            q
-            ∙ ap (λ x. executed before l c (handPlan c x y to (r .effect))) e
-            ∙ ap (λ y. executed before l c (handPlan c (messageStep c i removes (messageAt queue i)) y to (r .effect))) ey
-            ∙ ap (λ to. executed before l c (handPlan c (messageStep c i removes (messageAt queue i)) (messageAt queue i) to (r .effect))) at;
-        effect = λ s h.
-            g (ap (λ to. flagIn (to .head .stopped)) at ∙ s) (ap (λ y. readsTable (c .servers) y to) ey ∙ ap (readsTable (c .servers) (messageAt queue i)) at ∙ h)
-            ∙ ap asks e;
-      }
+    receiver-is : to ≡ receiverAt before i
+    receiver-is = et ∙ ap (λ x. localAt before (x .server) (slotOf (x .server) (x .bucket))) step-is
 
-  lost-plan : (y : Message) (to : Local) (f : Effect) → gone c (messageStep c i removes y) to ≡ true → handPlan c (messageStep c i removes y) y to f ≡ lostPlan c i removes f
-  unfolding handPlan
-  lost-plan y to f e = rw (handPlan, e)
+    listed : {m′ : Memory} {l′ : List ℕ} {r : Report} → ran m′ l′ r ≡ executed before l c (handPlan c x y to (r .effect))
+        → (gone c x to ≡ false → readsTable (c .servers) y to ≡ true → effectIn (r .effect) ≡ askedAt before x)
+        → HandedListed before l c i removes m′ l′ r
+    listed {r = r} q g = record {
+      is =
+          q
+          ∙ ap (λ x. executed before l c (handPlan c x y to (r .effect))) step-is
+          ∙ ap (λ y. executed before l c (handPlan c (messageStep c i removes (messageAt queue i)) y to (r .effect))) ey
+          ∙ ap (λ to. executed before l c (handPlan c (messageStep c i removes (messageAt queue i)) (messageAt queue i) to (r .effect))) receiver-is;
+      effect = λ s h.
+          g (ap (λ x. gone c x to) step-is ∙ ap (gone c (messageStep c i removes (messageAt queue i))) receiver-is ∙ s)
+          (ap (λ y. readsTable (c .servers) y to) ey ∙ ap (readsTable (c .servers) (messageAt queue i)) receiver-is ∙ h)
+          ∙ ap (askedAt before) step-is;
+    }
 
-  -- to a server that is gone it is lost
-  pub lost-to : (x : Step) (y : Message) (to : Local) (f : Effect) {counts′ queue′ loads′ : List ℕ} {r : Report} → x ≡ messageStep c i removes y → gone c x to ≡ true
-      → Lost counts queue loads c x f counts′ queue′ loads′ r
-      → ran (memory counts′ heads slots copies works texts queue′ loads′) l r ≡ executed before l c (handPlan c x y to (r .effect))
-  lost-to x y to f {counts′} {queue′} {loads′} {r} e g h =
-      let h1 : Lost counts queue loads c (messageStep c i removes y) f counts′ queue′ loads′ r = subst (λ x. Lost counts queue loads c x f counts′ queue′ loads′ r) e h in
-      let h2 : Lost counts queue loads c (lostPlan c i removes f .step) f counts′ queue′ loads′ r = record { rest = h1 .rest; counted = h1 .counted; report = h1 .report } in
-      let same : r .effect ≡ f = ap (λ r. r .effect) (h .report) in
-      executes-lost counts heads slots copies works texts queue loads l c (lostPlan c i removes f) refl refl h2 .is
-      ∙ ap (executed before l c) (sym (lost-plan y to f (ap (λ x. gone c x to) (sym e) ∙ g)))
-      ∙ ap (λ f. executed before l c (handPlan c (messageStep c i removes y) y to f)) (sym same)
-      ∙ ap (λ x. executed before l c (handPlan c x y to (r .effect))) (sym e)
+    pub listed-asked : (f : Effect) {m′ : Memory} {l′ : List ℕ} {r : Report} → gone c x to ≡ false → effectIn f ≡ askedAt before x
+        → Reported (handledRun before l c x y to f) f m′ l′ r → HandedListed before l c i removes m′ l′ r
+    listed-asked f {r = r} g a q =
+        listed (handed-to before l c x y to (r .effect) _ g (q .is ∙ ap (handledRun before l c x y to) (sym (q .effect)))) (λ _ _. ap effectIn (q .effect) ∙ a)
+
+    pub listed-plain : {m′ : Memory} {l′ : List ℕ} {r : Report} → gone c x to ≡ false → readsTable (c .servers) y to ≡ false
+        → HandledPlainly before l c x y to m′ l′ r → HandedListed before l c i removes m′ l′ r
+    listed-plain {r = r} g n q = listed (handed-to before l c x y to (r .effect) _ g (q .is)) (λ _ t. absurd (true≢false (sym t ∙ n)))
+
+    lost-plan : (f : Effect) → gone c (messageStep c i removes y) to ≡ true → handPlan c (messageStep c i removes y) y to f ≡ lostPlan c i removes f
+    unfolding handPlan
+    lost-plan f g = rw (handPlan, g)
+
+    -- to a server that is gone it is lost
+    pub listed-lost : (f : Effect) {counts′ queue′ loads′ : List ℕ} {r : Report} → gone c x to ≡ true → Lost counts queue loads c x f counts′ queue′ loads′ r
+        → HandedListed before l c i removes (memory counts′ heads slots copies works texts queue′ loads′) l r
+    listed-lost f {counts′} {queue′} {loads′} {r} g q =
+        let q1 : Lost counts queue loads c (messageStep c i removes y) f counts′ queue′ loads′ r = subst (λ x. Lost counts queue loads c x f counts′ queue′ loads′ r) ex q in
+        let q2 : Lost counts queue loads c (lostPlan c i removes f .step) f counts′ queue′ loads′ r = record { rest = q1 .rest; counted = q1 .counted; report = q1 .report } in
+        let same : r .effect ≡ f = ap (λ r. r .effect) (q .report) in
+        listed
+        (executes-lost counts heads slots copies works texts queue loads l c (lostPlan c i removes f) refl refl q2 .is
+        ∙ ap (executed before l c) (sym (lost-plan f (ap (λ x. gone c x to) (sym ex) ∙ g)))
+        ∙ ap (λ f. executed before l c (handPlan c (messageStep c i removes y) y to f)) (sym same)
+        ∙ ap (λ x. executed before l c (handPlan c x y to (r .effect))) (sym ex))
+        (λ s _. absurd (true≢false (sym g ∙ s)))
 
 -- ---- the whole line
 
@@ -184,10 +165,10 @@ module _ (m : Memory) (l : List ℕ) (c : Counts) (e : c ≡ countsAt (m .counts
   hand-by f b s = ap (λ c. handOrRefuse f c (standing c)) (sym e) ∙ ap (handOrRefuse f c) s
 
   pub hands-listed : {m′ : Memory} {l′ : List ℕ} {r : Report} → standing c ≡ true → messageRefusal c i ≡ 0 → HandedListed m l c i removes m′ l′ r → HandRan m l i removes m′ l′ r
-  unfolding handAt
+  unfolding handAt gone
   hands-listed {r = r} s z h = record {
     is = h .is ∙ ap (executed m l c) (sym (unless-none (messageRefusal c i) (r .effect) _ z)) ∙ sym (hand-by (r .effect) true s);
-    effect = λ _. rw (← e) (λ _ stopped reads. h .effect stopped reads);
+    effect = λ _. rw (← e) (λ _ there reads. h .effect there reads);
   }
 
   -- the plan, unless the line is refused with n
@@ -206,7 +187,7 @@ module _ (m : Memory) (l : List ℕ) (c : Counts) (e : c ≡ countsAt (m .counts
         ∙ refused-plan n (r .effect) h
         ∙ ap (executed m l c) (sym (unless-some n (r .effect) _ h) ∙ ap (λ n. unlessHand n (r .effect)) z)
         ∙ sym (hand-by (r .effect) true s);
-    effect = λ _. rw (← e) (λ none stopped reads. absurd (h (z ∙ none)));
+    effect = λ _. rw (← e) (λ none there reads. absurd (h (z ∙ none)));
   }
 
   pub hands-nowhere : (f : Effect) {r : Report} → standing c ≡ false → r ≡ refusal 2 f → HandRan m l i removes m l r

@@ -20,8 +20,8 @@ use Rattle.views.specs.Queue.{flight, withoutMessage, sent, sendCount}
 use Rattle.steps.specs.Stored.{MovedServer, Listed, Flown}
 use Rattle.plans.specs.declared.Step.{Step}
 use Rattle.plans.specs.declared.Plan.{Plan}
-use Rattle.plans.specs.Plans.{placesLeft, roomy, movePlan, messageStep, receiverAt, handPlan, handAt}
-use Rattle.plans.specs.Arrays.{Measured, receiverSlot}
+use Rattle.plans.specs.Plans.{placesLeft, roomy, movePlan, messageStep, gone, receiverAt, handPlan, handAt}
+use Rattle.plans.specs.Arrays.{Measured, askedAt}
 use Rattle.runs.specs.declared.Report.{Report}
 use Rattle.runs.specs.Runs.{Ran, ran, nextCounts, freshCounts, refusedRun, executed, clusterRun, linePlan, plannedRun, lineRun, HandEffect, EffectOf}
 use Rattle.parse.specs.declared.Kind.{Kind}
@@ -109,18 +109,13 @@ handledRun m l c x y to f = executed m l c (roomy c (movePlan x (handledMove (c 
 pub record HandledPlainly (m : Memory) (l : List ℕ) (c : Counts) (x : Step) (y : Message) (to : Local) (m′ : Memory) (l′ : List ℕ) (r : Report) : Type 0 where
   pub is : ran m′ l′ r ≡ handledRun m l c x y to (r .effect)
 
--- with the effect, where it asks for one
-pub record HandledThere (m : Memory) (l : List ℕ) (c : Counts) (x : Step) (y : Message) (to : Local) (k : ℕ) (m′ : Memory) (l′ : List ℕ) (r : Report) : Type 0 where
-  pub is : ran m′ l′ r ≡ handledRun m l c x y to (r .effect)
-  pub effect : readsTable (c .servers) y to ≡ true → effectIn (r .effect) ≡ calls.effect (wordsIn (wordsAt (m .slots) (m .texts) k)) (tableAt (m .copies) k)
-
--- message i of the list
+-- message i of the list, with the effect where it asks for one
 pub record HandedListed (m : Memory) (l : List ℕ) (c : Counts) (i : ℕ) (removes : Bool) (m′ : Memory) (l′ : List ℕ) (r : Report) : Type 0 where
   pub is : ran m′ l′ r ≡ executed m l c (handPlan c (messageStep c i removes (messageAt (m .queue) i)) (messageAt (m .queue) i) (receiverAt m i) (r .effect))
   pub effect :
-      flagIn (receiverAt m i .head .stopped) ≡ false →
-      readsTable (c .servers) (messageAt (m .queue) i) (receiverAt m i) ≡ true →
-      effectIn (r .effect) ≡ calls.effect (wordsIn (wordsAt (m .slots) (m .texts) (receiverSlot (m .queue) i))) (tableAt (m .copies) (receiverSlot (m .queue) i))
+      let y = messageAt (m .queue) i in
+      let x = messageStep c i removes y in
+      gone c x (receiverAt m i) ≡ false → readsTable (c .servers) y (receiverAt m i) ≡ true → effectIn (r .effect) ≡ askedAt m x
 
 -- a line that hands over what stands at place i
 pub record HandRan (m : Memory) (l : List ℕ) (i : ℕ) (removes : Bool) (m′ : Memory) (l′ : List ℕ) (r : Report) : Type 0 where

@@ -13,21 +13,19 @@ use moves::handling::handled_move;
 use moves::handling::reads_table;
 use plans::Step;
 use plans::deliveries::hand_effect;
+use plans::deliveries::is_gone;
 use plans::deliveries::message_refusal;
 use plans::deliveries::message_step;
+use plans::deliveries::receiver;
 use plans::limits::places_left;
 use plans::parts::no_effect;
-use plans::servers::load_local;
 use runs::Report;
 use server::Effect;
 use server::Message;
 ghost use Prim.Native.Nat.{_<_};
 ghost use Rattle.views.specs.Memory.{memory};
-ghost use Rattle.moves.specs.Moves.{handledMove};
-ghost use Rattle.plans.specs.Plans.{movePlan, roomy};
 ghost use Rattle.plans.specs.Arrays.{Measured};
-ghost use Rattle.runs.specs.Runs.{executed};
-ghost use Rattle.machine.specs.Contracts.{Handable, Reported, HandledPlainly, HandledThere, HandedListed, HandRan};
+ghost use Rattle.machine.specs.Contracts.{Handable, Reported, handledRun, HandledPlainly, HandedListed, HandRan};
 
 // A message whose call's effect f is asked for.
 fn hand_asked(
@@ -47,7 +45,7 @@ fn hand_asked(
     f: Effect,
 ) -> Report
     requires { ⌜ Handable c x ⌝ }
-    ensures { λ r. ⌜ Reported (executed (memory (now (counts .entry)) (now (heads .entry)) (now (slots .entry)) (now (copies .entry)) (now (works .entry)) (now (texts .entry)) (now (queue .entry)) (now (loads .entry))) (now (answers .entry)) c (roomy c (movePlan x (handledMove (c .servers) (x .server) (f .result) m l) f))) f (memory (now (counts .exit)) (now (heads .exit)) (now (slots .exit)) (now (copies .exit)) (now (works .exit)) (now (texts .entry)) (now (queue .exit)) (now (loads .exit))) (now (answers .exit)) r ⌝ }
+    ensures { λ r. ⌜ Reported (handledRun (memory (now (counts .entry)) (now (heads .entry)) (now (slots .entry)) (now (copies .entry)) (now (works .entry)) (now (texts .entry)) (now (queue .entry)) (now (loads .entry))) (now (answers .entry)) c x m l f) f (memory (now (counts .exit)) (now (heads .exit)) (now (slots .exit)) (now (copies .exit)) (now (works .exit)) (now (texts .entry)) (now (queue .exit)) (now (loads .exit))) (now (answers .exit)) r ⌝ }
 {
     let v = handled_move(c.servers, x.server, f.result, m, l);
     if places_left(c, x.removes, v.sends) {
@@ -109,8 +107,8 @@ fn hand_plain(
     refused(12, no_effect())
 }
 
-// A message to a server that is there and not stopped.
-fn hand_there(
+// A message that is in the list; to a server that is not there, or that is stopped, it is lost.
+fn hand_listed(
     counts: &mut [u32; 8],
     heads: &mut [u32; 112],
     slots: &mut [u32; 1792],
@@ -121,16 +119,20 @@ fn hand_there(
     loads: &mut [u8; 8192],
     answers: &mut [u32; 32],
     c: Counts,
-    x: Step,
-    m: Message,
-    l: Local,
-    k: usize,
+    i: u32,
+    removes: bool,
 ) -> Report
-    requires { ⌜ Handable c x × (k < 56) ⌝ }
-    ensures { λ r. ⌜ HandledThere (memory (now (counts .entry)) (now (heads .entry)) (now (slots .entry)) (now (copies .entry)) (now (works .entry)) (now (texts .entry)) (now (queue .entry)) (now (loads .entry))) (now (answers .entry)) c x m l k (memory (now (counts .exit)) (now (heads .exit)) (now (slots .exit)) (now (copies .exit)) (now (works .exit)) (now (texts .entry)) (now (queue .exit)) (now (loads .exit))) (now (answers .exit)) r ⌝ }
+    requires { ⌜ Measured c × (i < c .messages) ⌝ }
+    ensures { λ r. ⌜ HandedListed (memory (now (counts .entry)) (now (heads .entry)) (now (slots .entry)) (now (copies .entry)) (now (works .entry)) (now (texts .entry)) (now (queue .entry)) (now (loads .entry))) (now (answers .entry)) c i removes (memory (now (counts .exit)) (now (heads .exit)) (now (slots .exit)) (now (copies .exit)) (now (works .exit)) (now (texts .entry)) (now (queue .exit)) (now (loads .exit))) (now (answers .exit)) r ⌝ }
 {
+    let m = load_message(queue, i as usize);
+    let x = message_step(c, i, removes, m);
+    let l = receiver(heads, slots, x);
+    if is_gone(c, x, l) {
+        return lose(counts, queue, loads, c, x, no_effect());
+    }
     if reads_table(c.servers, m, l) {
-        let f = hand_effect(slots, copies, texts, c.servers, m, l, k);
+        let f = hand_effect(slots, copies, texts, x);
         return hand_asked(
             counts,
             heads,
@@ -162,55 +164,6 @@ fn hand_there(
         x,
         m,
         l,
-    )
-}
-
-// A message that is in the list; to a server that is not there, or that is stopped, it is lost.
-fn hand_listed(
-    counts: &mut [u32; 8],
-    heads: &mut [u32; 112],
-    slots: &mut [u32; 1792],
-    copies: &mut [u8; 7168],
-    works: &mut [u8; 7168],
-    texts: &[u8; 3584],
-    queue: &mut [u32; 512],
-    loads: &mut [u8; 8192],
-    answers: &mut [u32; 32],
-    c: Counts,
-    i: u32,
-    removes: bool,
-) -> Report
-    requires { ⌜ Measured c × (i < c .messages) ⌝ }
-    ensures { λ r. ⌜ HandedListed (memory (now (counts .entry)) (now (heads .entry)) (now (slots .entry)) (now (copies .entry)) (now (works .entry)) (now (texts .entry)) (now (queue .entry)) (now (loads .entry))) (now (answers .entry)) c i removes (memory (now (counts .exit)) (now (heads .exit)) (now (slots .exit)) (now (copies .exit)) (now (works .exit)) (now (texts .entry)) (now (queue .exit)) (now (loads .exit))) (now (answers .exit)) r ⌝ }
-{
-    let m = load_message(queue, i as usize);
-    let x = message_step(c, i, removes, m);
-    let at = x.server as usize;
-    let k = at * 8 + x.bucket as usize;
-    let l = load_local(heads, slots, at, k);
-    if c.servers <= x.server {
-        let f = hand_effect(slots, copies, texts, c.servers, m, l, k);
-        return lose(counts, queue, loads, c, x, f);
-    }
-    let h = l.head;
-    if h.stopped == 1 {
-        return lose(counts, queue, loads, c, x, no_effect());
-    }
-    hand_there(
-        counts,
-        heads,
-        slots,
-        copies,
-        works,
-        texts,
-        queue,
-        loads,
-        answers,
-        c,
-        x,
-        m,
-        l,
-        k,
     )
 }
 

@@ -39,12 +39,12 @@ pub enum Kind {
 // A line that was read. `first` is its server, place or number of servers, `second` its bucket or number of buckets. A
 // key or value has its whole length, which may be above its room, and as many of its bytes as there is room for.
 pub struct Line {
-    pub kind: Kind,
-    pub first: u32,
-    pub second: u32,
     pub key: Key,
     pub expected: Value,
     pub value: Value,
+    pub first: u32,
+    pub second: u32,
+    pub kind: Kind,
 }
 
 // The line of these bytes, which end before its line feed.

@@ -1,14 +1,15 @@
 -- The plans of specs/Plans.antt, from the arrays that each looks at.
 use mathlib.Core.Path.{_≡_}
 use mathlib.Core.List.{List, []}
-use Prim.Native.Nat.{ℕ, _≤_, min}
+use Prim.Native.Nat.{ℕ, _≤_}
 use Rattle.model.specs.Calls as calls
 use Rattle.server.specs.declared.Words.{Words}
 use Rattle.server.specs.declared.Effect.{Effect}
 use Rattle.server.specs.Views.{effectIn, wordsIn}
 use Rattle.memory.specs.declared.Counts.{Counts}
-use Rattle.memory.specs.Layout.{messageAt}
+use Rattle.memory.specs.Layout.{wordsAt}
 use Rattle.views.specs.Memory.{Memory, memory, slotOf, localAt, tableAt}
+use Rattle.plans.specs.declared.Step.{Step}
 use Rattle.plans.specs.declared.Plan.{Plan}
 use Rattle.plans.specs.Plans.{electAt, timeoutAt, stopAt, callBucket, callPlan, callAt}
 
@@ -45,6 +46,8 @@ pub record CallPlanned (heads slots copies : List ℕ) (c : Counts) (s : ℕ) (w
   pub is : p ≡ callAt (servers heads slots) c s w (p .effect)
   pub effect : c .servers ≤ 1 → p .refusal ≡ 0 → effectIn (p .effect) ≡ calls.effect (wordsIn w) (tableAt copies (slotOf s (callBucket c w)))
 
--- the slot of the server and bucket that message i names
-abbrev pub receiverSlot : List ℕ → ℕ → ℕ
-receiverSlot queue i = slotOf (min 6 (messageAt queue i .receiver)) (min 7 (messageAt queue i .bucket))
+-- what the call does that stands where a message is handed over
+abbrev pub askedAt : Memory → Step → calls.Effect
+askedAt m x =
+    let k = slotOf (x .server) (x .bucket) in
+    calls.effect (wordsIn (wordsAt (m .slots) (m .texts) k)) (tableAt (m .copies) k)

@@ -7,22 +7,21 @@ use crate::parts::no_effect;
 use crate::parts::no_message;
 use crate::parts::no_move;
 use crate::parts::no_words;
+use crate::servers::load_local;
 use memory::Counts;
 use memory::words::load_words;
 use moves::Local;
-use moves::handling::reads_table;
 use moves::nothing::chosen;
 use server::Effect;
 use server::Message;
 ghost use mathlib.Core.Path.{_≡_};
-ghost use mathlib.Core.Bool.{true};
+ghost use mathlib.Core.List.{[]};
 ghost use Prim.Native.Nat.{_<_, min};
-ghost use Rattle.model.specs.Calls as calls;
-ghost use Rattle.server.specs.Views.{effectIn, wordsIn};
-ghost use Rattle.memory.specs.Layout.{slotRoom, wordsAt};
-ghost use Rattle.moves.specs.Moves.{readsTable};
-ghost use Rattle.views.specs.Memory.{tableAt};
-ghost use Rattle.plans.specs.Plans.{messageRefusal, messageStep, lostPlan, loseAt};
+ghost use Rattle.server.specs.Views.{effectIn};
+ghost use Rattle.memory.specs.Layout.{serverRoom, slotRoom};
+ghost use Rattle.views.specs.Memory.{memory, slotOf, localAt};
+ghost use Rattle.plans.specs.Plans.{messageRefusal, messageStep, lostPlan, gone, loseAt};
+ghost use Rattle.plans.specs.Arrays.{askedAt};
 
 // 5 and 7, or 0.
 pub fn message_refusal(c: Counts, i: u32) -> u32
@@ -83,24 +82,35 @@ fn lost_plan(c: Counts, i: u32, removes: bool, f: Effect) -> Plan
     }
 }
 
-// What the call of slot k does, where message m brings its table to light.
-pub fn hand_effect(
-    slots: &[u32; 1792],
-    copies: &[u8; 7168],
-    texts: &[u8; 3584],
-    n: u32,
-    m: Message,
-    l: Local,
-    k: usize,
-) -> Effect
-    requires { ⌜ k < slotRoom ⌝ }
-    ensures { λ r. ⌜ (readsTable n m l ≡ true → effectIn r ≡ calls.effect (wordsIn (wordsAt (now (slots .entry)) (now (texts .entry)) k)) (tableAt (now (copies .entry)) k)) ⌝ }
+// The receiver of a message that is handed over.
+pub fn receiver(heads: &[u32; 112], slots: &[u32; 1792], x: Step) -> Local
+    requires { ⌜ (x .server < serverRoom) × (slotOf (x .server) (x .bucket) < slotRoom) ⌝ }
+    ensures { λ r. ⌜ r ≡ localAt (memory [] (now (heads .entry)) (now (slots .entry)) [] [] [] [] []) (x .server) (slotOf (x .server) (x .bucket)) ⌝ }
 {
-    if reads_table(n, m, l) {
-        let w = load_words(slots, texts, k);
-        return effect_of(copies, k, w);
+    let s = x.server as usize;
+    let k = s * 8 + x.bucket as usize;
+    load_local(heads, slots, s, k)
+}
+
+// Whether a message goes to a server that is not there, or that is stopped.
+pub fn is_gone(c: Counts, x: Step, l: Local) -> bool
+    ensures { λ r. ⌜ r ≡ gone c x l ⌝ }
+{
+    if c.servers <= x.server {
+        return true;
     }
-    no_effect()
+    let h = l.head;
+    h.stopped == 1
+}
+
+// What the call does that stands where a message is handed over.
+pub fn hand_effect(slots: &[u32; 1792], copies: &[u8; 7168], texts: &[u8; 3584], x: Step) -> Effect
+    requires { ⌜ slotOf (x .server) (x .bucket) < slotRoom ⌝ }
+    ensures { λ r. ⌜ effectIn r ≡ askedAt (memory [] [] (now (slots .entry)) (now (copies .entry)) [] (now (texts .entry)) [] []) x ⌝ }
+{
+    let k = x.server as usize * 8 + x.bucket as usize;
+    let w = load_words(slots, texts, k);
+    effect_of(copies, k, w)
 }
 
 pub fn plan_lose(c: Counts, i: u32) -> Plan

@@ -251,7 +251,7 @@ module _ (m : Memory) (l : List ℕ) (t : lines.Tally) (ready : Ready m l t) (i 
         ap (lines.acceptLine (stateIn m t)) (lost ready i here removes place to e)
         ∙ (lost-run m l t counts i removes f ready refl (λ h. here) ∙ rw (handPlan, gone, among-servers, e))
     handed-by false e =
-        let reads = effect taken e in
+        let reads = effect taken (rw (gone, among-servers, e)) in
         let x = step ready i here removes place to f part on reads in
         let v = move ready i here removes place to f part on reads in
         ap (lines.acceptLine (stateIn m t)) (delivered ready i here removes place to f part on reads e)

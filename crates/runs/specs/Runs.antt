@@ -24,8 +24,8 @@ use Rattle.views.specs.Changes.{moved, answered}
 use Rattle.views.specs.Queue.{Flight, flight, withoutMessage, sent, sendCount}
 use Rattle.plans.specs.declared.Step.{Step}
 use Rattle.plans.specs.declared.Plan.{Plan}
-use Rattle.plans.specs.Arrays.{receiverSlot}
-use Rattle.plans.specs.Plans.{noKey, noValue, noWords, refusedPlan, callBucket, messageRefusal, receiverAt, electAt, timeoutAt, stopAt, callAt, handAt, loseAt}
+use Rattle.plans.specs.Arrays.{askedAt}
+use Rattle.plans.specs.Plans.{noKey, noValue, noWords, refusedPlan, callBucket, messageRefusal, messageStep, gone, receiverAt, electAt, timeoutAt, stopAt, callAt, handAt, loseAt}
 use Rattle.parse.specs.declared.Kind.{Kind}
 use Rattle.parse.specs.declared.Kind.the-variants as K
 use Rattle.parse.specs.declared.Line.{Line}
@@ -226,13 +226,12 @@ abbrev pub CallEffect : Memory → Counts → ℕ → Words → Effect → Type 
 CallEffect m c s w f =
     c .servers ≤ 1 → callAt m c s w f .refusal ≡ 0 → effectIn f ≡ calls.effect (wordsIn w) (tableAt (m .copies) (slotOf s (callBucket c w)))
 
--- it decides what is sent, so it is asked for before 12 is judged
+-- it decides what is sent, so it is asked for before 12 is judged; `copy` asks for the same
 abbrev pub HandEffect : Memory → Counts → ℕ → Effect → Type 0
 HandEffect m c i f =
-    messageRefusal c i ≡ 0 →
-    flagIn (receiverAt m i .head .stopped) ≡ false →
-    readsTable (c .servers) (messageAt (m .queue) i) (receiverAt m i) ≡ true →
-    effectIn f ≡ calls.effect (wordsIn (wordsAt (m .slots) (m .texts) (receiverSlot (m .queue) i))) (tableAt (m .copies) (receiverSlot (m .queue) i))
+    let y = messageAt (m .queue) i in
+    let x = messageStep c i true y in
+    messageRefusal c i ≡ 0 → gone c x (receiverAt m i) ≡ false → readsTable (c .servers) y (receiverAt m i) ≡ true → effectIn f ≡ askedAt m x
 
 abbrev pub EffectOf : Kind → Memory → Counts → Line → Effect → Type 0
 EffectOf K.Malformed m c x f = Unit {0}

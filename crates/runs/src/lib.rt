@@ -4,6 +4,7 @@ use server::Effect;
 // What a line came to: the number it is refused with, or 0; how many answers it wrote; what it adds to the tally; the messages
 // in flight after it; the effect of the call that it answers, with the data of `value` and `keys`.
 pub struct Report {
+    pub effect: Effect,
     pub refusal: u32,
     pub answers: u32,
     pub sent: u32,
@@ -11,5 +12,4 @@ pub struct Report {
     pub delivered: u32,
     pub lost: u32,
     pub messages: u32,
-    pub effect: Effect,
 }

@@ -64,9 +64,9 @@ pub struct Answer {
 
 // What is left to do once the table is read: with result 0 the table is to be written, otherwise the call is answered.
 pub struct Effect {
-    pub result: u32,
     pub value: Value,
     pub table: Decoded,
+    pub result: u32,
 }
 
 // A message without its content.
