@@ -1,12 +1,12 @@
 -- Laws of blocks, for every block size b and every type of element: their number, where they lie, one of them read, and the blocks after one
--- was stored, appended or removed. `refilled` stands for what the functions of this crate leave: each law of it says what blocks that list has.
+-- was stored or removed. `refilled` stands for what the functions of this crate leave: each law of it says what blocks that list has.
 use mathlib.Core.Path.{_≡_, refl, sym, ap, _∙_}
 use mathlib.Core.List.{List, [], _∷_, _++_, append-assoc, append-nil, flatten}
 use Prim.Native.Nat.{ℕ, zero, suc, _+_, _-_, _*_, _≤_, _<_}
 use native.Mathlib.Nat.{suc-add, zero-mul, zero-add, lt-of-mul-lt-mul-right}
 use native.Mathlib.Omega.{arith}
 use lib.ListN.{length, getD, set, take, drop, length-append, length-drop, take-append-drop, drop-of-length-le}
-use lib.Seq.{paste, sets, sets-eq, take-all, take-add, drop-drop, take-append-le, drop-append-le, take-at, drop-at, getD-at, set-at, getD-take, getD-drop, length-take-le, length-paste, length-paste-head}
+use lib.Seq.{paste, sets, sets-eq, take-all, take-add, drop-drop, take-append-le, drop-append-le, take-at, drop-at, getD-at, set-at, length-take-le, length-paste, length-paste-head}
 use Rattle.blocks.specs.Blocks.{blocks, block, without, refilled}
 
 -- ---- places
@@ -89,10 +89,6 @@ module _ {A : Type 0} (b : ℕ) where
       rw (e, blocks-split i (suc (n - 1 - i)) l)
       (getD-at (blocks b i l) (take b (drop (i * b) l)) (blocks b (n - 1 - i) (drop b (drop (i * b) l))) d i (length-blocks i l))
 
-  pub getD-block : (i : ℕ) (l : List A) (k : ℕ) (d : A) → k < b → getD (block b i l) k d ≡ getD l (i * b + k) d
-  unfolding block
-  getD-block i l k d h = rw (getD-take b (drop (i * b) l) k d h, getD-drop)
-
   pub length-block : (i : ℕ) (l : List A) → (i + 1) * b ≤ length l → length (block b i l) ≡ b
   unfolding block
   length-block i l h = length-take-le b (drop (i * b) l) (simp length-drop (omega arith))
@@ -144,13 +140,6 @@ module _ {A : Type 0} (b : ℕ) where
   pub paste-stored : (i j : ℕ) (l s : List A) → (i + 1) * b ≤ length l → (j + 1) * b ≤ length s → paste l (i * b) (drop (j * b) s) b ≡ refilled (set (blocks b (i + 1) l) i (block b j s)) l
   unfolding block
   paste-stored i j l s h hs = sym (stored-list i l (block b j s) (length-block j s hs) h)
-
-  module _ (n : ℕ) (l v : List A) (whole : length v ≡ b) (fits : (n + 1) * b ≤ length l) where
-    pub length-appended : length (refilled (blocks b n l ++ (v ∷ [])) l) ≡ length l
-    length-appended = rw (← set-last n l v) (length-stored n l v whole fits)
-
-    pub blocks-appended : blocks b (n + 1) (refilled (blocks b n l ++ (v ∷ [])) l) ≡ blocks b n l ++ (v ∷ [])
-    blocks-appended = rw (← set-last n l v) (blocks-stored n l v whole (n + 1) (omega arith) fits)
 
   -- ---- block i of n is removed
 
