@@ -1,2 +1,2 @@
--- What the calls on lent bytes answer.
+-- What reading and writing lent bytes answer.
 pub mod Answers

@@ -1,25 +1,13 @@
-// Calls on lent bucket bytes: a bucket is read, written, searched and changed, and its keys are listed.
+// The bucket form on lent bytes: a table is read from them and written to them.
 use entries::Decoded;
-use entries::Key;
-use entries::Slot;
-use entries::Value;
-use entries::keys::key_of;
-use entries::keys::value_of;
-use entries::slots;
 use entries::slots::blank_slot;
-use entries::slots::count_of;
-use entries::slots::find;
-use entries::slots::no_value;
-use entries::slots::store;
 use table::decoding::decode;
 use table::encoding::encode;
 ghost use mathlib.Core.Path.{_≡_};
 ghost use Prim.Native.Nat.{_≤_};
 ghost use lib.ListN.{length, take};
-ghost use Rattle.entries.specs.Entries.{valueOf};
-ghost use Rattle.entries.specs.Decoded.{keyBytes, valueBytes, tableIn};
-ghost use Rattle.table.specs.Form.{readBucket, sameBytes};
-ghost use Rattle.bucket.specs.Answers.{slotKeys, answer, outcomeNumber, writtenNumber, changeNumber, Empty, Read, Refused, keysIn, listed, writeOf, lookOf, storable, putIn, putOf, removeOf, listOf};
+ghost use Rattle.table.specs.Form.{sameBytes};
+ghost use Rattle.bucket.specs.Answers.{answer, writtenNumber, Empty, Read, Refused, writeOf};
 
 // Whether bucket bytes are taken. Document 01's number for each case is `outcomeNumber`.
 pub enum Outcome {
@@ -34,30 +22,10 @@ pub enum Written {
     Short,
 }
 
-// What became of a change. The number for each case is `changeNumber`.
-pub enum Change {
-    Done,
-    Full,
-    Malformed,
-}
-
 // The table that was read, where the outcome is Accepted; no entries else. Its count and lengths are within its arrays.
 pub struct Reading {
     pub outcome: Outcome,
     pub table: Decoded,
-}
-
-// The value that was found, of no bytes where the key is absent or the bucket is refused.
-pub struct Found {
-    pub outcome: Outcome,
-    pub value: Value,
-}
-
-// The first `count` keys, where the outcome is Accepted.
-pub struct Listing {
-    pub outcome: Outcome,
-    pub count: usize,
-    pub keys: [Key; 4],
 }
 
 // Whether the first n bytes are the same.
@@ -132,142 +100,4 @@ pub fn write(t: Decoded, out: &mut [u8]) -> Written
         return Written::Malformed;
     }
     Written::Malformed
-}
-
-// The value of a key; 13 where the bucket is refused.
-pub fn look_up(bucket: &[u8], key: &[u8]) -> Found
-    ensures { λ r. ⌜ answer (outcomeNumber (r .outcome)) (valueBytes (r .value)) ≡ lookOf (now (bucket .entry)) (now (key .entry)) ⌝ }
-{
-    let r = read(bucket);
-    let t = r.table;
-    let o = r.outcome;
-    match o {
-        Outcome::Accepted => {
-            if 8 < key.len() {
-                let none = no_value();
-                return Found {
-                    outcome: Outcome::Accepted,
-                    value: none,
-                };
-            }
-            let v = find(t, key_of(key));
-            Found {
-                outcome: Outcome::Accepted,
-                value: v,
-            }
-        }
-        Outcome::Malformed => {
-            let none = no_value();
-            Found {
-                outcome: Outcome::Malformed,
-                value: none,
-            }
-        }
-    }
-}
-
-// A key's new value, in place; of no bytes, the key is taken away. 13 where the bucket is refused, or the key or the value
-// has a length that no bucket holds.
-pub fn put(bucket: &mut [u8], key: &[u8], value: &[u8]) -> Change
-    ensures { λ r. ⌜ answer (changeNumber r) (now (bucket .exit)) ≡ putOf (now (bucket .entry)) (now (key .entry)) (now (value .entry)) ⌝ }
-{
-    if storable(key, value) {
-        return put_in(bucket, key_of(key), value_of(value));
-    }
-    Change::Malformed
-}
-
-// Whether a bucket can hold a key and a value of these lengths.
-fn storable(key: &[u8], value: &[u8]) -> bool
-    ensures { λ r. ⌜ r ≡ storable (now (key .entry)) (now (value .entry)) ⌝ }
-{
-    if key.len() == 0 {
-        return false;
-    }
-    if 8 < key.len() {
-        return false;
-    }
-    value.len() <= 16
-}
-
-// The same, for a key and a value by value.
-fn put_in(bucket: &mut [u8], key: Key, value: Value) -> Change
-    ensures { λ r. ⌜ answer (changeNumber r) (now (bucket .exit)) ≡ putIn (now (bucket .entry)) (keyBytes key) (valueBytes value) ⌝ }
-{
-    let r = read(bucket);
-    let t = r.table;
-    let o = r.outcome;
-    match o {
-        Outcome::Accepted => {
-            let s = store(t, key, value);
-            if s.full {
-                return Change::Full;
-            }
-            let u = s.table;
-            encode(u, bucket);
-            Change::Done
-        }
-        Outcome::Malformed => Change::Malformed,
-    }
-}
-
-// The bucket without a key, in place; 13 where the bucket is refused.
-pub fn remove(bucket: &mut [u8], key: &[u8]) -> Outcome
-    ensures { λ r. ⌜ answer (outcomeNumber r) (now (bucket .exit)) ≡ removeOf (now (bucket .entry)) (now (key .entry)) ⌝ }
-{
-    let r = read(bucket);
-    let t = r.table;
-    let o = r.outcome;
-    match o {
-        Outcome::Accepted => {
-            if 8 < key.len() {
-                return Outcome::Accepted;
-            }
-            let u = slots::remove(t, key_of(key));
-            encode(u, bucket);
-            Outcome::Accepted
-        }
-        Outcome::Malformed => Outcome::Malformed,
-    }
-}
-
-// The keys of the four slots.
-fn keys_of(t: Decoded) -> [Key; 4]
-    ensures { λ r. ⌜ r ≡ slotKeys (t .slots) ⌝ }
-{
-    let slots = t.slots;
-    let a = slots[0];
-    let b = slots[1];
-    let c = slots[2];
-    let d = slots[3];
-    let ka = a.key;
-    let kb = b.key;
-    let kc = c.key;
-    let kd = d.key;
-    [ka, kb, kc, kd]
-}
-
-// All keys, rising; 13 where the bucket is refused.
-pub fn list_keys(bucket: &[u8]) -> Listing
-    ensures { λ r. ⌜ listed (outcomeNumber (r .outcome)) (keysIn r) ≡ listOf (now (bucket .entry)) ⌝ }
-{
-    let r = read(bucket);
-    let t = r.table;
-    let o = r.outcome;
-    let keys = keys_of(t);
-    match o {
-        Outcome::Accepted => {
-            let n = count_of(t);
-            Listing {
-                outcome: Outcome::Accepted,
-                count: n,
-                keys,
-            }
-        }
-        Outcome::Malformed => Listing {
-            outcome: Outcome::Malformed,
-            count: 0,
-            keys,
-        },
-    }
 }

@@ -15,8 +15,9 @@ use Rattle.entries.specs.Decoded.{keyBytes, blank}
 use Rattle.entries.proofs.Lists.{cut-length, take-as-many}
 use Rattle.table.specs.Form.{readBucket}
 use Rattle.table.proofs.Filling.{sets-append}
-use Rattle.bucket.specs.declared.Listing.{Listing}
-use Rattle.bucket.specs.Answers.{answer, lookOf, listed, listOf, keysIn}
+use Rattle.bucket.specs.Answers.{answer}
+use Rattle.bucket_calls.specs.declared.Listing.{Listing}
+use Rattle.bucket_calls.specs.Answers.{lookOf, listed, listOf, keysIn}
 use Rattle.bucket_c.specs.Exports.{getOf, keysBytes, keysOut, KeysPut}
 
 -- a run of stores at the front

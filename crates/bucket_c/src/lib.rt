@@ -1,14 +1,14 @@
 // The calls on bucket bytes for programs in other languages: numbers and slices only.
-use bucket::Change;
-use bucket::Listing;
 use bucket::Outcome;
 use bucket::Written;
-use bucket::list_keys;
-use bucket::look_up;
-use bucket::put;
 use bucket::read;
-use bucket::remove;
 use bucket::write;
+use bucket_calls::Change;
+use bucket_calls::Listing;
+use bucket_calls::list_keys;
+use bucket_calls::look_up;
+use bucket_calls::put;
+use bucket_calls::remove;
 use entries::Decoded;
 use entries::Key;
 use entries::Slot;
@@ -22,7 +22,8 @@ ghost use mathlib.Core.Path.{_≡_};
 ghost use Prim.Native.Nat.{_≤_, _<_, _+_, _*_};
 ghost use lib.ListN.{length, getD};
 ghost use Rattle.entries.specs.Decoded.{keyBytes, valueBytes};
-ghost use Rattle.bucket.specs.Answers.{answer, outcomeNumber, writtenNumber, changeNumber, readNumber, writeOf, putOf, removeOf, keysIn};
+ghost use Rattle.bucket.specs.Answers.{answer, outcomeNumber, writtenNumber, readNumber, writeOf};
+ghost use Rattle.bucket_calls.specs.Answers.{changeNumber, putOf, removeOf, keysIn};
 ghost use Rattle.bucket_c.specs.Exports.{keyFrom, valueFrom, slotFrom, tableFrom, getOf, KeysPut, keysOut};
 
 // The numbers of the answers.

@@ -1,7 +1,8 @@
 -- `bucket_keys` meets its contract.
 use borrow.Author.Needs.{needs}
 use Rattle.bucket_c.proofs.Exporting.{keys-refused, keys-short, keys-done}
-use Rattle.bucket.specs.Answers.{outcomeNumber, keysIn}
+use Rattle.bucket.specs.Answers.{outcomeNumber}
+use Rattle.bucket_calls.specs.Answers.{keysIn}
 use Rattle.bucket_c.proofs.bucket_keys.Statement.{statement}
 use Rattle.bucket_c.proofs.bucket_keys.Tie as tie
 

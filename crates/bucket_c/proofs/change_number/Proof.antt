@@ -1,5 +1,5 @@
 -- `change_number` meets its contract: case by case.
-use Rattle.bucket.specs.Answers.{changeNumber}
+use Rattle.bucket_calls.specs.Answers.{changeNumber}
 use borrow.Author.Needs.{needs}
 use Rattle.bucket_c.proofs.change_number.Statement.{statement}
 use Rattle.bucket_c.proofs.change_number.Tie as tie

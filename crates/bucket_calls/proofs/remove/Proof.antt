@@ -3,12 +3,13 @@ use lib.Seq.{take-all}
 use native.Mathlib.Omega.{arith}
 use borrow.Author.Needs.{needs}
 use Rattle.entries.specs.Entries.{remove}
 use Rattle.bucket.specs.Answers.{outcomeNumber}
 use Rattle.entries.specs.Decoded.{tableIn}
-use Rattle.bucket.proofs.Answering.{was-read, was-refused, length-read, remove-refused, remove-done, remove-long}
+use Rattle.bucket.proofs.Answering.{was-read, was-refused}
+use Rattle.bucket_calls.proofs.Answering.{length-read, remove-refused, remove-done, remove-long}
 use mathlib.Core.Path.{ap, _∙_}
-use Rattle.bucket.proofs.remove.Statement.{statement}
-use Rattle.bucket.proofs.remove.Tie as tie
+use Rattle.bucket_calls.proofs.remove.Statement.{statement}
+use Rattle.bucket_calls.proofs.remove.Tie as tie
 
 read-requires : tie.Need-read-requires
 read-requires c κs = search needs

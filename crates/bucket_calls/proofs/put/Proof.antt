@@ -1,10 +1,10 @@
 -- `put` meets its contract: lengths that no bucket holds are turned down first.
-use Rattle.bucket.specs.Answers.{changeNumber}
-use Rattle.bucket.proofs.Answering.{put-storable, put-unstorable}
+use Rattle.bucket_calls.specs.Answers.{changeNumber}
+use Rattle.bucket_calls.proofs.Answering.{put-storable, put-unstorable}
 use mathlib.Core.Path.{sym, _∙_}
 use borrow.Author.Needs.{needs}
-use Rattle.bucket.proofs.put.Statement.{statement}
-use Rattle.bucket.proofs.put.Tie as tie
+use Rattle.bucket_calls.proofs.put.Statement.{statement}
+use Rattle.bucket_calls.proofs.put.Tie as tie
 
 storable-requires : tie.Need-storable-requires
 storable-requires c κs = search needs

@@ -1,12 +1,12 @@
 -- `keys_of` meets its contract: there are four slots.
 use mathlib.Core.Path.{sym, ap}
 use borrow.Author.Needs.{needs}
-use Rattle.bucket.specs.Answers.{slotKeys}
+use Rattle.bucket_calls.specs.Answers.{slotKeys}
 use lib.ListN.{length-map}
 use Rattle.entries.specs.Decoded.{blank}
-use Rattle.bucket.proofs.Answering.{four-slots}
-use Rattle.bucket.proofs.keys_of.Statement.{statement}
-use Rattle.bucket.proofs.keys_of.Tie as tie
+use Rattle.bucket_calls.proofs.Answering.{four-slots}
+use Rattle.bucket_calls.proofs.keys_of.Statement.{statement}
+use Rattle.bucket_calls.proofs.keys_of.Tie as tie
 
 array-copy-out-a : tie.Need-array-copy-out-a
 array-copy-out-a c = search needs

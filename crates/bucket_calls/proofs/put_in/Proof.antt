@@ -1,10 +1,11 @@
 -- `put_in` meets its contract: the bucket is read, changed and written.
 use borrow.Author.Needs.{needs}
-use Rattle.bucket.specs.Answers.{changeNumber}
-use Rattle.bucket.proofs.Answering.{was-read, was-refused, was-full, was-stored, length-read, put-refused, put-full, put-done}
+use Rattle.bucket_calls.specs.Answers.{changeNumber}
+use Rattle.bucket.proofs.Answering.{was-read, was-refused}
+use Rattle.bucket_calls.proofs.Answering.{was-full, was-stored, length-read, put-refused, put-full, put-done}
 use native.Mathlib.Omega.{arith}
-use Rattle.bucket.proofs.put_in.Statement.{statement}
-use Rattle.bucket.proofs.put_in.Tie as tie
+use Rattle.bucket_calls.proofs.put_in.Statement.{statement}
+use Rattle.bucket_calls.proofs.put_in.Tie as tie
 
 read-requires : tie.Need-read-requires
 read-requires c κs = search needs

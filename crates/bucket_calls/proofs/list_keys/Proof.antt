@@ -1,10 +1,12 @@
 -- `list_keys` meets its contract: the keys of the slots in use.
 use borrow.Author.Needs.{needs}
 use mathlib.Core.Path.{refl}
-use Rattle.bucket.proofs.Answering.{was-read, was-refused, list-refused, list-done, keys-in-use}
-use Rattle.bucket.specs.Answers.{outcomeNumber, keysIn}
-use Rattle.bucket.proofs.list_keys.Statement.{statement}
-use Rattle.bucket.proofs.list_keys.Tie as tie
+use Rattle.bucket.proofs.Answering.{was-read, was-refused}
+use Rattle.bucket_calls.proofs.Answering.{list-refused, list-done, keys-in-use}
+use Rattle.bucket.specs.Answers.{outcomeNumber}
+use Rattle.bucket_calls.specs.Answers.{keysIn}
+use Rattle.bucket_calls.proofs.list_keys.Statement.{statement}
+use Rattle.bucket_calls.proofs.list_keys.Tie as tie
 
 read-requires : tie.Need-read-requires
 read-requires c κs = search needs

@@ -2,12 +2,13 @@
 use Rattle.entries.specs.Entries.{valueOf}
 use lib.Seq.{take-all}
 use borrow.Author.Needs.{needs}
 use Rattle.bucket.specs.Answers.{outcomeNumber}
-use Rattle.bucket.proofs.Answering.{was-read, was-refused, look-refused, look-found, look-long}
+use Rattle.bucket.proofs.Answering.{was-read, was-refused}
+use Rattle.bucket_calls.proofs.Answering.{look-refused, look-found, look-long}
 use Rattle.entries.specs.Decoded.{tableIn}
 use mathlib.Core.Path.{ap, _∙_}
-use Rattle.bucket.proofs.look_up.Statement.{statement}
-use Rattle.bucket.proofs.look_up.Tie as tie
+use Rattle.bucket_calls.proofs.look_up.Statement.{statement}
+use Rattle.bucket_calls.proofs.look_up.Tie as tie
 
 read-requires : tie.Need-read-requires
 read-requires c κs = search needs

@@ -1,9 +1,9 @@
 -- `storable` meets its contract.
-use Rattle.bucket.proofs.Answering.{storable-empty, storable-long, storable-value}
+use Rattle.bucket_calls.proofs.Answering.{storable-empty, storable-long, storable-value}
 use mathlib.Core.Path.{sym}
 use native.Mathlib.Omega.{arith}
-use Rattle.bucket.proofs.storable.Statement.{statement}
-use Rattle.bucket.proofs.storable.Tie as tie
+use Rattle.bucket_calls.proofs.storable.Statement.{statement}
+use Rattle.bucket_calls.proofs.storable.Tie as tie
 
 returns : tie.Need-returns
 returns c = sym (storable-empty _ _ (c .if1 .taken))

@@ -1,0 +1,2 @@
+-- What the calls on lent bytes answer.
+pub mod Answers
