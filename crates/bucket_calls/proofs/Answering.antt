@@ -1,8 +1,8 @@
 -- The definitions of the calls on lent bytes, case by case.
-use mathlib.Core.Path.{_≡_, refl, sym, ap, _∙_}
+use mathlib.Core.Path.{_≡_, refl, sym, ap, ap₂, _∙_}
 use mathlib.Core.List.{List, [], _∷_, _++_, map, append-nil}
 use mathlib.Core.Bool.{Bool, true, false}
-use mathlib.Core.Option.{none, some}
+use mathlib.Core.Option.{Option, none, some}
 use Prim.Native.Nat.{ℕ, _≤_, _<_}
 use native.Mathlib.Omega.{arith}
 use lib.Dec.{leb}
@@ -22,7 +22,7 @@ use Rattle.entries.proofs.Changes.{by-order, absent-value, absent-remove}
 use Rattle.table.specs.Form.{maxKey, bucketSize, within, bucketBytes, readBucket}
 use Rattle.table.proofs.Fitting.{within-parts, within-from, fits-parts}
 use Rattle.table.proofs.Reading.{Capped, sized-capped, length-bucket, one-form}
-use Rattle.bucket.specs.Answers.{answer}
+use Rattle.bucket.specs.Answers.{answer, readNumber, tableRead}
 use Rattle.bucket_calls.specs.Answers.{lookOf, storable, putIn, putOf, removeOf, listed, listOf, slotKeys}
 
 -- ---- bytes that are taken
@@ -55,16 +55,21 @@ long-not-held b k t e h =
 -- ---- searching
 
 module _ (b k : List ℕ) where
-  pub look-refused : (v : List ℕ) → readBucket 4 16 b ≡ none → v ≡ [] → answer 13 v ≡ lookOf b k
-  unfolding lookOf
-  look-refused v e n = rw (lookOf, e, n)
+  pub look-found : (n : ℕ) (v : List ℕ) → n ≡ readNumber b → v ≡ valueOf k (tableRead b) → answer n v ≡ lookOf b k
+  unfolding readNumber tableRead lookOf valueOf
+  look-found n v e f = ap₂ answer e f ∙ go (readBucket 4 16 b) refl
+    where
+      go : (r : Option (List Entry)) → readBucket 4 16 b ≡ r → answer (readNumber b) (valueOf k (tableRead b)) ≡ lookOf b k
+      go none q = rw (readNumber, tableRead, lookOf, q)
+      go (some t) q = rw (readNumber, tableRead, lookOf, q)
 
-  pub look-found : (v : List ℕ) (t : List Entry) → readBucket 4 16 b ≡ some t → v ≡ valueOf k t → answer 0 v ≡ lookOf b k
-  unfolding lookOf
-  look-found v t e n = rw (lookOf, e, n)
-
-  pub look-long : (v : List ℕ) (t : List Entry) → readBucket 4 16 b ≡ some t → 8 < length k → v ≡ [] → answer 0 v ≡ lookOf b k
-  look-long v t e h n = look-found v t e (n ∙ sym (absent-value k t (long-not-held b k t e h)))
+  pub look-long : (n : ℕ) (v : List ℕ) → n ≡ readNumber b → v ≡ [] → 8 < length k → answer n v ≡ lookOf b k
+  unfolding tableRead holds
+  look-long n v e f h = look-found n v e (f ∙ sym (absent-value k (tableRead b) (go (readBucket 4 16 b) refl)))
+    where
+      go : (r : Option (List Entry)) → readBucket 4 16 b ≡ r → holds k (tableRead b) ≡ false
+      go none q = rw (tableRead, q)
+      go (some t) q = rw (tableRead, q) (long-not-held b k t q h)
 
 -- ---- changing
 
@@ -139,13 +144,13 @@ module _ (b k : List ℕ) where
 
 -- ---- listing
 
-pub list-refused : (b : List ℕ) (k : List (List ℕ)) → readBucket 4 16 b ≡ none → k ≡ [] → listed 13 k ≡ listOf b
-unfolding listOf
-list-refused b k e n = rw (listOf, e, n)
-
-pub list-done : (b : List ℕ) (k : List (List ℕ)) (t : List Entry) → readBucket 4 16 b ≡ some t → k ≡ keysOf t → listed 0 k ≡ listOf b
-unfolding listOf
-list-done b k t e n = rw (listOf, e, n)
+pub list-done : (b : List ℕ) (n : ℕ) (k : List (List ℕ)) → n ≡ readNumber b → k ≡ keysOf (tableRead b) → listed n k ≡ listOf b
+unfolding readNumber tableRead listOf
+list-done b n k e f = ap₂ listed e f ∙ go (readBucket 4 16 b) refl
+  where
+    go : (r : Option (List Entry)) → readBucket 4 16 b ≡ r → listed (readNumber b) (keysOf (tableRead b)) ≡ listOf b
+    go none q = rw (readNumber, tableRead, listOf, q)
+    go (some t) q = rw (readNumber, tableRead, listOf, q)
 
 -- four slots are those at 0 to 3
 pub four-slots : {A : Type 0} (l : List A) (d : A) → length l ≡ 4 → l ≡ getD l 0 d ∷ (getD l 1 d ∷ (getD l 2 d ∷ (getD l 3 d ∷ [])))

@@ -30,43 +30,26 @@ pub struct Found {
     pub value: Value,
 }
 
-// The first `count` keys, where the outcome is Accepted.
+// The first `count` keys; none where the bucket is refused.
 pub struct Listing {
     pub outcome: Outcome,
     pub count: usize,
     pub keys: [Key; 4],
 }
 
-// The value of a key; 13 where the bucket is refused.
+// The value of a key; 13 where the bucket is refused, which is read as a table of no entries.
 pub fn look_up(bucket: &[u8], key: &[u8]) -> Found
     ensures { λ r. ⌜ answer (outcomeNumber (r .outcome)) (valueBytes (r .value)) ≡ lookOf (now (bucket .entry)) (now (key .entry)) ⌝ }
 {
     let r = read(bucket);
+    let outcome = r.outcome;
     let t = r.table;
-    let o = r.outcome;
-    match o {
-        Outcome::Accepted => {
-            if 8 < key.len() {
-                let none = no_value();
-                return Found {
-                    outcome: Outcome::Accepted,
-                    value: none,
-                };
-            }
-            let v = find(t, key_of(key));
-            Found {
-                outcome: Outcome::Accepted,
-                value: v,
-            }
-        }
-        Outcome::Malformed => {
-            let none = no_value();
-            Found {
-                outcome: Outcome::Malformed,
-                value: none,
-            }
-        }
+    if 8 < key.len() {
+        let value = no_value();
+        return Found { outcome, value };
     }
+    let value = find(t, key_of(key));
+    Found { outcome, value }
 }
 
 // A key's new value, in place; of no bytes, the key is taken away. 13 where the bucket is refused, or the key or the value
@@ -150,27 +133,18 @@ fn keys_of(t: Decoded) -> [Key; 4]
     [ka, kb, kc, kd]
 }
 
-// All keys, rising; 13 where the bucket is refused.
+// All keys, rising; 13 where the bucket is refused, which is read as a table of no entries.
 pub fn list_keys(bucket: &[u8]) -> Listing
     ensures { λ r. ⌜ listed (outcomeNumber (r .outcome)) (keysIn r) ≡ listOf (now (bucket .entry)) ⌝ }
 {
     let r = read(bucket);
+    let outcome = r.outcome;
     let t = r.table;
-    let o = r.outcome;
+    let n = count_of(t);
     let keys = keys_of(t);
-    match o {
-        Outcome::Accepted => {
-            let n = count_of(t);
-            Listing {
-                outcome: Outcome::Accepted,
-                count: n,
-                keys,
-            }
-        }
-        Outcome::Malformed => Listing {
-            outcome: Outcome::Malformed,
-            count: 0,
-            keys,
-        },
+    Listing {
+        outcome,
+        count: n,
+        keys,
     }
 }
