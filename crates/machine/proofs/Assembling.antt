@@ -13,7 +13,7 @@ use Rattle.moves.specs.Moves.{chosen}
 use Rattle.views.specs.Memory.{memory, slotOf}
 use Rattle.views.specs.Changes.{filledFrom, moved}
 use Rattle.views.specs.Queue.{flight, withoutMessage, sendCount}
-use Rattle.steps.specs.Stored.{Flown}
+use Rattle.flight.specs.Flown.{Flown}
 use Rattle.plans.specs.declared.Step.{Step}
 use Rattle.plans.specs.Plans.{placesLeft}
 use Rattle.runs.specs.Runs.{ran, carriedRun}

@@ -17,7 +17,9 @@ use Rattle.moves.specs.Moves.{handledMove, readsTable}
 use Rattle.views.specs.Memory.{Memory, memory, slotOf, standing, tableAt}
 use Rattle.views.specs.Changes.{answered}
 use Rattle.views.specs.Queue.{flight, withoutMessage, sent, sendCount}
-use Rattle.steps.specs.Stored.{MovedServer, Listed, Flown}
+use Rattle.steps.specs.Stored.{MovedServer}
+use Rattle.answers.specs.Answers.{Listed}
+use Rattle.flight.specs.Flown.{Flown}
 use Rattle.plans.specs.declared.Step.{Step}
 use Rattle.plans.specs.declared.Plan.{Plan}
 use Rattle.plans.specs.Plans.{placesLeft, roomy, movePlan, messageStep, gone, receiverAt, handPlan, handAt}

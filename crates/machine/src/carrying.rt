@@ -1,5 +1,8 @@
 // A plan is carried out: the server's arrays, then the messages, then the counts.
 use crate::Told;
+use answers::answer;
+use flight::remove;
+use flight::send;
 use memory::Counts;
 use memory::counters::store_counts;
 use memory::words::store_words;
@@ -11,11 +14,8 @@ use plans::parts::no_effect;
 use runs::Report;
 use server::Effect;
 use std::num::wrapping_add_u32;
-use steps::answers::answer;
 use steps::contents::fill_plain;
 use steps::contents::fill_work;
-use steps::flight::remove;
-use steps::flight::send;
 use steps::locals::move_server;
 ghost use mathlib.Core.Path.{_≡_};
 ghost use mathlib.Core.Bool.{true};
@@ -24,7 +24,7 @@ ghost use Prim.Native.Nat.{_<_, _≤_, _+_, _*_};
 ghost use Rattle.entries.specs.Decoded.{tableIn};
 ghost use Rattle.views.specs.Memory.{memory, slotOf};
 ghost use Rattle.views.specs.Queue.{flight, withoutMessage, sent};
-ghost use Rattle.steps.specs.Stored.{Flown};
+ghost use Rattle.flight.specs.Flown.{Flown};
 ghost use Rattle.runs.specs.Runs.{carriedRun, executed, nextCounts};
 ghost use Rattle.machine.specs.Contracts.{Carriable, Losable, ServerChanged, CarriedOn, carriedReport, Reported, PlainlyReported, Lost, Took, Executable};
 

@@ -7,7 +7,7 @@ use crate::carrying::refused;
 use crate::numbers::standing;
 use memory::Counts;
 use memory::counters::load_counts;
-use memory::messages::load_message;
+use messages::load_message;
 use moves::Local;
 use moves::handling::handled_move;
 use moves::handling::reads_table;

@@ -1,4 +1,3 @@
 -- What the contracts of `memory` cite.
 pub mod Rows
 pub mod Layout
-pub mod Messages

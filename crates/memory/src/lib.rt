@@ -1,11 +1,9 @@
-// The cluster's memory in a few lent arrays of fixed size: records are loaded and stored by value, messages are appended and removed,
-// contents of buckets are copied. Where each field lies is said in specs/Layout.antt.
+// The cluster's memory in a few lent arrays of fixed size: records are loaded and stored by value. Where each field lies, those of
+// messages too, is said in specs/Layout.antt.
 use server::Version;
 
-pub mod contents;
 pub mod counters;
 pub mod heads;
-pub mod messages;
 pub mod slots;
 pub mod words;
 

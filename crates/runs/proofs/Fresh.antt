@@ -18,7 +18,7 @@ use Rattle.server.specs.declared.Effect.{Effect}
 use Rattle.server.specs.Views.{flagIn, roleIn, among, roundIn, callIn}
 use Rattle.memory.specs.Rows.{row}
 use Rattle.memory.specs.Layout.{headOf, versionOf, roundOf, callOf, headAt, versionAt, roundAt, callAt, countsAt, putCounts, contentAt}
-use Rattle.memory.specs.Messages.{messagesAt}
+use Rattle.messages.specs.Messages.{messagesAt}
 use Rattle.memory.proofs.Records.{counts-putCounts}
 use Rattle.moves.specs.Reactions.{frontIn}
 use Rattle.views.specs.Memory.{Memory, memory, Sized, each, slotOf, tableAt, cellAt, serverOf, serverAt, serversAt, flightAt, standing, clusterIn}

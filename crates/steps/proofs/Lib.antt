@@ -1,4 +1,3 @@
 -- What the proofs of `steps` share.
 pub mod Loops
-pub mod Sends
 pub mod Tables

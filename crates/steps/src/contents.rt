@@ -2,7 +2,7 @@
 use entries::Decoded;
 use entries::slots::blank_slot;
 use memory::CONTENT;
-use memory::contents::copy_content;
+use messages::contents::copy_content;
 use table::encoding::encode;
 ghost use mathlib.Core.Path.{_≡_};
 ghost use mathlib.Core.List.{[]};

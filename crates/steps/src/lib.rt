@@ -1,5 +1,3 @@
-// A move is carried out on the lent arrays: contents, the server's head and slot, answers, messages.
-pub mod answers;
+// What a move leaves in the lent arrays of its server: contents, head and slot.
 pub mod contents;
-pub mod flight;
 pub mod locals;

@@ -16,7 +16,7 @@ use Rattle.table.specs.Form.{fits, bucketBytes, bucketSize, tableOf}
 use Rattle.table.proofs.Reading.{length-bucket, table-of-form}
 use Rattle.model.specs.Measures.{maxEntries, maxValueBytes}
 use Rattle.memory.specs.Layout.{slotRoom, messageRoom, contentSize, contentBytes, putContent}
-use Rattle.memory.proofs.ContentLaws.{length-putContent, content-putContent, content-elsewhere, content-copied}
+use Rattle.messages.proofs.ContentLaws.{length-putContent, content-putContent, content-elsewhere, content-copied}
 use Rattle.moves.specs.declared.Move.{Move}
 use Rattle.moves.specs.Reactions.{Tables, workAfter, copyAfter}
 use Rattle.views.specs.Memory.{Memory, Sized, tableAt}

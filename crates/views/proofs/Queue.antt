@@ -12,10 +12,10 @@ use Rattle.model.specs.Cluster as cluster
 use Rattle.model.specs.Lines.{dropAt}
 use Rattle.server.specs.declared.Message.{Message}
 use Rattle.memory.specs.Layout.{messageAt, contentAt}
-use Rattle.memory.specs.Messages.{Sent, messagesAt}
+use Rattle.messages.specs.Messages.{Sent, messagesAt}
 use Rattle.memory.proofs.Records.{length-putMessage}
-use Rattle.memory.proofs.ContentLaws.{length-putContent}
-use Rattle.memory.proofs.MessageLaws.{length-messages, messages-at, messages-appended, length-closedUp, messages-removed}
+use Rattle.messages.proofs.ContentLaws.{length-putContent}
+use Rattle.messages.proofs.MessageLaws.{length-messages, messages-at, messages-appended, length-closedUp, messages-removed}
 use Rattle.moves.specs.Reactions.{messageIn}
 use Rattle.views.specs.Memory.{sentIn, tableAt, flightAt}
 use Rattle.views.specs.Queue.{Flight, Sound, flightIn, appended, withoutMessage}

@@ -16,7 +16,7 @@ use Rattle.server.specs.Views.{wordsIn}
 use Rattle.memory.specs.declared.Counts.{Counts}
 use Rattle.memory.specs.Rows.{Bytes}
 use Rattle.memory.specs.Layout.{serverRoom, headAt, versionAt, roundAt, callAt, wordsAt, countsAt, contentAt}
-use Rattle.memory.specs.Messages.{Sent, messagesAt}
+use Rattle.messages.specs.Messages.{Sent, messagesAt}
 use Rattle.moves.specs.declared.Local.{Local}
 use Rattle.moves.specs.Moves.{local}
 use Rattle.moves.specs.Reactions.{frontIn, cellIn, messageIn}

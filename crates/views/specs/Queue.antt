@@ -9,7 +9,7 @@ use Rattle.blocks.specs.Blocks.{block}
 use Rattle.model.specs.Cluster as cluster
 use Rattle.server.specs.declared.Message.{Message}
 use Rattle.memory.specs.Layout.{messageSize, contentSize, putMessage, putContent}
-use Rattle.memory.specs.Messages.{closedUp}
+use Rattle.messages.specs.Messages.{closedUp}
 use Rattle.moves.specs.declared.Move.{Move}
 use Rattle.moves.specs.Moves.{chosen}
 use Rattle.views.specs.Memory.{flightAt}

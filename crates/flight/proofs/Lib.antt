@@ -1,0 +1,2 @@
+-- What the proofs of `flight` share.
+pub mod Sends

@@ -1,0 +1,2 @@
+-- What the contracts of `flight` cite.
+pub mod Flown

@@ -1,0 +1,2 @@
+-- What the contracts of `messages` cite.
+pub mod Messages
