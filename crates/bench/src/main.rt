@@ -8,54 +8,51 @@ use libc::STDIN_FILENO;
 use libc::STDOUT_FILENO;
 use machine::Tally;
 ghost use Prim.Native.Nat.{_<_, _≤_};
-ghost use Rattle.bench.specs.Places.{Within, Stopped};
+ghost use mathlib.Core.Path.{_≡_};
 
-// Where the run stands: the tally, which bytes of the block are fed next, how many parts may follow (none where it stops), and whether
-// the input is at its end.
+// Where the run stands: the tally, where the block ends and how many of its bytes are left, how many turns may follow (none where it
+// stops), and whether the input is at its end.
 struct Place {
     tally: Tally,
-    from: usize,
     end: usize,
+    left: usize,
     turns: u64,
     ended: bool,
 }
 
-// No part follows.
-fn stop(tally: Tally, ended: bool) -> Place
-    ensures { λ r. ⌜ Stopped r ⌝ }
+// No turn follows.
+fn stop(tally: Tally) -> Place
+    ensures { λ r. ⌜ r .turns ≡ 0 ⌝ }
 {
     Place {
         tally,
-        from: 0,
         end: 0,
+        left: 0,
         turns: 0,
-        ended,
+        ended: true,
     }
 }
 
 // The next block is read: the input is at its end where there is nothing to read.
-fn read_block(input: &mut [u8; 65536], tally: Tally, turns: u64) -> Place
-    ensures { λ r. ⌜ Within r (now (input .exit)) ⌝ }
+fn read_block(input: &mut [u8], tally: Tally, turns: u64) -> Place
     ensures { λ r. ⌜ r .turns ≤ turns ⌝ }
 {
     let got = libc::read(STDIN_FILENO, input);
-    let end = io::count(got, input);
-    if end == 0 {
-        return stop(tally, got == 0);
+    if got < 0 {
+        return stop(tally);
     }
+    let end = io::count(got, input);
     Place {
         tally,
-        from: 0,
         end,
+        left: end,
         turns,
-        ended: false,
+        ended: end == 0,
     }
 }
 
-// A proved loop has to end, and nothing says that the input does: the run counts its parts down, from a number that no run uses up.
-fn start(input: &mut [u8; 65536]) -> Place
-    ensures { λ r. ⌜ Within r (now (input .exit)) ⌝ }
-{
+// A proved loop has to end, and nothing says that the input does: the turns are counted down, from a number that no run uses up.
+fn start(input: &mut [u8]) -> Place {
     let tally = Tally {
         sent: 0,
         copied: 0,
@@ -66,6 +63,13 @@ fn start(input: &mut [u8; 65536]) -> Place
     read_block(input, tally, u64::MAX)
 }
 
+// What is left of the block.
+fn rest(input: &[u8], end: usize, left: usize) -> &[u8] {
+    let to = at_most(end, input.len());
+    let from = to - at_most(left, to);
+    &input[from..to]
+}
+
 // The first n bytes are written out: false where that fails, as where nobody reads them any more.
 fn write_out(out: &[u8], n: usize) -> bool {
     let k = at_most(n, out.len());
@@ -73,46 +77,30 @@ fn write_out(out: &[u8], n: usize) -> bool {
 }
 
 // After a part: what it printed is written out, then the rest of the block is next, or another block.
-fn next_part(
-    s: Place,
-    a: Answer,
-    input: &mut [u8; 65536],
-    out: &[u8; 65536],
-    reader: &[usize; 3],
-) -> Place
-    requires { ⌜ Within s (now input) ⌝ }
+fn next_part(s: Place, a: Answer, input: &mut [u8], out: &[u8], reader: &[usize; 3]) -> Place
     requires { ⌜ 0 < s .turns ⌝ }
-    ensures { λ r. ⌜ Within r (now (input .exit)) ⌝ }
     ensures { λ r. ⌜ r .turns < s .turns ⌝ }
 {
     let tally = a.tally;
     let is_written = write_out(out, reader[2]);
     if !is_written {
-        return stop(tally, false);
+        return stop(tally);
     }
-    let turns = s.turns - 1;
-    if a.taken < s.end - s.from {
-        return Place {
-            tally,
-            from: s.from + a.taken,
-            end: s.end,
-            turns,
-            ended: false,
-        };
+    if s.left <= a.taken {
+        return read_block(input, tally, s.turns - 1);
     }
-    read_block(input, tally, turns)
-}
-
-// What the end prints is written out only where the input is at its end.
-fn write_end(ended: bool, out: &[u8], n: usize) {
-    if ended {
-        write_out(out, n);
+    Place {
+        tally,
+        end: s.end,
+        left: s.left - a.taken,
+        turns: s.turns - 1,
+        ended: false,
     }
 }
 
-// The whole input, in as many parts as the output has room for (each takes a byte: `takes-some` in crate `feed`), then the last line and
-// the tally.
-fn run(
+// A turn: what is left of the block is fed, as far as the output has room (it takes a byte: `takes-some` in crate `feed`); or at the
+// end of the input the last line and the tally are printed.
+fn turn(
     counts: &mut [u32; 8],
     heads: &mut [u32; 112],
     slots: &mut [u32; 1792],
@@ -124,15 +112,15 @@ fn run(
     answers: &mut [u32; 32],
     reader: &mut [usize; 3],
     line: &mut [u8; 121],
+    s: Place,
     input: &mut [u8; 65536],
     out: &mut [u8; 65536],
-) {
-    let mut s = start(input);
-    while s.turns > 0 {
-        let block = &input[..];
-        let from = s.from;
-        let end = s.end;
-        let a = feed_value(
+) -> Place
+    requires { ⌜ 0 < s .turns ⌝ }
+    ensures { λ r. ⌜ r .turns < s .turns ⌝ }
+{
+    if s.ended {
+        let a = finish_value(
             counts,
             heads,
             slots,
@@ -145,12 +133,12 @@ fn run(
             reader,
             line,
             s.tally,
-            &block[from..end],
             out,
         );
-        s = next_part(s, a, input, out, reader);
+        write_out(out, a.taken);
+        return stop(s.tally);
     }
-    let a = finish_value(
+    let a = feed_value(
         counts,
         heads,
         slots,
@@ -163,9 +151,10 @@ fn run(
         reader,
         line,
         s.tally,
+        rest(input, s.end, s.left),
         out,
     );
-    write_end(s.ended, out, a.taken);
+    next_part(s, a, input, out, reader)
 }
 
 fn main() {
@@ -182,19 +171,23 @@ fn main() {
     let mut line = [0u8; 121];
     let mut input = io::large_buffer();
     let mut out = io::large_buffer();
-    run(
-        &mut counts,
-        &mut heads,
-        &mut slots,
-        &mut copies,
-        &mut works,
-        &mut texts,
-        &mut queue,
-        &mut loads,
-        &mut answers,
-        &mut reader,
-        &mut line,
-        &mut input,
-        &mut out,
-    );
+    let mut s = start(&mut input);
+    while s.turns > 0 {
+        s = turn(
+            &mut counts,
+            &mut heads,
+            &mut slots,
+            &mut copies,
+            &mut works,
+            &mut texts,
+            &mut queue,
+            &mut loads,
+            &mut answers,
+            &mut reader,
+            &mut line,
+            s,
+            &mut input,
+            &mut out,
+        );
+    }
 }

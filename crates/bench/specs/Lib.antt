@@ -1,2 +1,0 @@
--- What the contracts of `bench` cite.
-pub mod Places
