@@ -9,6 +9,7 @@ use Rattle.model.specs.Text.{bytes}
 use Rattle.model.specs.Measures.{maxKeyBytes, maxValueBytes}
 use Rattle.model.specs.Calls.{Words, get, set, setif, del, keys}
 use Rattle.model.specs.Lines.{Line, cluster, elect, call, deliver, copy, lose, timeout, stop}
+use Rattle.model.specs.Parse.{number, made2}
 use Rattle.parse.specs.Kept.{kept, keyIn, valueIn}
 use Rattle.parse.specs.declared.Kind.{Kind}
 use Rattle.parse.specs.declared.Kind.the-variants as K
@@ -33,6 +34,14 @@ kindOf1 w =
                       ]
                 ]
           ]
+    ]
+
+-- the lines of three words that name a server and a bucket
+unfoldable pub bucketLine : List ℕ → List ℕ → List ℕ → Option Line
+bucketLine w a b =
+    elim (sameBytes w (bytes "keys")) [
+      | true ↦ made2 (λ s n. call s (keys n)) (number a) (number b)
+      | false ↦ elim (sameBytes w (bytes "timeout")) [ true ↦ made2 timeout (number a) (number b) | false ↦ none ]
     ]
 
 -- the line of a kind with its numbers, key, expected value and value; what the kind does not use is not looked at

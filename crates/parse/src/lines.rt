@@ -13,10 +13,11 @@ use entries::Value;
 ghost use mathlib.Core.Path.{_≡_};
 ghost use mathlib.Core.List.{[], _∷_};
 ghost use mathlib.Core.Option.{none};
+ghost use Rattle.model.specs.Text.{bytes};
 ghost use Rattle.model.specs.Parse.{number, hexadecimal, words, lineOf1, lineOf2, lineOf3, lineOf4, lineOf};
 ghost use Rattle.parse.specs.Digits.{present, allThree};
 ghost use Rattle.parse.specs.Kept.{keyIn, valueIn};
-ghost use Rattle.parse.specs.Meaning.{kindOf1, lineFor, lineIn, keptOf, numbersFor, callFor};
+ghost use Rattle.parse.specs.Meaning.{kindOf1, bucketLine, lineFor, lineIn, keptOf, numbersFor, callFor};
 
 fn blank_key() -> Key
     ensures { λ r. ⌜ keyIn r ≡ [] ⌝ }
@@ -146,18 +147,17 @@ fn line_of_1(word: &[u8], a: &[u8]) -> Line
     }
 }
 
-fn line_of_2(word: &[u8], a: &[u8], b: &[u8]) -> Line
-    ensures { λ r. ⌜ lineIn r ≡ keptOf (lineOf2 (now (word .entry)) (now (a .entry)) (now (b .entry))) ⌝ }
+// A call with a key and no values.
+fn key_line(kind: Kind, server: &[u8], key: &[u8]) -> Line
+    ensures { λ r. ⌜ lineIn r ≡ callFor kind (number (now (server .entry))) (hexadecimal (now (key .entry))) (hexadecimal (bytes "-")) (hexadecimal (bytes "-")) ⌝ }
 {
-    if same_word(word, b"cluster") {
-        return numbers_line(Kind::Cluster, a, b);
-    }
-    if same_word(word, b"get") {
-        return call_line(Kind::Get, a, b, b"-", b"-");
-    }
-    if same_word(word, b"del") {
-        return call_line(Kind::Del, a, b, b"-", b"-");
-    }
+    call_line(kind, server, key, b"-", b"-")
+}
+
+// A line of three words that names a server and a bucket.
+fn bucket_line(word: &[u8], a: &[u8], b: &[u8]) -> Line
+    ensures { λ r. ⌜ lineIn r ≡ keptOf (bucketLine (now (word .entry)) (now (a .entry)) (now (b .entry))) ⌝ }
+{
     if same_word(word, b"keys") {
         return numbers_line(Kind::Keys, a, b);
     }
@@ -165,6 +165,21 @@ fn line_of_2(word: &[u8], a: &[u8], b: &[u8]) -> Line
         return numbers_line(Kind::Timeout, a, b);
     }
     malformed()
+}
+
+fn line_of_2(word: &[u8], a: &[u8], b: &[u8]) -> Line
+    ensures { λ r. ⌜ lineIn r ≡ keptOf (lineOf2 (now (word .entry)) (now (a .entry)) (now (b .entry))) ⌝ }
+{
+    if same_word(word, b"cluster") {
+        return numbers_line(Kind::Cluster, a, b);
+    }
+    if same_word(word, b"get") {
+        return key_line(Kind::Get, a, b);
+    }
+    if same_word(word, b"del") {
+        return key_line(Kind::Del, a, b);
+    }
+    bucket_line(word, a, b)
 }
 
 fn line_of_3(word: &[u8], a: &[u8], b: &[u8], c: &[u8]) -> Line

@@ -1,9 +1,10 @@
 -- `lines::line_of_2` meets its contract: by the first word.
-use borrow.Author.Needs.{needs}
 use mathlib.Core.Path.{sym, _∙_}
 use Rattle.model.specs.Text.{bytes}
 use Rattle.model.specs.Parse.{lineOf2}
-use Rattle.parse.proofs.Forms.{no-line, cluster-line, get-line, del-line, keys-line, timeout-line}
+use Rattle.parse.specs.Meaning.{bucketLine}
+use Rattle.parse.proofs.Forms.{cluster-line, get-line, del-line}
+use borrow.Author.Needs.{needs}
 use Rattle.parse.proofs.lines.line_of_2.Statement.{statement}
 use Rattle.parse.proofs.lines.line_of_2.Tie as tie
 
@@ -26,18 +27,12 @@ slice-aggregate-same-word-2 c = search needs
 same-word-requires-2 : tie.Need-same-word-requires-2
 same-word-requires-2 c κs = search needs
 
-slice-aggregate-call-line : tie.Need-slice-aggregate-call-line
-slice-aggregate-call-line c = search needs
-
-slice-aggregate-call-line-2 : tie.Need-slice-aggregate-call-line-2
-slice-aggregate-call-line-2 c = search needs
-
-call-line-requires : tie.Need-call-line-requires
-call-line-requires c κs = search needs
+key-line-requires : tie.Need-key-line-requires
+key-line-requires c κs = search needs
 
 returns-2 : tie.Need-returns-2
 unfolding lineOf2 bytes
-returns-2 c = c .call-line .ensures ∙ get-line _ _ ∙ rw (lineOf2, sym (c .before .before .before .before .before .before .before .same-word .ensures) ∙ c .before .before .before .before .before .before .if1 .left, sym (c .before .before .before .before .same-word2 .ensures) ∙ c .before .before .before .if2 .taken)
+returns-2 c = c .key-line .ensures ∙ get-line _ _ ∙ rw (lineOf2, sym (c .before .before .before .before .before .same-word .ensures) ∙ c .before .before .before .before .if1 .left, sym (c .before .before .same-word2 .ensures) ∙ c .before .if2 .taken)
 
 slice-aggregate-same-word-3 : tie.Need-slice-aggregate-same-word-3
 slice-aggregate-same-word-3 c = search needs
@@ -45,51 +40,19 @@ slice-aggregate-same-word-3 c = search needs
 same-word-requires-3 : tie.Need-same-word-requires-3
 same-word-requires-3 c κs = search needs
 
-slice-aggregate-call-line-3 : tie.Need-slice-aggregate-call-line-3
-slice-aggregate-call-line-3 c = search needs
-
-slice-aggregate-call-line-4 : tie.Need-slice-aggregate-call-line-4
-slice-aggregate-call-line-4 c = search needs
-
-call-line-requires-2 : tie.Need-call-line-requires-2
-call-line-requires-2 c κs = search needs
+key-line-requires-2 : tie.Need-key-line-requires-2
+key-line-requires-2 c κs = search needs
 
 returns-3 : tie.Need-returns-3
 unfolding lineOf2 bytes
-returns-3 c = c .call-line2 .ensures ∙ del-line _ _ ∙ rw (lineOf2, sym (c .before .before .before .before .before .before .before .before .before .before .same-word .ensures) ∙ c .before .before .before .before .before .before .before .before .before .if1 .left, sym (c .before .before .before .before .before .before .before .same-word2 .ensures) ∙ c .before .before .before .before .before .before .if2 .left, sym (c .before .before .before .before .same-word3 .ensures) ∙ c .before .before .before .if3 .taken)
+returns-3 c = c .key-line2 .ensures ∙ del-line _ _ ∙ rw (lineOf2, sym (c .before .before .before .before .before .before .before .before .same-word .ensures) ∙ c .before .before .before .before .before .before .before .if1 .left, sym (c .before .before .before .before .before .same-word2 .ensures) ∙ c .before .before .before .before .if2 .left, sym (c .before .before .same-word3 .ensures) ∙ c .before .if3 .taken)
 
-slice-aggregate-same-word-4 : tie.Need-slice-aggregate-same-word-4
-slice-aggregate-same-word-4 c = search needs
-
-same-word-requires-4 : tie.Need-same-word-requires-4
-same-word-requires-4 c κs = search needs
-
-numbers-line-requires-2 : tie.Need-numbers-line-requires-2
-numbers-line-requires-2 c κs = search needs
+bucket-line-requires : tie.Need-bucket-line-requires
+bucket-line-requires c κs = search needs
 
 returns-4 : tie.Need-returns-4
-unfolding lineOf2 bytes
-returns-4 c = c .numbers-line2 .ensures ∙ keys-line _ _ ∙ rw (lineOf2, sym (c .before .before .before .before .before .before .before .before .before .before .before .same-word .ensures) ∙ c .before .before .before .before .before .before .before .before .before .before .if1 .left, sym (c .before .before .before .before .before .before .before .before .same-word2 .ensures) ∙ c .before .before .before .before .before .before .before .if2 .left, sym (c .before .before .before .before .before .same-word3 .ensures) ∙ c .before .before .before .before .if3 .left, sym (c .before .before .same-word4 .ensures) ∙ c .before .if4 .taken)
-
-slice-aggregate-same-word-5 : tie.Need-slice-aggregate-same-word-5
-slice-aggregate-same-word-5 c = search needs
-
-same-word-requires-5 : tie.Need-same-word-requires-5
-same-word-requires-5 c κs = search needs
-
-numbers-line-requires-3 : tie.Need-numbers-line-requires-3
-numbers-line-requires-3 c κs = search needs
-
-returns-5 : tie.Need-returns-5
-unfolding lineOf2 bytes
-returns-5 c = c .numbers-line3 .ensures ∙ timeout-line _ _ ∙ rw (lineOf2, sym (c .before .before .before .before .before .before .before .before .before .before .before .before .before .before .same-word .ensures) ∙ c .before .before .before .before .before .before .before .before .before .before .before .before .before .if1 .left, sym (c .before .before .before .before .before .before .before .before .before .before .before .same-word2 .ensures) ∙ c .before .before .before .before .before .before .before .before .before .before .if2 .left, sym (c .before .before .before .before .before .before .before .before .same-word3 .ensures) ∙ c .before .before .before .before .before .before .before .if3 .left, sym (c .before .before .before .before .before .same-word4 .ensures) ∙ c .before .before .before .before .if4 .left, sym (c .before .before .same-word5 .ensures) ∙ c .before .if5 .taken)
-
-malformed-requires : tie.Need-malformed-requires
-malformed-requires c κs = search needs
-
-returns-6 : tie.Need-returns-6
-unfolding lineOf2 bytes
-returns-6 c = c .malformed .ensures ∙ sym (no-line (rw (lineOf2, sym (c .before .before .before .before .before .before .before .before .before .before .before .before .before .before .same-word .ensures) ∙ c .before .before .before .before .before .before .before .before .before .before .before .before .before .if1 .left, sym (c .before .before .before .before .before .before .before .before .before .before .before .same-word2 .ensures) ∙ c .before .before .before .before .before .before .before .before .before .before .if2 .left, sym (c .before .before .before .before .before .before .before .before .same-word3 .ensures) ∙ c .before .before .before .before .before .before .before .if3 .left, sym (c .before .before .before .before .before .same-word4 .ensures) ∙ c .before .before .before .before .if4 .left, sym (c .before .before .same-word5 .ensures) ∙ c .before .if5 .left)))
+unfolding bucketLine lineOf2 bytes
+returns-4 c = c .bucket-line .ensures ∙ rw (lineOf2, sym (c .before .before .before .before .before .before .before .before .same-word .ensures) ∙ c .before .before .before .before .before .before .before .if1 .left, sym (c .before .before .before .before .before .same-word2 .ensures) ∙ c .before .before .before .before .if2 .left, sym (c .before .before .same-word3 .ensures) ∙ c .before .if3 .left)
 
 pub line-of-2-spec : {M : Type 1} → statement M
 line-of-2-spec =
@@ -101,23 +64,11 @@ line-of-2-spec =
     returns
     slice-aggregate-same-word-2
     same-word-requires-2
-    slice-aggregate-call-line
-    slice-aggregate-call-line-2
-    call-line-requires
+    key-line-requires
     returns-2
     slice-aggregate-same-word-3
     same-word-requires-3
-    slice-aggregate-call-line-3
-    slice-aggregate-call-line-4
-    call-line-requires-2
+    key-line-requires-2
     returns-3
-    slice-aggregate-same-word-4
-    same-word-requires-4
-    numbers-line-requires-2
-    returns-4
-    slice-aggregate-same-word-5
-    same-word-requires-5
-    numbers-line-requires-3
-    returns-5
-    malformed-requires
-    returns-6)
+    bucket-line-requires
+    returns-4)
