@@ -1,8 +1,8 @@
-//! Random scripts on the proved machine and on the independent bench: after
-//! every line the answers or the refusal, the messages under way and the tally
-//! are the same.
+//! Random scripts through the library and on the independent bench: after every
+//! line the answers or the refusal, the messages under way and the tally are the
+//! same.
 
-use machine::compare::{Pair, View};
+use library::compare::{Pair, View};
 use reference::printed::{refusals, results};
 use reference::scripts::{generate, Kind, Random};
 

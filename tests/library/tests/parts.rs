@@ -2,7 +2,8 @@
 //! call takes and writes is as the independent bench has it. On arrays filled
 //! with anything the calls return, and write nothing outside.
 
-use feed::Session;
+use library::output::{Output, END_ROOM, LINE_ROOM};
+use library::session::Session;
 use reference::printed::{refusals, results};
 use reference::script::{Script, LAST_LINE, LONGEST};
 use reference::scripts::{generate, Kind, Random};
@@ -10,12 +11,8 @@ use std::sync::mpsc::{self, RecvTimeoutError};
 use std::thread;
 use std::time::Duration;
 
-/// Room that a line needs in the output, and that the end needs.
-const LINE_ROOM: usize = 1024;
-const END_ROOM: usize = 1088;
-/// Largest output, and the bytes on both sides of it.
+/// Largest output.
 const MOST_ROOM: usize = 8192;
-const MARGIN: usize = 256;
 /// No test takes nearly as long.
 const LIMIT: Duration = Duration::from_secs(60);
 
@@ -28,39 +25,6 @@ const KINDS: [Kind; 7] = [
     Kind::Blind,
     Kind::Damaged,
 ];
-
-/// Bytes to lend as outputs, with the pattern that they are filled with.
-struct Output {
-    bytes: Vec<u8>,
-    old: Vec<u8>,
-}
-
-impl Output {
-    fn new() -> Self {
-        let old: Vec<u8> = (0..MARGIN + MOST_ROOM + MARGIN)
-            .map(|at| (at * 7 % 251) as u8)
-            .collect();
-        Output {
-            bytes: old.clone(),
-            old,
-        }
-    }
-
-    fn lend(&mut self, room: usize) -> &mut [u8] {
-        &mut self.bytes[MARGIN..][..room]
-    }
-
-    /// The first bytes of what was lent; all others are as they were.
-    fn take(&mut self, written: usize, room: usize) -> Vec<u8> {
-        assert!(written <= room, "{written} bytes written of {room}");
-        let end = MARGIN + written;
-        assert!(self.bytes[..MARGIN] == self.old[..MARGIN], "written before");
-        assert!(self.bytes[end..] == self.old[end..], "written after");
-        let text = self.bytes[MARGIN..end].to_vec();
-        self.bytes[MARGIN..end].copy_from_slice(&self.old[MARGIN..end]);
-        text
-    }
-}
 
 fn draw_room(random: &mut Random) -> usize {
     match random.chance(600) {
@@ -91,7 +55,7 @@ impl Pair {
         Pair {
             session,
             script: Script::after_line(lines),
-            output: Output::new(),
+            output: Output::new(MOST_ROOM),
             lines: lines as usize,
             present: 0,
             printed: Vec::new(),
@@ -126,7 +90,7 @@ impl Pair {
     /// Feeds a part to both; how many bytes of it were taken.
     fn feed(&mut self, part: &[u8], room: usize) -> usize {
         let taken = self.session.feed(part, self.output.lend(room));
-        let text = self.output.take(self.session.written(), room);
+        let text = self.output.take(self.session.written(), room).unwrap();
         let (expected_taken, expected_text) = self.independent(part, room);
         assert_eq!(taken, expected_taken, "bytes taken");
         assert_same(&text, &expected_text);
@@ -148,12 +112,12 @@ impl Pair {
         for short in [0, 1, END_ROOM - 1] {
             let before = self.session.clone();
             assert_eq!(self.session.finish(self.output.lend(short)), 0);
-            self.output.take(0, short);
+            self.output.take(0, short).unwrap();
             assert!(self.session == before, "changed without room");
         }
         let written = self.session.finish(self.output.lend(room));
         assert_eq!(self.session.written(), written, "bytes written");
-        let text = self.output.take(written, room);
+        let text = self.output.take(written, room).unwrap();
         let mut expected = Vec::new();
         self.script.finish(&mut expected);
         assert_same(&text, &expected);
@@ -371,7 +335,7 @@ fn run_spoiled(
         let room = draw_room(random);
         let taken = session.feed(part, output.lend(room));
         let written = session.written();
-        printed.extend(output.take(written, room));
+        printed.extend(output.take(written, room).unwrap());
         assert!(session.intact(), "written outside");
         assert!(taken <= part.len(), "{taken} bytes of {}", part.len());
         if taken < part.len() {
@@ -383,7 +347,7 @@ fn run_spoiled(
     for room in [END_ROOM - 1, END_ROOM] {
         let before = session.clone();
         let written = session.finish(output.lend(room));
-        output.take(written, room);
+        output.take(written, room).unwrap();
         assert!(session.intact(), "written outside");
         assert_eq!(written > 0, room == END_ROOM);
         assert!(written > 0 || *session == before, "changed without room");
@@ -429,7 +393,7 @@ fn texts() -> Vec<Vec<u8>> {
 fn arrays_filled_with_anything() {
     within_time(|| {
         let mut random = Random::new(3);
-        let mut output = Output::new();
+        let mut output = Output::new(MOST_ROOM);
         let texts = texts();
         let mut printed = Vec::new();
         for _ in 0..1000 {
@@ -448,7 +412,7 @@ fn arrays_filled_with_anything() {
 fn arrays_damaged() {
     within_time(|| {
         let mut random = Random::new(4);
-        let mut output = Output::new();
+        let mut output = Output::new(MOST_ROOM);
         let texts = texts();
         let mut printed = Vec::new();
         for _ in 0..1000 {
@@ -458,7 +422,7 @@ fn arrays_damaged() {
             let mut rest = first;
             while !rest.is_empty() {
                 let taken = session.feed(rest, output.lend(MOST_ROOM));
-                output.take(session.written(), MOST_ROOM);
+                output.take(session.written(), MOST_ROOM).unwrap();
                 rest = &rest[taken..];
             }
             let share = *random.pick(&[1, 10, 100]);

@@ -1,16 +1,15 @@
 //! How fast the proved library runs a script of 1,000,000 accepted lines for
 //! five servers, beside the independent bench. Not part of the gate. From the
-//! top of the repository:
+//! top of the repository, after `rt staticlib` of the crate that build.rs names:
 //!
 //! ```text
-//! rt staticlib feed
 //! cargo run --offline --release --manifest-path tests/Cargo.toml --bin library_speed
 //! ```
 //!
 //! Both take the script in blocks of 65,536 bytes from memory, start with no
 //! cluster, print to memory, and take turns.
 
-use feed::Session;
+use library::session::Session;
 use reference::script::Script;
 use reference::scripts::{generate, Kind};
 use std::time::Instant;
@@ -70,5 +69,7 @@ fn main() {
         println!("{name}: {rate:.0} lines per second");
     }
     let ratio = median(times.iter().map(|pair| pair[0] / pair[1]).collect());
-    println!("the library takes {ratio:.2} times as long (median of the ratios of neighbouring runs)");
+    println!(
+        "the library takes {ratio:.2} times as long (median of the ratios of neighbouring runs)"
+    );
 }

@@ -1,6 +1,5 @@
-//! The proved calls that take a script in parts (crates/feed), linked from
-//! their static library. crates/memory/specs/Layout.antt says what lies where
-//! in the lent arrays.
+//! The exported calls, which take a script in parts, and the arrays that are
+//! lent to them. crates/memory/specs/Layout.antt says what lies where.
 
 use std::hint::black_box;
 
@@ -8,8 +7,7 @@ mod exported {
     use super::Tally;
 
     // An array is passed as a pointer, a slice as pointer and length; no
-    // pointer is kept.
-    #[link(name = "feed", kind = "static")]
+    // pointer is kept. build.rs names the library.
     extern "C" {
         pub fn script_feed(
             counts: &mut [u32; 8],
@@ -47,6 +45,14 @@ mod exported {
         ) -> usize;
     }
 }
+
+/// Bytes of a bucket's content, and of the block that it lies in.
+pub const CONTENT: usize = 113;
+const CONTENT_BLOCK: usize = 128;
+/// Words of a message's header.
+pub const HEADER: usize = 8;
+/// The kinds of messages with a version and a content.
+const WITH_CONTENT: [u32; 2] = [4, 8];
 
 /// The tally of messages.
 #[repr(C)]
@@ -106,18 +112,25 @@ pub struct Session {
 impl Session {
     /// Zeros: the start of a script.
     pub fn new() -> Box<Self> {
+        Self::filled(0)
+    }
+
+    /// The start of a script too: with no cluster, what is in the other arrays
+    /// does not matter.
+    pub fn filled(old: u8) -> Box<Self> {
+        let word = u32::from_ne_bytes([old; 4]);
         Box::new(Session {
             counts: Guarded::new([0; 8]),
-            heads: Guarded::new([0; 112]),
-            slots: Guarded::new([0; 1792]),
-            copies: Guarded::new([0; 7168]),
-            works: Guarded::new([0; 7168]),
-            texts: Guarded::new([0; 3584]),
-            queue: Guarded::new([0; 512]),
-            loads: Guarded::new([0; 8192]),
-            answers: Guarded::new([0; 32]),
+            heads: Guarded::new([word; 112]),
+            slots: Guarded::new([word; 1792]),
+            copies: Guarded::new([old; 7168]),
+            works: Guarded::new([old; 7168]),
+            texts: Guarded::new([old; 3584]),
+            queue: Guarded::new([word; 512]),
+            loads: Guarded::new([old; 8192]),
+            answers: Guarded::new([word; 32]),
             reader: Guarded::new([0; 3]),
-            line: Guarded::new([0; 121]),
+            line: Guarded::new([old; 121]),
             tally: Guarded::new(Tally::default()),
         })
     }
@@ -168,6 +181,31 @@ impl Session {
                 out.len(),
             )
         }
+    }
+
+    /// Messages under way.
+    pub fn under_way(&self) -> u32 {
+        self.counts.value[2]
+    }
+
+    /// Lines accepted after the cluster line.
+    pub fn accepted(&self) -> u32 {
+        self.counts.value[3]
+    }
+
+    /// The message at a place of the list: kind, sender, receiver, bucket,
+    /// election, round, version, and its content. Kinds without a content have
+    /// zeros for it and the version.
+    pub fn message(&self, place: usize) -> ([u32; HEADER], [u8; CONTENT]) {
+        let mut header = [0; HEADER];
+        let mut content = [0; CONTENT];
+        header.copy_from_slice(&self.queue.value[place * HEADER..][..HEADER]);
+        if WITH_CONTENT.contains(&header[0]) {
+            content.copy_from_slice(&self.loads.value[place * CONTENT_BLOCK..][..CONTENT]);
+        } else {
+            header[6..].fill(0);
+        }
+        (header, content)
     }
 
     pub fn lines(&self) -> usize {

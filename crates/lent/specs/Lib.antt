@@ -1,2 +1,0 @@
--- What the exported call leaves.
-pub mod Exports
