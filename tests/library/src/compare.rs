@@ -84,7 +84,7 @@ impl Proved {
             (!session.intact(), "bytes around the arrays were written"),
             (
                 before.is_some_and(|before| !left_as(session, *before)),
-                "a refused line changed an array",
+                "a line to be refused changed an array",
             ),
         ];
         let view = view(session, printed);
