@@ -3,7 +3,7 @@
 
 use std::path::Path;
 
-const CRATE: &str = "feed";
+const CRATE: &str = "script";
 
 fn main() {
     let package = std::env::var("CARGO_MANIFEST_DIR").expect("cargo sets it");

@@ -11,12 +11,13 @@ use Rattle.machine.specs.declared.Tally.{Tally}
 use Rattle.machine.specs.Meaning.{tallyIn}
 use Rattle.input.specs.Reading.{lastRead, lastText, finished, finishedText}
 use Rattle.input.proofs.Whole.{last-none, last-some}
-use Rattle.feed.specs.Sessions.{Held, held, Session, session, presentLine, readingIn}
-use Rattle.feed.specs.Feeding.{PartFed, Ready}
-use Rattle.feed.specs.Entry.{sessionIn, MeasuredIn, SessionFed, LastLine, none, past, one, LastTold, Finished, Finishes}
-use Rattle.feed.specs.declared.Progress.{Progress}
-use Rattle.feed.proofs.Feeding.{fed-means, line-means, line-ready}
-use Rattle.feed.proofs.Advancing.{written-on}
+use Rattle.lines.specs.Sessions.{Held, held, Session, session, presentLine, readingIn}
+use Rattle.lines.specs.Lines.{LastLine, none, past, one, LastTold}
+use Rattle.lines.specs.declared.Progress.{Progress}
+use Rattle.parts.specs.Feeding.{PartFed}
+use Rattle.parts.proofs.Advancing.{written-on}
+use Rattle.feed.specs.Entry.{sessionIn, MeasuredIn, SessionFed, Finished, Finishes}
+use Rattle.feed.proofs.Feeding.{Ready, fed-means, line-means, line-ready}
 
 -- ---- the three words of a reader
 

@@ -1,31 +1,20 @@
 -- What is fed stands for what the definitions make of the same bytes.
-use mathlib.Core.Path.{_≡_, refl, sym, ap, subst, _∙_}
-use mathlib.Core.List.{List, [], _∷_, _++_, append-assoc, append-nil}
-use Prim.Native.Nat.{ℕ, _+_, _-_}
+use mathlib.Core.Path.{_≡_, refl, sym, ap, _∙_}
+use mathlib.Core.List.{List, [], _∷_, append-nil}
+use Prim.Native.Nat.{ℕ}
 use native.Mathlib.Omega.{arith}
 use lib.ListN.{length, length-append}
-use Rattle.model.specs.Lines as lines
 use Rattle.model.specs.Run.{step}
 use Rattle.runs.specs.Meaning.{stateIn}
 use Rattle.runs.proofs.Reading.{step-read}
 use Rattle.machine.specs.Meaning.{tallyIn, outcomeIn}
 use Rattle.input.specs.Reading.{Reading, reading, ended, endedText, fed, fedText}
 use Rattle.input.proofs.Parts.{fed-append, fedText-append, line-kept, line-silent, line-feed, past-kept, past-silent}
-use Rattle.feed.specs.Sessions.{held, Session, presentLine, readingIn}
-use Rattle.feed.specs.Feeding.{LineEnded, Fed, nothing, bytes, line, past, Ready}
-use Rattle.feed.proofs.Holding.{putAll-means, putAll-size}
-
--- the same bytes and the same text
-same-fed : (w : Session) (room : ℕ) {a b x y : List ℕ} {u : Session} → a ≡ b → x ≡ y → Fed w room a x u → Fed w room b y u
-same-fed w room {a} {b} {x} {y} {u} e d f = subst (λ (i : List ℕ). Fed w room i y u) e (subst (λ (t : List ℕ). Fed w room a t u) d f)
-
--- one part after the other, in the room that the first leaves
-pub fed-on : (w : Session) (room : ℕ) {a x b y : List ℕ} {v u : Session} → Fed w room a x v → Fed v (room - length x) b y u → Fed w room (a ++ b) (x ++ y) u
-fed-on w room {a} {x} f nothing = same-fed w room (sym (append-nil a)) (sym (append-nil x)) f
-fed-on w room {a} {x} f (bytes {input = b} g h l n) = same-fed w room (append-assoc a b l) refl (bytes (fed-on w room f g) h l n)
-fed-on w room {a} {x} f (line {input = b} {text = y} g h r u more e) =
-    same-fed w room (append-assoc a b (10 ∷ [])) (append-assoc x y more) (line (fed-on w room f g) h (omega (arith, r, length-append x y)) u more e)
-fed-on w room {a} {x} f (past {input = b} g h l) = same-fed w room (append-assoc a b l) refl (past (fed-on w room f g) h l)
+use Rattle.lines.specs.Sessions.{held, Session, presentLine, readingIn}
+use Rattle.lines.specs.Lines.{LineEnded}
+use Rattle.lines.proofs.Holding.{putAll-means, putAll-size}
+use Rattle.parts.specs.Feeding.{Fed, nothing, bytes, line, past}
+use Rattle.feed.specs.Entry.{MeasuredIn}
 
 -- where nothing was taken nothing is written
 pub fed-nothing : (w : Session) (room : ℕ) {input text : List ℕ} {v : Session} → Fed w room input text v → length input ≡ 0 → length text ≡ 0
@@ -33,6 +22,11 @@ fed-nothing w room nothing e = refl
 fed-nothing w room (bytes {input = a} g h l n) e = fed-nothing w room g (omega (arith, length-append a l))
 fed-nothing w room (line {input = a} g h r u more k) e = absurd (omega (arith, length-append a (10 ∷ [])))
 fed-nothing w room (past {input = a} g h l) e = fed-nothing w room g (omega (arith, length-append a l))
+
+-- within the measures of document 01, with the array of the present line in its size
+pub record Ready (w : Session) : Type 0 where
+  pub measured : MeasuredIn w
+  pub size : length (w .held .bytes) ≡ 121
 
 -- what a part stands for
 pub record Means (w : Session) (input text : List ℕ) (v : Session) : Type 0 where

@@ -6,7 +6,7 @@ use Rattle.table.specs.Form.{within}
 use Rattle.memory.specs.Layout.{countsAt}
 use Rattle.views.specs.Memory.{clusterIn, standing}
 use Rattle.input.specs.Reading.{start}
-use Rattle.feed.specs.Sessions.{presentLine, readingIn}
+use Rattle.lines.specs.Sessions.{presentLine, readingIn}
 use Rattle.feed.specs.Whole.{zeros}
 use Rattle.feed.specs.Entry.{MeasuredIn}
 

@@ -6,14 +6,13 @@ use native.Mathlib.Omega.{arith}
 use native.Mathlib.Decide.{decLe}
 use lib.ListN.{length, take, drop}
 use lib.Seq.{take-append-seam}
-use Rattle.model.specs.Run.{run}
 use Rattle.input.specs.Reading.{Reading, start, fed, fedText, finished, finishedText}
 use Rattle.input.proofs.Parts.{fed-append, fedText-append}
 use Rattle.input.proofs.Whole.{printed-whole, state-whole}
-use Rattle.feed.specs.Sessions.{Session, readingIn}
+use Rattle.lines.specs.Sessions.{Session, readingIn}
 use Rattle.feed.specs.Whole.{zeros, Calls, begins, feeds, Whole}
 use Rattle.feed.specs.Entry.{MeasuredIn, SessionFed, finishRoom, Finished}
-use Rattle.feed.specs.Feeding.{lineRoom}
+use Rattle.lines.specs.Lines.{lineRoom}
 use Rattle.feed.proofs.Feeding.{fed-nothing}
 use Rattle.feed.proofs.Starting.{zeros-start, zeros-measured}
 

@@ -1,19 +1,18 @@
 -- What the public calls leave, over all the lent arrays. `reader` has three words: the lines read, the bytes held of the present line, and
 -- how many bytes the last part wrote. Words of zeros, with a tally of zeros, stand for the start (`zeros-start` of proofs/Starting.antt).
 use mathlib.Core.Path.{_≡_}
-use mathlib.Core.List.{List, [], _++_}
-use Prim.Native.Nat.{ℕ, _+_, _≤_, _<_}
+use mathlib.Core.List.{List, _++_}
+use Prim.Native.Nat.{ℕ, _≤_, _<_}
 use lib.ListN.{length, take, drop, getD}
-use Rattle.model.specs.Measures.{maxLines}
 use Rattle.model.specs.Print.{tallyText}
 use Rattle.limits.specs.Always.{Measured}
 use Rattle.views.specs.Memory.{Memory, memory, clusterIn}
 use Rattle.machine.specs.declared.Tally.{Tally}
 use Rattle.machine.specs.Meaning.{tallyIn}
-use Rattle.print.specs.Printed.{Printed}
 use Rattle.input.specs.Reading.{fed, fedText, finished, finishedText}
-use Rattle.feed.specs.Sessions.{held, Session, session, presentLine, readingIn}
-use Rattle.feed.specs.Feeding.{LineEnded, PartFed, lineRoom}
+use Rattle.lines.specs.Sessions.{held, Session, session, readingIn}
+use Rattle.lines.specs.Lines.{LastLine}
+use Rattle.parts.specs.Feeding.{PartFed}
 use Rattle.feed.specs.declared.Answer.{Answer}
 
 abbrev pub sessionIn : Memory → (answers reader line : List ℕ) → Tally → Session
@@ -47,20 +46,6 @@ Feeds counts heads slots copies works texts queue loads answers reader line t in
     (getD reader′ 2 0)
 
 -- ---- the end of the input
-
--- what follows the last line feed: nothing, or past the last line that is read, or one more line
-pub data LastLine (w : Session) : Session → List ℕ → Type 0 where
-  none : presentLine (w .held) ≡ [] → LastLine w w []
-  past : maxLines ≤ w .lines → LastLine w w []
-  one : (u : Session) (text : List ℕ) → 1 ≤ w .held .count → w .lines < maxLines → LineEnded w u text → LastLine w u text
-
--- the last line, told at the start of the output
-pub record LastTold (w : Session) (out : List ℕ) (w′ : Session) (out′ : List ℕ) (written : ℕ) : Type 0 where
-  pub text : List ℕ
-  pub ends : LastLine w w′ text
-  pub printed : Printed text out 0 out′ written
-  pub within : written ≤ lineRoom
-  pub size : length out′ ≡ length out
 
 -- room for what a line and the tally can print
 abbrev pub finishRoom : ℕ

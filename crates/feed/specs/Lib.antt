@@ -1,5 +1,3 @@
 -- What the contracts of `feed` cite.
-pub mod Sessions
-pub mod Feeding
 pub mod Entry
 pub mod Whole

@@ -7,7 +7,7 @@ use Rattle.model.specs.Lines.{initialState}
 use Rattle.model.specs.Run.{linesOf, stateAfter, run}
 use Rattle.views.specs.Memory.{memory}
 use Rattle.machine.specs.declared.Tally.{Tally}
-use Rattle.feed.specs.Sessions.{Session, readingIn}
+use Rattle.lines.specs.Sessions.{Session, readingIn}
 use Rattle.feed.specs.Entry.{sessionIn, SessionFed}
 
 -- ---- the start of a script: zeros in `counts`, `reader` and the tally

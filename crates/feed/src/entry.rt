@@ -1,9 +1,9 @@
-// The public calls: a part of the input, and its end, on lent arrays and with a lent tally.
+// The public calls: a part of the input, and its end, on lent arrays and with the tally by value.
 use crate::Answer;
-use crate::endings::finish_line;
-use crate::parts::feed_part;
+use lines::endings::finish_line;
 use machine::Tally;
 use output::put_end;
+use parts::feed_part;
 ghost use mathlib.Core.Path.{_≡_};
 ghost use lib.ListN.{length, set};
 ghost use Rattle.feed.specs.Entry.{Feeds, Finishes};
@@ -23,7 +23,7 @@ fn put_reader(reader: &mut [usize; 3], lines: usize, held: usize, written: usize
     reader[2] = written;
 }
 
-// A part of the input, with the tally by value.
+// A part of the input.
 pub fn feed_value(
     counts: &mut [u32; 8],
     heads: &mut [u32; 112],
@@ -70,7 +70,7 @@ pub fn feed_value(
     }
 }
 
-// The end of the input, with the tally by value: 0 where the output has no room, else how many bytes it wrote.
+// The end of the input: 0 where the output has no room, else how many bytes it wrote.
 pub fn finish_value(
     counts: &mut [u32; 8],
     heads: &mut [u32; 112],
@@ -117,85 +117,4 @@ pub fn finish_value(
         tally,
         taken: written,
     }
-}
-
-// A part of the input, for callers in other languages too, who lend arrays of these sizes, no two of them overlapping: how many
-// bytes of it were taken. Bytes are left only from a line feed on, where the output has no room for
-// what a line can print (1,024 bytes); the bytes written are counted in `reader[2]`.
-#[no_mangle]
-pub extern "C" fn script_feed(
-    counts: &mut [u32; 8],
-    heads: &mut [u32; 112],
-    slots: &mut [u32; 1792],
-    copies: &mut [u8; 7168],
-    works: &mut [u8; 7168],
-    texts: &mut [u8; 3584],
-    queue: &mut [u32; 512],
-    loads: &mut [u8; 8192],
-    answers: &mut [u32; 32],
-    reader: &mut [usize; 3],
-    line: &mut [u8; 121],
-    tally: &mut Tally,
-    input: &[u8],
-    out: &mut [u8],
-) -> usize
-    ensures { λ r. ⌜ Feeds (now (counts .entry)) (now (heads .entry)) (now (slots .entry)) (now (copies .entry)) (now (works .entry)) (now (texts .entry)) (now (queue .entry)) (now (loads .entry)) (now (answers .entry)) (now (reader .entry)) (now (line .entry)) (now (tally .entry)) (now (input .entry)) (now (out .entry)) (now (counts .exit)) (now (heads .exit)) (now (slots .exit)) (now (copies .exit)) (now (works .exit)) (now (texts .exit)) (now (queue .exit)) (now (loads .exit)) (now (answers .exit)) (now (reader .exit)) (now (line .exit)) (now (out .exit)) (record { tally = now (tally .exit); taken = r }) ⌝ }
-{
-    let a = feed_value(
-        counts,
-        heads,
-        slots,
-        copies,
-        works,
-        texts,
-        queue,
-        loads,
-        answers,
-        reader,
-        line,
-        *tally,
-        input,
-        out,
-    );
-    *tally = a.tally;
-    a.taken
-}
-
-// The end of the input, likewise: a last line without line feed, then the tally. It answers how many bytes it wrote, or 0 and does nothing
-// where the output has no room for them (1,088 bytes).
-#[no_mangle]
-pub extern "C" fn script_finish(
-    counts: &mut [u32; 8],
-    heads: &mut [u32; 112],
-    slots: &mut [u32; 1792],
-    copies: &mut [u8; 7168],
-    works: &mut [u8; 7168],
-    texts: &mut [u8; 3584],
-    queue: &mut [u32; 512],
-    loads: &mut [u8; 8192],
-    answers: &mut [u32; 32],
-    reader: &mut [usize; 3],
-    line: &mut [u8; 121],
-    tally: &mut Tally,
-    out: &mut [u8],
-) -> usize
-    ensures { λ r. ⌜ Finishes (now (counts .entry)) (now (heads .entry)) (now (slots .entry)) (now (copies .entry)) (now (works .entry)) (now (texts .entry)) (now (queue .entry)) (now (loads .entry)) (now (answers .entry)) (now (reader .entry)) (now (line .entry)) (now (tally .entry)) (now (out .entry)) (now (counts .exit)) (now (heads .exit)) (now (slots .exit)) (now (copies .exit)) (now (works .exit)) (now (texts .exit)) (now (queue .exit)) (now (loads .exit)) (now (answers .exit)) (now (reader .exit)) (now (line .exit)) (now (out .exit)) (record { tally = now (tally .exit); taken = r }) ⌝ }
-{
-    let a = finish_value(
-        counts,
-        heads,
-        slots,
-        copies,
-        works,
-        texts,
-        queue,
-        loads,
-        answers,
-        reader,
-        line,
-        *tally,
-        out,
-    );
-    *tally = a.tally;
-    a.taken
 }

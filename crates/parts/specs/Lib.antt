@@ -1,0 +1,2 @@
+-- What the contracts of `parts` cite.
+pub mod Feeding
