@@ -1,6 +1,5 @@
 // The cluster's memory in a few lent arrays of fixed size: records are loaded and stored by value. Where each field lies, those of
 // messages too, is said in specs/Layout.antt.
-use server::Version;
 
 pub mod counters;
 pub mod heads;

@@ -104,11 +104,6 @@ module _ (n : ℕ) (q l : List ℕ) (m : Message) (room : (n + 1) * messageSize 
   messages-appended v fits whole =
       both (blocks contentSize (n + 1) (refilled (set (blocks contentSize (n + 1) l) n v) l)) v (blocks-stored contentSize n l v whole (n + 1) (omega arith) fits ∙ set-last contentSize n l v)
 
-  -- without content: it has the bytes that lie at its place
-  pub messages-appended-bare : messagesAt (n + 1) (putMessage q n m) l ≡ messagesAt n q l ++ (record { header = m; content = contentAt l n } ∷ [])
-  unfolding messagesAt contentAt block blocks
-  messages-appended-bare = both (blocks contentSize (n + 1) l) (block contentSize n l) (blocks-split contentSize n 1 l)
-
 -- ---- one removed
 
 pub length-closedUp : (b n i : ℕ) (l : List ℕ) → i < n → n * b ≤ length l → length (closedUp b n i l) ≡ length l

@@ -1,6 +1,5 @@
 // The messages in flight, at most 64, in the order in which they were sent: their headers in 512 lent words, in blocks of eight,
 // and their contents in 8192 lent bytes, in blocks of 128.
-use blocks::copy_block_within_bytes;
 use blocks::remove_block_bytes;
 use blocks::remove_block_words;
 use memory::CONTENT;
@@ -83,16 +82,6 @@ pub fn append_message(
 {
     append_header(queue, n, m);
     blocks::copy_block_bytes(loads, CONTENT, n, from, j);
-}
-
-// Message i of n is appended once more.
-pub fn append_copy(queue: &mut [u32; 512], loads: &mut [u8; 8192], n: usize, i: usize)
-    requires { ⌜ (n < messageRoom) × (i < n) ⌝ }
-    ensures { λ _. ⌜ Appended (now (queue .entry)) (now (loads .entry)) n (messageAt (now (queue .entry)) i) (block contentSize i (now (loads .entry))) (now (queue .exit)) (now (loads .exit)) ⌝ }
-{
-    let m = load_message(queue, i);
-    append_header(queue, n, m);
-    copy_block_within_bytes(loads, CONTENT, n, i);
 }
 
 // Message i of n is removed: the later ones move down.
