@@ -35,6 +35,10 @@ pub record KeptFrom (h : Held) (input : List ℕ) (from : ℕ) (h′ : Held) (ta
 
 -- ---- its end
 
+-- room for what a line can print
+abbrev pub lineRoom : ℕ
+lineRoom = 1024
+
 -- the present line is read and performed
 pub record LineRun (m : Memory) (l : List ℕ) (t : Tally) (h : Held) (m′ : Memory) (l′ : List ℕ) (r : Stepped) : Type 0 where
   pub line : Line
@@ -57,10 +61,6 @@ pub record LineTold (w w′ : Session) (out : List ℕ) (at : ℕ) (out′ : Lis
   pub told : Told text out at out′ written
 
 -- ---- the end of the input
-
--- room for what a line can print
-abbrev pub lineRoom : ℕ
-lineRoom = 1024
 
 -- what follows the last line feed: nothing, or past the last line that is read, or one more line
 pub data LastLine (w : Session) : Session → List ℕ → Type 0 where

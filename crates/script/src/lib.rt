@@ -1,12 +1,12 @@
-// The public calls for callers in other languages: a part of a script, and its end, with the tally lent too.
+// The public calls for callers in other languages, who lend arrays of these sizes, no two of them overlapping, and the tally: a part of a
+// script, and its end.
 use feed::entry::feed_value;
 use feed::entry::finish_value;
 use machine::Tally;
 ghost use Rattle.feed.specs.Entry.{Feeds, Finishes};
 
-// A part of the input, for callers in other languages too, who lend arrays of these sizes, no two of them overlapping: how many
-// bytes of it were taken. Bytes are left only from a line feed on, where the output has no room for
-// what a line can print (1,024 bytes); the bytes written are counted in `reader[2]`.
+// A part of the input: how many bytes of it were taken. Bytes are left only from a line feed on, where the output has no room for what
+// a line can print (1,024 bytes); the bytes written are counted in `reader[2]`.
 #[no_mangle]
 pub extern "C" fn script_feed(
     counts: &mut [u32; 8],
@@ -46,7 +46,7 @@ pub extern "C" fn script_feed(
     a.taken
 }
 
-// The end of the input, likewise: a last line without line feed, then the tally. It answers how many bytes it wrote, or 0 and does nothing
+// The end of the input: a last line without line feed, then the tally. It answers how many bytes it wrote, or 0 and does nothing
 // where the output has no room for them (1,088 bytes).
 #[no_mangle]
 pub extern "C" fn script_finish(
