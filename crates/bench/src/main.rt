@@ -20,7 +20,7 @@ struct Place {
     ended: bool,
 }
 
-// No turn follows.
+// No turn follows: neither a part nor the end.
 fn stop(tally: Tally) -> Place
     ensures { λ r. ⌜ r .turns ≡ 0 ⌝ }
 {
@@ -29,7 +29,7 @@ fn stop(tally: Tally) -> Place
         end: 0,
         left: 0,
         turns: 0,
-        ended: true,
+        ended: false,
     }
 }
 
