@@ -6,7 +6,7 @@ use feed::entry::feed_value;
 use feed::entry::finish_value;
 use libc::STDIN_FILENO;
 use libc::STDOUT_FILENO;
-use machine::Tally;
+use runs::Tally;
 ghost use Prim.Native.Nat.{_<_, _≤_};
 ghost use mathlib.Core.Path.{_≡_};
 

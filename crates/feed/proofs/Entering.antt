@@ -7,8 +7,8 @@ use lib.ListN.{length, take, drop, getD, set, length-append, length-take}
 use Rattle.model.specs.Print.{tallyText}
 use Rattle.print.specs.Printed.{Printed}
 use Rattle.views.specs.Memory.{Memory, memory}
-use Rattle.machine.specs.declared.Tally.{Tally}
-use Rattle.machine.specs.Meaning.{tallyIn}
+use Rattle.runs.specs.declared.Tally.{Tally}
+use Rattle.runs.specs.Meaning.{tallyIn}
 use Rattle.input.specs.Reading.{lastRead, lastText, finished, finishedText}
 use Rattle.input.proofs.Whole.{last-none, last-some}
 use Rattle.lines.specs.Sessions.{Held, held, Session, session, presentLine, readingIn}

@@ -7,7 +7,7 @@ use lib.ListN.{length, length-append}
 use Rattle.model.specs.Run.{step}
 use Rattle.runs.specs.Meaning.{stateIn}
 use Rattle.runs.proofs.Reading.{step-read}
-use Rattle.machine.specs.Meaning.{tallyIn, outcomeIn}
+use Rattle.runs.specs.Meaning.{tallyIn, outcomeIn}
 use Rattle.input.specs.Reading.{Reading, reading, ended, endedText, fed, fedText}
 use Rattle.input.proofs.Parts.{fed-append, fedText-append, line-kept, line-silent, line-feed, past-kept, past-silent}
 use Rattle.lines.specs.Sessions.{held, Session, presentLine, readingIn}

@@ -7,8 +7,8 @@ use lib.ListN.{length, take, drop, getD}
 use Rattle.model.specs.Print.{tallyText}
 use Rattle.limits.specs.Always.{Measured}
 use Rattle.views.specs.Memory.{Memory, memory, clusterIn}
-use Rattle.machine.specs.declared.Tally.{Tally}
-use Rattle.machine.specs.Meaning.{tallyIn}
+use Rattle.runs.specs.declared.Tally.{Tally}
+use Rattle.runs.specs.Meaning.{tallyIn}
 use Rattle.input.specs.Reading.{fed, fedText, finished, finishedText}
 use Rattle.lines.specs.Sessions.{held, Session, session, readingIn}
 use Rattle.lines.specs.Lines.{LastLine}

@@ -6,7 +6,7 @@ use lib.ListN.{take, replicate}
 use Rattle.model.specs.Lines.{initialState}
 use Rattle.model.specs.Run.{linesOf, stateAfter, run}
 use Rattle.views.specs.Memory.{memory}
-use Rattle.machine.specs.declared.Tally.{Tally}
+use Rattle.runs.specs.declared.Tally.{Tally}
 use Rattle.lines.specs.Sessions.{Session, readingIn}
 use Rattle.feed.specs.Entry.{sessionIn, SessionFed}
 

@@ -1,9 +1,9 @@
 // The public calls: a part of the input, and its end, on lent arrays and with the tally by value.
 use crate::Answer;
 use lines::endings::finish_line;
-use machine::Tally;
 use output::put_end;
 use parts::feed_part;
+use runs::Tally;
 ghost use mathlib.Core.Path.{_≡_};
 ghost use lib.ListN.{length, set};
 ghost use Rattle.feed.specs.Entry.{Feeds, Finishes};

@@ -1,6 +1,6 @@
 // A script's bytes in parts of any size, and its end, on lent arrays. What a call leaves is said in specs/Entry.antt, and what all of
 // them print in specs/Whole.antt.
-use machine::Tally;
+use runs::Tally;
 
 pub mod entry;
 

@@ -8,7 +8,7 @@ use lib.ListN.{length}
 use Rattle.model.specs.Measures.{maxLines}
 use Rattle.print.proofs.Printing.{printed-none, printed-size}
 use Rattle.views.specs.Memory.{Memory}
-use Rattle.machine.specs.declared.Tally.{Tally}
+use Rattle.runs.specs.declared.Tally.{Tally}
 use Rattle.lines.specs.Sessions.{held, Session, session, presentLine}
 use Rattle.lines.specs.Lines.{LineTold, LastLine, none, past, one, LastTold}
 use Rattle.lines.specs.declared.Progress.{Progress}

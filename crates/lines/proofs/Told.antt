@@ -3,7 +3,7 @@ use mathlib.Core.Path.{sym, ap, subst}
 use mathlib.Core.List.{List}
 use Prim.Native.Nat.{ℕ, _≤_}
 use Rattle.views.specs.Memory.{Memory}
-use Rattle.machine.specs.declared.Tally.{Tally}
+use Rattle.runs.specs.declared.Tally.{Tally}
 use Rattle.machine.specs.declared.Stepped.{Stepped}
 use Rattle.output.proofs.Answered.{answers-at-most}
 use Rattle.lines.specs.Sessions.{Held}

@@ -9,9 +9,10 @@ use Rattle.model.specs.Print.{outcomeText}
 use Rattle.parse.specs.declared.Line.{Line}
 use Rattle.parse.specs.Meaning.{lineIn, keptOf}
 use Rattle.views.specs.Memory.{Memory}
-use Rattle.machine.specs.declared.Tally.{Tally}
+use Rattle.runs.specs.declared.Tally.{Tally}
 use Rattle.machine.specs.declared.Stepped.{Stepped}
-use Rattle.machine.specs.Meaning.{outcomeIn, Performed}
+use Rattle.runs.specs.Meaning.{outcomeIn}
+use Rattle.machine.specs.Meaning.{Performed}
 use Rattle.print.specs.Printed.{Printed}
 use Rattle.output.specs.Told.{Told}
 use Rattle.input.specs.Reading.{NoFeed}

@@ -6,8 +6,8 @@ use lib.Dec.{ltb}
 use lib.ListN.{take, set}
 use Rattle.views.specs.Memory.{Memory}
 use Rattle.runs.specs.Meaning.{stateIn}
-use Rattle.machine.specs.declared.Tally.{Tally}
-use Rattle.machine.specs.Meaning.{tallyIn}
+use Rattle.runs.specs.declared.Tally.{Tally}
+use Rattle.runs.specs.Meaning.{tallyIn}
 use Rattle.input.specs.Reading.{Reading, reading}
 
 -- the bytes of the present line: the first `count` of an array that has room for one more than a line may have

@@ -1,7 +1,7 @@
 // The end of the input: a last line without line feed.
 use crate::Progress;
 use crate::running::end_line;
-use machine::Tally;
+use runs::Tally;
 ghost use mathlib.Core.Path.{_≡_};
 ghost use mathlib.Core.Bool.{false};
 ghost use Prim.Native.Nat.{_≤_};

@@ -1,6 +1,6 @@
 // One line of a script: its bytes are kept until it ends, at a line feed or at the end of the input; then it is read, run and told.
 // What that leaves is said in specs/Lines.antt.
-use machine::Tally;
+use runs::Tally;
 
 pub mod endings;
 pub mod keeping;

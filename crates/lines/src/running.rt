@@ -2,9 +2,9 @@
 use crate::Ending;
 use crate::keeping::read_line;
 use machine::Stepped;
-use machine::Tally;
 use machine::entry::step;
 use output::put_outcome;
+use runs::Tally;
 ghost use Prim.Native.Nat.{_≤_, _<_, _+_};
 ghost use lib.ListN.{length};
 ghost use Rattle.views.specs.Memory.{memory};

@@ -4,21 +4,15 @@ use mathlib.Core.Bool.{true, false}
 use mathlib.Core.List.{List}
 use Prim.Native.Nat.{ℕ, _+_, _%_, _^_}
 use lib.Dec.{eqb}
-use Rattle.entries.specs.Decoded.{tableIn, valueBytes}
-use Rattle.model.specs.Lines as lines
 use Rattle.limits.specs.Always.{Measured}
 use Rattle.views.specs.Memory.{Memory, clusterIn}
-use Rattle.views.specs.Changes.{answersAt}
 use Rattle.parse.specs.declared.Line.{Line}
 use Rattle.parse.specs.Meaning.{lineIn}
 use Rattle.runs.specs.declared.Report.{Report}
-use Rattle.runs.specs.Meaning.{stateIn, performed}
-use Rattle.machine.specs.declared.Tally.{Tally}
+use Rattle.runs.specs.declared.Tally.{Tally}
+use Rattle.runs.specs.Meaning.{stateIn, tallyIn, performed, outcomeIn}
 use Rattle.machine.specs.declared.Stepped.{Stepped}
 use Rattle.machine.specs.Contracts.{RanLine}
-
-abbrev pub tallyIn : Tally → lines.Tally
-tallyIn t = record { sent = t .sent; copied = t .copied; delivered = t .delivered; lost = t .lost; inFlight = t .flight }
 
 -- the tally after a line, number by number; the counts wrap at 2 ^ 32
 unfoldable pub tallyAfter : Tally → Report → Tally
@@ -33,14 +27,6 @@ tallyAfter t r =
             flight = r .messages;
           }
       | false ↦ t
-    ]
-
--- the refusal, or the answers, with the data of the effect that was asked for
-unfoldable pub outcomeIn : Report → List ℕ → lines.Outcome
-outcomeIn r l =
-    elim (eqb (r .refusal) 0) [
-      | true ↦ lines.printed (answersAt (r .answers) l (valueBytes (r .effect .value)) (tableIn (r .effect .table)))
-      | false ↦ lines.refusal (r .refusal)
     ]
 
 -- a line: every word and byte that it leaves, the tally, and, for every state within the measures of document 01, the definition's step,

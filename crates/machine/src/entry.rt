@@ -1,9 +1,9 @@
 // One line with the tally, by value: what it leaves, and what that stands for.
 use crate::Stepped;
-use crate::Tally;
 use crate::lines::run_line;
 use parse::Line;
 use runs::Report;
+use runs::Tally;
 use std::num::wrapping_add_u32;
 ghost use mathlib.Core.Path.{_≡_};
 ghost use lib.ListN.{length};

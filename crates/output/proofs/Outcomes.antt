@@ -10,7 +10,7 @@ use Rattle.model.specs.Lines.{refusal, printed}
 use Rattle.model.specs.Print.{answerTexts, outcomeText}
 use Rattle.views.specs.Changes.{answersAt}
 use Rattle.runs.specs.declared.Report.{Report}
-use Rattle.machine.specs.Meaning.{outcomeIn}
+use Rattle.runs.specs.Meaning.{outcomeIn}
 use Rattle.print.specs.Printed.{Printed}
 use Rattle.print.proofs.Room.{refusal-room}
 use Rattle.print.proofs.Printing.{printed-none}

@@ -1,13 +1,13 @@
 // What is printed for a line, from the machine's report of it (document 01, 'Script lines', Output).
 use crate::answers::put_answers;
-use machine::Tally;
 use print::lines::put_refusal;
 use print::lines::put_tally;
 use runs::Report;
+use runs::Tally;
 ghost use Prim.Native.Nat.{_≤_, _+_};
 ghost use lib.ListN.{length};
 ghost use Rattle.model.specs.Print.{outcomeText, tallyText};
-ghost use Rattle.machine.specs.Meaning.{outcomeIn, tallyIn};
+ghost use Rattle.runs.specs.Meaning.{outcomeIn, tallyIn};
 ghost use Rattle.print.specs.Printed.{Printed};
 ghost use Rattle.output.specs.Told.{Told};
 

@@ -11,7 +11,7 @@ use Rattle.model.specs.Measures.{maxLines}
 use Rattle.print.specs.Printed.{Printed}
 use Rattle.print.proofs.Printing.{printed-none}
 use Rattle.views.specs.Memory.{Memory}
-use Rattle.machine.specs.declared.Tally.{Tally}
+use Rattle.runs.specs.declared.Tally.{Tally}
 use Rattle.lines.specs.Sessions.{Held, held, Session, session}
 use Rattle.lines.specs.Lines.{KeptFrom}
 use Rattle.parts.specs.Feeding.{Stops, Fed, nothing, bytes, line, past, PartFed, AtFeed, waits, ends, Advanced}

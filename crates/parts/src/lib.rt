@@ -4,7 +4,7 @@ use lines::Kept;
 use lines::Progress;
 use lines::keeping::keep;
 use lines::running::end_line;
-use machine::Tally;
+use runs::Tally;
 ghost use Prim.Native.Nat.{_≤_, _<_, _+_};
 ghost use mathlib.Core.Bool.{true};
 ghost use mathlib.Core.Path.{_≡_};

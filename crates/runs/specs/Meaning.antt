@@ -1,8 +1,9 @@
 -- What the memory and a line's run stand for in the definitions of document 01.
 use mathlib.Core.Path.{_≡_}
 use mathlib.Core.Bool.{true, false}
+use mathlib.Core.List.{List}
 use mathlib.Core.Option.{Option, none, some}
-use Prim.Native.Nat.{_+_}
+use Prim.Native.Nat.{ℕ, _+_}
 use lib.Dec.{eqb}
 use lib.ListN.{length}
 use Rattle.entries.specs.Decoded.{tableIn, valueBytes}
@@ -11,10 +12,15 @@ use Rattle.server.specs.declared.Effect.{Effect}
 use Rattle.views.specs.Memory.{Memory, clusterIn}
 use Rattle.views.specs.Changes.{answersAt}
 use Rattle.parse.specs.declared.Line.{Line}
+use Rattle.runs.specs.declared.Report.{Report}
+use Rattle.runs.specs.declared.Tally.{Tally}
 use Rattle.runs.specs.Runs.{Ran}
 
 abbrev pub stateIn : Memory → lines.Tally → lines.State
 stateIn m t = record { cluster = clusterIn m; tally = t }
+
+abbrev pub tallyIn : Tally → lines.Tally
+tallyIn t = record { sent = t .sent; copied = t .copied; delivered = t .delivered; lost = t .lost; inFlight = t .flight }
 
 -- a line that was read, or one that is not of the forms of document 01
 unfoldable pub performed : lines.State → Option lines.Line → lines.LineResult
@@ -42,6 +48,14 @@ resultOf t x f =
             outcome = lines.printed (answersAt (x .count) (x .answers) (valueBytes (f .value)) (tableIn (f .table)));
           }
       | false ↦ lines.refuse (stateIn (x .memory) t) (x .refusal)
+    ]
+
+-- what a line tells: the refusal, or the answers, with the data of the effect that was asked for
+unfoldable pub outcomeIn : Report → List ℕ → lines.Outcome
+outcomeIn r l =
+    elim (eqb (r .refusal) 0) [
+      | true ↦ lines.printed (answersAt (r .answers) l (valueBytes (r .effect .value)) (tableIn (r .effect .table)))
+      | false ↦ lines.refusal (r .refusal)
     ]
 
 -- a line whose key and values are arrays of eight, sixteen and sixteen bytes

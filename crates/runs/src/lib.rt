@@ -13,3 +13,13 @@ pub struct Report {
     pub lost: u32,
     pub messages: u32,
 }
+
+// The tally of messages: sent, copied, delivered, lost, in flight.
+#[repr(C)]
+pub struct Tally {
+    pub sent: u32,
+    pub copied: u32,
+    pub delivered: u32,
+    pub lost: u32,
+    pub flight: u32,
+}

@@ -2,7 +2,7 @@
 // script, and its end.
 use feed::entry::feed_value;
 use feed::entry::finish_value;
-use machine::Tally;
+use runs::Tally;
 ghost use Rattle.feed.specs.Entry.{Feeds, Finishes};
 
 // A part of the input: how many bytes of it were taken. Bytes are left only from a line feed on, where the output has no room for what

@@ -1,6 +1,6 @@
 -- `put_end` meets its contract: five numbers of at most ten figures.
 use native.Mathlib.Omega.{arith}
-use Rattle.machine.specs.Meaning.{tallyIn}
+use Rattle.runs.specs.Meaning.{tallyIn}
 use Rattle.print.proofs.Room.{tally-room}
 use Rattle.output.proofs.Outcomes.{below}
 use borrow.Author.Needs.{needs}

@@ -42,10 +42,10 @@ use denote.Triple.Table.{entered, cited}
 use denote.Triple.Walked.{says, Stays, stay-ref, stay-dropped, gave-ref, gave-slice, walkOf, AllGo, goes-ref, goes-dropped, goes-gave-ref, goes-gave-slice, Walks, ends-at, walked, walk-meets}
 use denote.Exit.{yes}
 use Rattle.feed.specs.Entry.{Feeds}
-use Rattle.machine.specs.declared.Tally.{Tally}
+use Rattle.runs.specs.declared.Tally.{Tally}
 use Rattle.feed.specs.declared.Answer.{Answer}
-use Rattle.machine.proofs.Tally as T
-use Rattle.machine.proofs.Tally.Laws as T′
+use Rattle.runs.proofs.Tally as T
+use Rattle.runs.proofs.Tally.Laws as T′
 use Rattle.feed.proofs.Answer as U
 use Rattle.feed.proofs.Answer.Laws as U′
 use Rattle.feed.proofs.entry.feed_value as callee

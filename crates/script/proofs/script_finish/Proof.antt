@@ -41,10 +41,10 @@ use denote.Triple.Spec.{Meets, tripleOf}
 use denote.Triple.Table.{entered, cited}
 use denote.Triple.Walked.{says, Stays, stay-ref, gave-ref, gave-slice, walkOf, AllGo, goes-ref, goes-gave-ref, goes-gave-slice, Walks, ends-at, walked, walk-meets}
 use Rattle.feed.specs.Entry.{Finishes}
-use Rattle.machine.specs.declared.Tally.{Tally}
+use Rattle.runs.specs.declared.Tally.{Tally}
 use Rattle.feed.specs.declared.Answer.{Answer}
-use Rattle.machine.proofs.Tally as T
-use Rattle.machine.proofs.Tally.Laws as T′
+use Rattle.runs.proofs.Tally as T
+use Rattle.runs.proofs.Tally.Laws as T′
 use Rattle.feed.proofs.Answer as U
 use Rattle.feed.proofs.Answer.Laws as U′
 use Rattle.feed.proofs.entry.finish_value as callee
