@@ -1,6 +1,6 @@
 // The answers of a step in 32 lent words, in blocks of four: the call's number, its result and its rounds.
-use memory::slots::load_call;
 use moves::Move;
+use records::slots::load_call;
 use rounds::calls::ended;
 use server::Answer;
 use server::Call;

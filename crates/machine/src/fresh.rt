@@ -1,6 +1,6 @@
 // A new cluster: all numbers 0 and all copies empty.
 use memory::Counts;
-use memory::counters::store_counts;
+use records::counters::store_counts;
 ghost use mathlib.Core.Path.{_≡_};
 ghost use lib.ListN.{length, replicate};
 ghost use Rattle.memory.specs.Layout.{putCounts};

@@ -1,10 +1,5 @@
-// The cluster's memory in a few lent arrays of fixed size: records are loaded and stored by value. Where each field lies, those of
-// messages too, is said in specs/Layout.antt.
-
-pub mod counters;
-pub mod heads;
-pub mod slots;
-pub mod words;
+// The cluster's memory in a few lent arrays of fixed size. Where each field of its records and messages lies is said in
+// specs/Layout.antt; proofs/ has the laws of it.
 
 // Words of a head's block, of a slot's and of a message's header.
 pub const HEAD: usize = 16;

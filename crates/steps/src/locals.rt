@@ -1,15 +1,15 @@
 // A server's head and one of its slots: stored together, and cleared when leading ends.
 use crate::contents::keep_copy;
-use memory::heads::store_head;
-use memory::slots::load_call;
-use memory::slots::load_round;
-use memory::slots::store_call;
-use memory::slots::store_round;
-use memory::slots::store_version;
 use moves::Local;
 use moves::Move;
 use moves::nothing::no_call;
 use moves::nothing::no_round;
+use records::heads::store_head;
+use records::slots::load_call;
+use records::slots::load_round;
+use records::slots::store_call;
+use records::slots::store_round;
+use records::slots::store_version;
 use server::Call;
 use server::Round;
 use server::Version;

@@ -1,0 +1,43 @@
+-- `words::store_texts` meets its contract: three copies, one behind another.
+use Rattle.memory.specs.Layout.{putTexts}
+use borrow.Author.Needs.{needs}
+use Rattle.records.proofs.words.store_texts.Statement.{statement}
+use Rattle.records.proofs.words.store_texts.Tie as tie
+
+mul-b : tie.Need-mul-b
+mul-b c = search needs
+
+add-put-key : tie.Need-add-put-key
+add-put-key c = search needs
+
+put-key-requires : tie.Need-put-key-requires
+put-key-requires c κs = search needs
+
+add-put-value : tie.Need-add-put-value
+add-put-value c = search needs
+
+put-value-requires : tie.Need-put-value-requires
+put-value-requires c κs = search needs
+
+add-put-value-2 : tie.Need-add-put-value-2
+add-put-value-2 c = search needs
+
+put-value-requires-2 : tie.Need-put-value-requires-2
+put-value-requires-2 c κs = search needs
+
+returns : tie.Need-returns
+unfolding putTexts
+returns c = rw (c .put-value2 .ensures, c .before .before .before .put-value .ensures, c .before .before .before .before .before .before .put-key .ensures)
+
+pub store-texts-spec : {M : Type 1} → statement M
+store-texts-spec =
+    tie.close
+    (tie.spec
+    mul-b
+    add-put-key
+    put-key-requires
+    add-put-value
+    put-value-requires
+    add-put-value-2
+    put-value-requires-2
+    returns)
