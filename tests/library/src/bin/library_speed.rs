@@ -15,7 +15,7 @@ use reference::scripts::{generate, Kind};
 use std::time::Instant;
 
 const LINES: usize = 1_000_000;
-const REPETITIONS: usize = 11;
+const REPETITIONS: usize = 41;
 const BLOCK: usize = 65_536;
 
 fn library(text: &[u8]) -> Vec<u8> {

@@ -21,7 +21,7 @@ use std::process::Command;
 use std::time::{Duration, Instant};
 
 const LINES: usize = 1_000_000;
-const REPETITIONS: usize = 11;
+const REPETITIONS: usize = 41;
 
 /// The independent bench, built beside this program.
 fn independent() -> PathBuf {
