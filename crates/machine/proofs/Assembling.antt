@@ -10,15 +10,16 @@ use Rattle.server.specs.declared.Effect.{Effect}
 use Rattle.memory.specs.declared.Counts.{Counts}
 use Rattle.moves.specs.declared.Move.{Move}
 use Rattle.moves.specs.Moves.{chosen}
-use Rattle.views.specs.Memory.{memory, slotOf}
+use Rattle.views.specs.Memory.{Memory, memory, slotOf}
 use Rattle.views.specs.Changes.{filledFrom, moved}
 use Rattle.views.specs.Queue.{flight, withoutMessage, sendCount}
 use Rattle.flight.specs.Flown.{Flown}
 use Rattle.plans.specs.declared.Step.{Step}
 use Rattle.plans.specs.Plans.{placesLeft}
-use Rattle.runs.specs.Runs.{ran, carriedRun}
+use Rattle.runs.specs.declared.Report.{Report}
+use Rattle.runs.specs.Runs.{Ran, ran, carriedRun}
 use Rattle.machine.specs.declared.Told.{Told}
-use Rattle.machine.specs.Contracts.{CarriedOn, carriedReport}
+use Rattle.machine.specs.Contracts.{CarriedOn, carriedReport, CarriedOut, Reported}
 use borrow.Author.Tests.{lt-leb}
 use native.Mathlib.Decide.{decLe}
 
@@ -67,3 +68,7 @@ carried-out counts heads slots copies works texts queue loads l c x v f made cou
       m .copy,
       w,
     )
+
+-- what is reported of a move that was carried out
+pub reported : {y : Ran} {x : Step} {m : Memory} {l : List ℕ} {t : Told} (f : Effect) {r : Report} → CarriedOut y x m l t → r ≡ carriedReport t x f → Reported y f m l r
+reported {m = m} {l = l} f h e = record { is = ap (ran m l) e ∙ h .is f; effect = ap (λ r. r .effect) e }

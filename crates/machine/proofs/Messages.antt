@@ -2,7 +2,7 @@
 use mathlib.Core.Path.{_≡_, refl, sym, ap, _∙_, subst}
 use mathlib.Core.Logic.{_≢_}
 use mathlib.Core.Bool.{Bool, true, false, true≢false}
-use mathlib.Core.List.{List, []}
+use mathlib.Core.List.{List}
 use Prim.Native.Nat.{ℕ, _≤_, _<_}
 use native.Mathlib.Nat.{min-le-left}
 use native.Mathlib.Omega.{arith}
@@ -24,7 +24,7 @@ use Rattle.plans.specs.Arrays.{Measured, askedAt}
 use Rattle.plans.proofs.Judging.{unless-none, unless-some}
 use Rattle.runs.specs.declared.Report.{Report}
 use Rattle.runs.specs.Runs.{Ran, ran, refusedRun, carriedRun, taken, executed}
-use Rattle.machine.specs.Contracts.{Losable, Carriable, Handable, Lost, Reported, PlainlyReported, handledRun, HandledPlainly, HandedListed, HandRan}
+use Rattle.machine.specs.Contracts.{Losable, Carriable, Handable, Lost, Reported, handledRun, HandedListed, HandRan}
 use Rattle.machine.proofs.Executables.{stays}
 use Rattle.machine.proofs.Executing.{executes-lost}
 
@@ -64,23 +64,6 @@ module _ (m : Memory) (l : List ℕ) (c : Counts) (x : Step) (y : Message) (to :
       → r ≡ refusal 12 f → ran m l r ≡ handledRun m l c x y to f
   unfolding refusedRun
   unroomy f v b r e h t q = ap (ran m l) q ∙ refuses-plan f v (sym h ∙ t) ∙ ap (λ v. executed m l c (roomy c (movePlan x v f))) e
-
-  pub handled-plainly : (v : Move) (b : Bool) {m′ : Memory} {l′ : List ℕ} {r : Report} → v ≡ handledMove (c .servers) (x .server) 0 y to → b ≡ placesLeft c (x .removes) (v .sends) → b ≡ true
-      → PlainlyReported (carriedRun m l c x v []) m′ l′ r → HandledPlainly m l c x y to m′ l′ r
-  handled-plainly v b {m′} {l′} {r} e h t q = record {
-    is =
-        handled (r .effect) v b (ran m′ l′ r) (e ∙ ap (λ n. handledMove (c .servers) (x .server) n y to) (sym (q .result))) h t
-        (q .is ∙ ap (carriedRun m l c x v) (sym (q .table)));
-  }
-
-  pub unroomy-plainly : (f : Effect) (v : Move) (b : Bool) (r : Report) → f .result ≡ 0 → v ≡ handledMove (c .servers) (x .server) 0 y to → b ≡ placesLeft c (x .removes) (v .sends) → b ≡ false
-      → r ≡ refusal 12 f → HandledPlainly m l c x y to m l r
-  unroomy-plainly f v b r z e h t q =
-      let same : r .effect ≡ f = ap (λ r. r .effect) q in
-      record {
-        is =
-            unroomy f v b r (e ∙ ap (λ n. handledMove (c .servers) (x .server) n y to) (sym z)) h t q ∙ ap (handledRun m l c x y to) (sym same);
-      }
 
   -- to a server that is not gone a message is handed over
   handed-to : (f : Effect) (z : Ran) → gone c x to ≡ false → z ≡ handledRun m l c x y to f → z ≡ executed m l c (handPlan c x y to f)
@@ -128,14 +111,11 @@ module _ (counts heads slots copies works texts queue loads l : List ℕ) (c : C
           ∙ ap (askedAt before) step-is;
     }
 
-    pub listed-asked : (f : Effect) {m′ : Memory} {l′ : List ℕ} {r : Report} → gone c x to ≡ false → effectIn f ≡ askedAt before x
+    -- to a server that is there it is handed over
+    pub listed-handed : (f : Effect) {m′ : Memory} {l′ : List ℕ} {r : Report} → gone c x to ≡ false → (readsTable (c .servers) y to ≡ true → effectIn f ≡ askedAt before x)
         → Reported (handledRun before l c x y to f) f m′ l′ r → HandedListed before l c i removes m′ l′ r
-    listed-asked f {r = r} g a q =
-        listed (handed-to before l c x y to (r .effect) _ g (q .is ∙ ap (handledRun before l c x y to) (sym (q .effect)))) (λ _ _. ap effectIn (q .effect) ∙ a)
-
-    pub listed-plain : {m′ : Memory} {l′ : List ℕ} {r : Report} → gone c x to ≡ false → readsTable (c .servers) y to ≡ false
-        → HandledPlainly before l c x y to m′ l′ r → HandedListed before l c i removes m′ l′ r
-    listed-plain {r = r} g n q = listed (handed-to before l c x y to (r .effect) _ g (q .is)) (λ _ t. absurd (true≢false (sym t ∙ n)))
+    listed-handed f {r = r} g a q =
+        listed (handed-to before l c x y to (r .effect) _ g (q .is ∙ ap (handledRun before l c x y to) (sym (q .effect)))) (λ _ t. ap effectIn (q .effect) ∙ a t)
 
     lost-plan : (f : Effect) → gone c (messageStep c i removes y) to ≡ true → handPlan c (messageStep c i removes y) y to f ≡ lostPlan c i removes f
     unfolding handPlan

@@ -66,11 +66,9 @@ pub record Reported (x : Ran) (f : Effect) (m : Memory) (answers : List ℕ) (r 
   pub is : ran m answers r ≡ x
   pub effect : r .effect ≡ f
 
--- the run x of a line that asks for no effect: what stands for it has result 0 and a table of no entries
-pub record PlainlyReported (x : Ran) (m : Memory) (answers : List ℕ) (r : Report) : Type 0 where
-  pub is : ran m answers r ≡ x
-  pub result : r .effect .result ≡ 0
-  pub table : tableIn (r .effect .table) ≡ []
+-- the run y, as memory, answers and what the move of step x told; its report may have any effect beside
+pub record CarriedOut (y : Ran) (x : Step) (m : Memory) (answers : List ℕ) (r : Told) : Type 0 where
+  pub is : (f : Effect) → ran m answers (carriedReport r x f) ≡ y
 
 -- a message is lost: what is reported, and the counts and messages
 pub record Lost (counts queue loads : List ℕ) (c : Counts) (x : Step) (f : Effect) (counts′ queue′ loads′ : List ℕ) (r : Report) : Type 0 where
@@ -106,10 +104,6 @@ pub record Handable (c : Counts) (x : Step) : Type 0 where
 -- the run of message y at its receiver, with the effect f
 abbrev pub handledRun : Memory → List ℕ → Counts → Step → Message → Local → Effect → Ran
 handledRun m l c x y to f = executed m l c (roomy c (movePlan x (handledMove (c .servers) (x .server) (f .result) y to) f))
-
--- where it asks for no effect
-pub record HandledPlainly (m : Memory) (l : List ℕ) (c : Counts) (x : Step) (y : Message) (to : Local) (m′ : Memory) (l′ : List ℕ) (r : Report) : Type 0 where
-  pub is : ran m′ l′ r ≡ handledRun m l c x y to (r .effect)
 
 -- message i of the list, with the effect where it asks for one
 pub record HandedListed (m : Memory) (l : List ℕ) (c : Counts) (i : ℕ) (removes : Bool) (m′ : Memory) (l′ : List ℕ) (r : Report) : Type 0 where

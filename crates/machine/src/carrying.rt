@@ -1,6 +1,7 @@
 // A plan is carried out: the server's arrays, then the messages, then the counts.
 use crate::Told;
 use answers::answer;
+use entries::Decoded;
 use flight::remove;
 use flight::send;
 use memory::Counts;
@@ -8,25 +9,22 @@ use moves::Move;
 use plans::Plan;
 use plans::Step;
 use plans::limits::send_count;
-use plans::parts::no_effect;
 use records::counters::store_counts;
 use records::words::store_words;
 use runs::Report;
 use server::Effect;
 use std::num::wrapping_add_u32;
-use steps::contents::fill_plain;
 use steps::contents::fill_work;
 use steps::locals::move_server;
 ghost use mathlib.Core.Path.{_≡_};
 ghost use mathlib.Core.Bool.{true};
-ghost use mathlib.Core.List.{[]};
 ghost use Prim.Native.Nat.{_<_, _≤_, _+_, _*_};
 ghost use Rattle.entries.specs.Decoded.{tableIn};
 ghost use Rattle.views.specs.Memory.{memory, slotOf};
 ghost use Rattle.views.specs.Queue.{flight, withoutMessage, sent};
 ghost use Rattle.flight.specs.Flown.{Flown};
 ghost use Rattle.runs.specs.Runs.{carriedRun, executed, nextCounts};
-ghost use Rattle.machine.specs.Contracts.{Carriable, Losable, ServerChanged, CarriedOn, carriedReport, Reported, PlainlyReported, Lost, Took, Executable};
+ghost use Rattle.machine.specs.Contracts.{Carriable, Losable, ServerChanged, CarriedOn, carriedReport, CarriedOut, Reported, Lost, Took, Executable};
 
 // A line that is refused with r, or one that does nothing else (0).
 pub fn refused(r: u32, f: Effect) -> Report
@@ -173,7 +171,7 @@ fn carry_on(
 }
 
 // What a move that is carried out came to.
-fn report_of(t: Told, x: Step, f: Effect) -> Report
+pub fn report_of(t: Told, x: Step, f: Effect) -> Report
     ensures { λ r. ⌜ r ≡ carriedReport t x f ⌝ }
 {
     Report {
@@ -188,7 +186,7 @@ fn report_of(t: Told, x: Step, f: Effect) -> Report
     }
 }
 
-// A move is carried out.
+// A move is carried out; `table` is the new one, where the move writes one.
 pub fn carry_out(
     counts: &mut [u32; 8],
     heads: &mut [u32; 112],
@@ -202,22 +200,14 @@ pub fn carry_out(
     c: Counts,
     x: Step,
     v: Move,
-    f: Effect,
-) -> Report
+    table: Decoded,
+) -> Told
     requires { ⌜ Carriable c x v ⌝ }
-    ensures { λ r. ⌜ Reported (carriedRun (memory (now (counts .entry)) (now (heads .entry)) (now (slots .entry)) (now (copies .entry)) (now (works .entry)) (now (texts .entry)) (now (queue .entry)) (now (loads .entry))) (now (answers .entry)) c x v (tableIn (f .table))) f (memory (now (counts .exit)) (now (heads .exit)) (now (slots .exit)) (now (copies .exit)) (now (works .exit)) (now (texts .entry)) (now (queue .exit)) (now (loads .exit))) (now (answers .exit)) r ⌝ }
+    ensures { λ r. ⌜ CarriedOut (carriedRun (memory (now (counts .entry)) (now (heads .entry)) (now (slots .entry)) (now (copies .entry)) (now (works .entry)) (now (texts .entry)) (now (queue .entry)) (now (loads .entry))) (now (answers .entry)) c x v (tableIn table)) x (memory (now (counts .exit)) (now (heads .exit)) (now (slots .exit)) (now (copies .exit)) (now (works .exit)) (now (texts .entry)) (now (queue .exit)) (now (loads .exit))) (now (answers .exit)) r ⌝ }
 {
     let k = x.server as usize * 8 + x.bucket as usize;
-    fill_work(
-        works,
-        copies,
-        loads,
-        k,
-        x.message as usize,
-        v.fills,
-        f.table,
-    );
-    let t = carry_on(
+    fill_work(works, copies, loads, k, x.message as usize, v.fills, table);
+    carry_on(
         counts,
         heads,
         slots,
@@ -229,44 +219,7 @@ pub fn carry_out(
         c,
         x,
         v,
-    );
-    report_of(t, x, f)
-}
-
-// The same where no call's effect was asked for: no table is handed on.
-pub fn carry_plain(
-    counts: &mut [u32; 8],
-    heads: &mut [u32; 112],
-    slots: &mut [u32; 1792],
-    copies: &mut [u8; 7168],
-    works: &mut [u8; 7168],
-    texts: &[u8; 3584],
-    queue: &mut [u32; 512],
-    loads: &mut [u8; 8192],
-    answers: &mut [u32; 32],
-    c: Counts,
-    x: Step,
-    v: Move,
-) -> Report
-    requires { ⌜ Carriable c x v ⌝ }
-    ensures { λ r. ⌜ PlainlyReported (carriedRun (memory (now (counts .entry)) (now (heads .entry)) (now (slots .entry)) (now (copies .entry)) (now (works .entry)) (now (texts .entry)) (now (queue .entry)) (now (loads .entry))) (now (answers .entry)) c x v []) (memory (now (counts .exit)) (now (heads .exit)) (now (slots .exit)) (now (copies .exit)) (now (works .exit)) (now (texts .entry)) (now (queue .exit)) (now (loads .exit))) (now (answers .exit)) r ⌝ }
-{
-    let k = x.server as usize * 8 + x.bucket as usize;
-    fill_plain(works, copies, loads, k, x.message as usize, v.fills);
-    let t = carry_on(
-        counts,
-        heads,
-        slots,
-        copies,
-        works,
-        queue,
-        loads,
-        answers,
-        c,
-        x,
-        v,
-    );
-    report_of(t, x, no_effect())
+    )
 }
 
 // A message is lost.
@@ -339,7 +292,7 @@ pub fn execute(
             return lose(counts, queue, loads, c, x, f);
         }
         take(slots, texts, p);
-        return carry_out(
+        let t = carry_out(
             counts,
             heads,
             slots,
@@ -352,8 +305,9 @@ pub fn execute(
             c,
             x,
             p.next,
-            f,
+            f.table,
         );
+        return report_of(t, x, f);
     }
     refused(p.refusal, f)
 }

@@ -1,17 +1,15 @@
-// Messages that are handed over: judged, and carried out at once. Most lines are such, so no plan is made of them, and the effect of
-// a call is made and handed on only where a message asks for it.
+// Messages that are handed over: judged, and carried out at once. Most lines are such, so no plan is made of them.
 use crate::carrying::carry_out;
-use crate::carrying::carry_plain;
 use crate::carrying::lose;
 use crate::carrying::refused;
+use crate::carrying::report_of;
 use crate::numbers::standing;
 use memory::Counts;
 use messages::load_message;
 use moves::Local;
 use moves::handling::handled_move;
-use moves::handling::reads_table;
 use plans::Step;
-use plans::deliveries::hand_effect;
+use plans::deliveries::asked_effect;
 use plans::deliveries::is_gone;
 use plans::deliveries::message_refusal;
 use plans::deliveries::message_step;
@@ -25,10 +23,10 @@ use server::Message;
 ghost use Prim.Native.Nat.{_<_};
 ghost use Rattle.views.specs.Memory.{memory};
 ghost use Rattle.plans.specs.Arrays.{Measured};
-ghost use Rattle.machine.specs.Contracts.{Handable, Reported, handledRun, HandledPlainly, HandedListed, HandRan};
+ghost use Rattle.machine.specs.Contracts.{Handable, Reported, handledRun, HandedListed, HandRan};
 
-// A message whose call's effect f is asked for.
-fn hand_asked(
+// A message to a server that is there; f is the effect that it asks for, if it does.
+fn hand_to(
     counts: &mut [u32; 8],
     heads: &mut [u32; 112],
     slots: &mut [u32; 1792],
@@ -49,7 +47,7 @@ fn hand_asked(
 {
     let v = handled_move(c.servers, x.server, f.result, m, l);
     if places_left(c, x.removes, v.sends) {
-        return carry_out(
+        let t = carry_out(
             counts,
             heads,
             slots,
@@ -62,49 +60,11 @@ fn hand_asked(
             c,
             x,
             v,
-            f,
+            f.table,
         );
+        return report_of(t, x, f);
     }
     refused(12, f)
-}
-
-// A message that asks for no effect.
-fn hand_plain(
-    counts: &mut [u32; 8],
-    heads: &mut [u32; 112],
-    slots: &mut [u32; 1792],
-    copies: &mut [u8; 7168],
-    works: &mut [u8; 7168],
-    texts: &[u8; 3584],
-    queue: &mut [u32; 512],
-    loads: &mut [u8; 8192],
-    answers: &mut [u32; 32],
-    c: Counts,
-    x: Step,
-    m: Message,
-    l: Local,
-) -> Report
-    requires { ⌜ Handable c x ⌝ }
-    ensures { λ r. ⌜ HandledPlainly (memory (now (counts .entry)) (now (heads .entry)) (now (slots .entry)) (now (copies .entry)) (now (works .entry)) (now (texts .entry)) (now (queue .entry)) (now (loads .entry))) (now (answers .entry)) c x m l (memory (now (counts .exit)) (now (heads .exit)) (now (slots .exit)) (now (copies .exit)) (now (works .exit)) (now (texts .entry)) (now (queue .exit)) (now (loads .exit))) (now (answers .exit)) r ⌝ }
-{
-    let v = handled_move(c.servers, x.server, 0, m, l);
-    if places_left(c, x.removes, v.sends) {
-        return carry_plain(
-            counts,
-            heads,
-            slots,
-            copies,
-            works,
-            texts,
-            queue,
-            loads,
-            answers,
-            c,
-            x,
-            v,
-        );
-    }
-    refused(12, no_effect())
 }
 
 // A message that is in the list; to a server that is not there, or that is stopped, it is lost.
@@ -131,26 +91,8 @@ fn hand_listed(
     if is_gone(c, x, l) {
         return lose(counts, queue, loads, c, x, no_effect());
     }
-    if reads_table(c.servers, m, l) {
-        let f = hand_effect(slots, copies, texts, x);
-        return hand_asked(
-            counts,
-            heads,
-            slots,
-            copies,
-            works,
-            texts,
-            queue,
-            loads,
-            answers,
-            c,
-            x,
-            m,
-            l,
-            f,
-        );
-    }
-    hand_plain(
+    let f = asked_effect(slots, copies, texts, c.servers, m, l, x);
+    hand_to(
         counts,
         heads,
         slots,
@@ -164,6 +106,7 @@ fn hand_listed(
         x,
         m,
         l,
+        f,
     )
 }
 

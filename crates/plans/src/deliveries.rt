@@ -10,15 +10,18 @@ use crate::parts::no_words;
 use crate::servers::load_local;
 use memory::Counts;
 use moves::Local;
+use moves::handling::reads_table;
 use moves::nothing::chosen;
 use records::words::load_words;
 use server::Effect;
 use server::Message;
 ghost use mathlib.Core.Path.{_≡_};
+ghost use mathlib.Core.Bool.{true};
 ghost use mathlib.Core.List.{[]};
 ghost use Prim.Native.Nat.{_<_, min};
 ghost use Rattle.server.specs.Views.{effectIn};
 ghost use Rattle.memory.specs.Layout.{serverRoom, slotRoom};
+ghost use Rattle.moves.specs.Moves.{readsTable};
 ghost use Rattle.views.specs.Memory.{memory, slotOf, localAt};
 ghost use Rattle.plans.specs.Plans.{messageRefusal, messageStep, lostPlan, gone, loseAt};
 ghost use Rattle.plans.specs.Arrays.{askedAt};
@@ -104,13 +107,32 @@ pub fn is_gone(c: Counts, x: Step, l: Local) -> bool
 }
 
 // What the call does that stands where a message is handed over.
-pub fn hand_effect(slots: &[u32; 1792], copies: &[u8; 7168], texts: &[u8; 3584], x: Step) -> Effect
+fn hand_effect(slots: &[u32; 1792], copies: &[u8; 7168], texts: &[u8; 3584], x: Step) -> Effect
     requires { ⌜ slotOf (x .server) (x .bucket) < slotRoom ⌝ }
     ensures { λ r. ⌜ effectIn r ≡ askedAt (memory [] [] (now (slots .entry)) (now (copies .entry)) [] (now (texts .entry)) [] []) x ⌝ }
 {
     let k = x.server as usize * 8 + x.bucket as usize;
     let w = load_words(slots, texts, k);
     effect_of(copies, k, w)
+}
+
+// The effect that a message asks for; one that does not close a checking round asks for none.
+pub fn asked_effect(
+    slots: &[u32; 1792],
+    copies: &[u8; 7168],
+    texts: &[u8; 3584],
+    n: u32,
+    m: Message,
+    l: Local,
+    x: Step,
+) -> Effect
+    requires { ⌜ slotOf (x .server) (x .bucket) < slotRoom ⌝ }
+    ensures { λ r. ⌜ (readsTable n m l ≡ true → effectIn r ≡ askedAt (memory [] [] (now (slots .entry)) (now (copies .entry)) [] (now (texts .entry)) [] []) x) ⌝ }
+{
+    if reads_table(n, m, l) {
+        return hand_effect(slots, copies, texts, x);
+    }
+    no_effect()
 }
 
 pub fn plan_lose(c: Counts, i: u32) -> Plan

@@ -1,11 +1,9 @@
 // Contents of buckets: what a move makes of a slot's working content and of its copy's content.
 use entries::Decoded;
-use entries::slots::blank_slot;
 use memory::CONTENT;
 use messages::contents::copy_content;
 use table::encoding::encode;
 ghost use mathlib.Core.Path.{_≡_};
-ghost use mathlib.Core.List.{[]};
 ghost use Prim.Native.Nat.{_<_, _*_};
 ghost use lib.ListN.{length};
 ghost use Rattle.entries.specs.Decoded.{tableIn};
@@ -41,44 +39,6 @@ pub fn fill_work(
     }
     if fills == 2 {
         put_table(works, k, t);
-        return;
-    }
-    if fills == 3 {
-        copy_content(works, k, loads, i);
-        return;
-    }
-}
-
-// A table of no entries.
-fn no_table() -> Decoded
-    ensures { λ r. ⌜ tableIn r ≡ [] ⌝ }
-{
-    let blank = blank_slot();
-    Decoded {
-        count: 0,
-        slots: [blank; 4],
-    }
-}
-
-// The same as `fill_work` where no call's effect was asked for: the new table, were there one, has no entries. Most lines are
-// such, and a table that is handed on would be copied for each of them.
-pub fn fill_plain(
-    works: &mut [u8; 7168],
-    copies: &[u8; 7168],
-    loads: &[u8; 8192],
-    k: usize,
-    i: usize,
-    fills: u32,
-)
-    requires { ⌜ (k < slotRoom) × (i < messageRoom) ⌝ }
-    ensures { λ _. ⌜ now (works .exit) ≡ filledFrom (now (works .entry)) (now (copies .entry)) (now (loads .entry)) k i [] fills ⌝ }
-{
-    if fills == 1 {
-        copy_content(works, k, copies, k);
-        return;
-    }
-    if fills == 2 {
-        put_table(works, k, no_table());
         return;
     }
     if fills == 3 {

@@ -1,6 +1,4 @@
 -- `carrying::carry_out` meets its contract: the working content, then the rest.
-use mathlib.Core.Path.{ap, _∙_}
-use Rattle.runs.specs.Runs.{ran}
 use Rattle.machine.proofs.Assembling.{carried-out}
 use borrow.Author.Needs.{needs}
 use Rattle.machine.proofs.carrying.carry_out.Statement.{statement}
@@ -27,11 +25,8 @@ fill-work-requires c κs = search needs
 carry-on-requires : tie.Need-carry-on-requires
 carry-on-requires c κs = search needs
 
-report-of-requires : tie.Need-report-of-requires
-report-of-requires c κs = search needs
-
 returns : tie.Need-returns
-returns c = record { is = ap (ran _ _) (c .report-of .ensures) ∙ carried-out _ _ _ _ _ _ _ _ _ _ _ _ (c .before .before .before .before .before .before .before .before .before .before .before .before .before .before .before .before .before .args .f) _ _ _ _ _ _ _ _ _ _ (c .before .before .before .before .before .before .before .before .before .before .fill-work .ensures) (c .before .carry-on .ensures); effect = ap (λ r. r .effect) (c .report-of .ensures) }
+returns c = record { is = λ f. carried-out _ _ _ _ _ _ _ _ _ _ _ _ f _ _ _ _ _ _ _ _ _ _ (c .before .before .before .before .before .before .before .before .before .fill-work .ensures) (c .carry-on .ensures) }
 
 pub carry-out-spec : {M : Type 1} → statement M
 carry-out-spec =
@@ -44,5 +39,4 @@ carry-out-spec =
     cast-fill-work
     fill-work-requires
     carry-on-requires
-    report-of-requires
     returns)

@@ -1,4 +1,5 @@
 -- `carrying::execute` meets its contract: refused, lost or carried out.
+use Rattle.machine.proofs.Assembling.{reported}
 use Rattle.machine.proofs.Executing.{slot-within, executes-lost, executes-move, executes-refusal}
 use borrow.Author.Needs.{needs}
 use Rattle.machine.proofs.carrying.execute.Statement.{statement}
@@ -16,8 +17,13 @@ take-requires c κs = slot-within (c .before .before .before .before .before .be
 carry-out-requires : tie.Need-carry-out-requires
 carry-out-requires c κs = c .before .before .before .before .before .before .before .before .before .before .before .before .before .before .before .before .before .pre .moves (c .before .before .before .before .before .before .before .before .before .before .before .before .before .if1 .taken) (c .before .before .before .before .before .before .before .before .before .before .before .before .if2 .left)
 
+report-of-requires : tie.Need-report-of-requires
+report-of-requires c κs = search needs
+
 returns-2 : tie.Need-returns-2
-returns-2 c = executes-move _ _ _ _ _ _ _ _ _ _ (c .before .before .before .before .before .before .before .before .before .before .before .before .before .before .before .before .before .before .args .p) (c .before .before .before .before .before .before .before .before .before .before .before .before .before .before .if1 .taken) (c .before .before .before .before .before .before .before .before .before .before .before .before .before .if2 .left) (c .before .before .before .before .before .before .before .before .before .before .take .ensures) (c .carry-out .ensures)
+returns-2 c =
+    let p = c .before .before .before .before .before .before .before .before .before .before .before .before .before .before .before .before .before .before .before .args .p in
+    executes-move _ _ _ _ _ _ _ _ _ _ p (c .before .before .before .before .before .before .before .before .before .before .before .before .before .before .before .if1 .taken) (c .before .before .before .before .before .before .before .before .before .before .before .before .before .before .if2 .left) (c .before .before .before .before .before .before .before .before .before .before .before .take .ensures) (reported (p .effect) (c .before .carry-out .ensures) (c .report-of .ensures))
 
 refused-requires : tie.Need-refused-requires
 refused-requires c κs = search needs
@@ -33,6 +39,7 @@ execute-spec =
     returns
     take-requires
     carry-out-requires
+    report-of-requires
     returns-2
     refused-requires
     returns-3)

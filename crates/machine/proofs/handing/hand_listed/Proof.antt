@@ -1,7 +1,7 @@
 -- `handing::hand_listed` meets its contract: lost, or handed over to a server that is there.
 use mathlib.Core.Path.{sym, _∙_}
 use Rattle.plans.proofs.Judging.{step-slot}
-use Rattle.machine.proofs.Messages.{losable, handable, listed-lost, listed-asked, listed-plain}
+use Rattle.machine.proofs.Messages.{losable, handable, listed-lost, listed-handed}
 use borrow.Author.Needs.{needs}
 use Rattle.machine.proofs.handing.hand_listed.Statement.{statement}
 use Rattle.machine.proofs.handing.hand_listed.Tie as tie
@@ -32,33 +32,19 @@ returns c =
     let a = c .before .before .before .before .before .before .before .before .before .before .before .before .before .args in
     listed-lost _ _ _ _ _ _ _ _ _ (a .c) (a .i) (a .removes) _ _ _ (c .before .before .before .before .before .before .before .before .before .before .before .load-message .ensures) (c .before .before .before .before .before .before .before .before .before .before .message-step .ensures) (c .before .before .before .before .before .before .before .receiver .ensures) _ (sym (c .before .before .before .before .before .before .is-gone .ensures) ∙ c .before .before .before .before .before .if1 .taken) (c .lose .ensures)
 
-reads-table-requires : tie.Need-reads-table-requires
-reads-table-requires c κs = search needs
+asked-effect-requires : tie.Need-asked-effect-requires
+asked-effect-requires c κs = let a = c .before .before .before .before .before .before .before .before .before .before .args in step-slot (a .c) (a .i) (a .removes) _ _ (c .before .before .before .before .before .before .before .message-step .ensures) .1
 
-hand-effect-requires : tie.Need-hand-effect-requires
-hand-effect-requires c κs = let a = c .before .before .before .before .before .before .before .before .before .before .before .before .args in step-slot (a .c) (a .i) (a .removes) _ _ (c .before .before .before .before .before .before .before .before .before .message-step .ensures) .1
-
-hand-asked-requires : tie.Need-hand-asked-requires
-hand-asked-requires c κs =
-    let a = c .before .before .before .before .before .before .before .before .before .before .before .before .before .before .before .before .before .before .before .before .before .args in
-    let p = c .before .before .before .before .before .before .before .before .before .before .before .before .before .before .before .before .before .before .before .before .before .pre in
-    handable (a .c) (a .i) (a .removes) _ _ (c .before .before .before .before .before .before .before .before .before .before .before .before .before .before .before .before .before .before .message-step .ensures) (p .0) (p .1) _ (sym (c .before .before .before .before .before .before .before .before .before .before .before .before .before .before .is-gone .ensures) ∙ c .before .before .before .before .before .before .before .before .before .before .before .before .before .if1 .left)
+hand-to-requires : tie.Need-hand-to-requires
+hand-to-requires c κs =
+    let a = c .before .before .before .before .before .before .before .before .before .before .before .before .before .before .before .before .before .before .before .args in
+    let p = c .before .before .before .before .before .before .before .before .before .before .before .before .before .before .before .before .before .before .before .pre in
+    handable (a .c) (a .i) (a .removes) _ _ (c .before .before .before .before .before .before .before .before .before .before .before .before .before .before .before .before .message-step .ensures) (p .0) (p .1) _ (sym (c .before .before .before .before .before .before .before .before .before .before .before .before .is-gone .ensures) ∙ c .before .before .before .before .before .before .before .before .before .before .before .if1 .left)
 
 returns-2 : tie.Need-returns-2
 returns-2 c =
-    let a = c .before .before .before .before .before .before .before .before .before .before .before .before .before .before .before .before .before .before .before .before .before .before .args in
-    listed-asked _ _ _ _ _ _ _ _ _ (a .c) (a .i) (a .removes) _ _ _ (c .before .before .before .before .before .before .before .before .before .before .before .before .before .before .before .before .before .before .before .before .load-message .ensures) (c .before .before .before .before .before .before .before .before .before .before .before .before .before .before .before .before .before .before .before .message-step .ensures) (c .before .before .before .before .before .before .before .before .before .before .before .before .before .before .before .before .receiver .ensures) _ (sym (c .before .before .before .before .before .before .before .before .before .before .before .before .before .before .before .is-gone .ensures) ∙ c .before .before .before .before .before .before .before .before .before .before .before .before .before .before .if1 .left) (c .before .before .before .before .before .before .before .before .before .hand-effect .ensures) (c .hand-asked .ensures)
-
-hand-plain-requires : tie.Need-hand-plain-requires
-hand-plain-requires c κs =
-    let a = c .before .before .before .before .before .before .before .before .before .before .before .before .before .before .before .before .before .before .args in
-    let p = c .before .before .before .before .before .before .before .before .before .before .before .before .before .before .before .before .before .before .pre in
-    handable (a .c) (a .i) (a .removes) _ _ (c .before .before .before .before .before .before .before .before .before .before .before .before .before .before .before .message-step .ensures) (p .0) (p .1) _ (sym (c .before .before .before .before .before .before .before .before .before .before .before .is-gone .ensures) ∙ c .before .before .before .before .before .before .before .before .before .before .if1 .left)
-
-returns-3 : tie.Need-returns-3
-returns-3 c =
-    let a = c .before .before .before .before .before .before .before .before .before .before .before .before .before .before .before .before .before .before .before .args in
-    listed-plain _ _ _ _ _ _ _ _ _ (a .c) (a .i) (a .removes) _ _ _ (c .before .before .before .before .before .before .before .before .before .before .before .before .before .before .before .before .before .load-message .ensures) (c .before .before .before .before .before .before .before .before .before .before .before .before .before .before .before .before .message-step .ensures) (c .before .before .before .before .before .before .before .before .before .before .before .before .before .receiver .ensures) (sym (c .before .before .before .before .before .before .before .before .before .before .before .before .is-gone .ensures) ∙ c .before .before .before .before .before .before .before .before .before .before .before .if1 .left) (sym (c .before .before .before .before .before .before .before .before .before .before .reads-table .ensures) ∙ c .before .before .before .before .before .before .before .before .before .if2 .left) (c .hand-plain .ensures)
+    let a = c .before .before .before .before .before .before .before .before .before .before .before .before .before .before .before .before .before .before .before .before .args in
+    listed-handed _ _ _ _ _ _ _ _ _ (a .c) (a .i) (a .removes) _ _ _ (c .before .before .before .before .before .before .before .before .before .before .before .before .before .before .before .before .before .before .load-message .ensures) (c .before .before .before .before .before .before .before .before .before .before .before .before .before .before .before .before .before .message-step .ensures) (c .before .before .before .before .before .before .before .before .before .before .before .before .before .before .receiver .ensures) _ (sym (c .before .before .before .before .before .before .before .before .before .before .before .before .before .is-gone .ensures) ∙ c .before .before .before .before .before .before .before .before .before .before .before .before .if1 .left) (c .before .before .before .before .before .before .before .before .before .asked-effect .ensures) (c .hand-to .ensures)
 
 pub hand-listed-spec : {M : Type 1} → statement M
 hand-listed-spec =
@@ -71,9 +57,6 @@ hand-listed-spec =
     no-effect-requires
     lose-requires
     returns
-    reads-table-requires
-    hand-effect-requires
-    hand-asked-requires
-    returns-2
-    hand-plain-requires
-    returns-3)
+    asked-effect-requires
+    hand-to-requires
+    returns-2)
