@@ -29,9 +29,6 @@ module _ (s : Server) (b : ℕ) (h : Inside s b) where
   pub call-there : (f : Front) (c : Cell) → callAt (putCell s b f c .volatile) b ≡ c .call
   call-there f c = getD-set-same (s .volatile .calls) b (c .call) none (h .calls)
 
-  pub put-again : (f g : Front) (c d : Cell) → putCell (putCell s b f c) b g d ≡ putCell s b g d
-  put-again f g c d = rw (set-set (s .stored .copies) b (c .copy) (d .copy), set-set (s .volatile .rounds) b (c .round) (d .round), set-set (s .volatile .calls) b (c .call) (d .call))
-
   finish-is : (r : Result) (f : Front) (c : Cell) → finish b r (putCell s b f c) ≡ lift s b (finishing r f c)
   unfolding finish finishing
   finish-is r f c = rw (call-there f c, set-set (s .volatile .rounds) b (c .round) none, set-set (s .volatile .calls) b (c .call) none)
