@@ -3,6 +3,7 @@ use mathlib.Core.Path.{_≡_, refl, sym, ap, subst}
 use mathlib.Core.List.{List, [], _∷_}
 use mathlib.Core.Bool.{Bool, true, false, not}
 use mathlib.Core.Option.{Option, none, some}
+use mathlib.Core.Logic.{_≢_}
 use Prim.Native.Nat.{ℕ, zero, suc, _+_, _*_, _≤_, _<_}
 use native.Mathlib.Omega.{arith}
 use native.Mathlib.Nat.{mod-lt}
@@ -13,17 +14,17 @@ use Rattle.table.specs.Form.{within}
 use Rattle.table.proofs.Fitting.{within-parts}
 use Rattle.model.specs.Measures.{maxServers, maxBuckets, maxMessages, maxAccepted, maxElection}
 use Rattle.model.specs.Calls.{Words, get, set, setif, del, keys, bucketFor}
-use Rattle.model.specs.Cluster.{Role, follower, candidate, leading, Round, Call, Message, Cluster, freshServer, freshCluster, freshCopy}
-use Rattle.model.specs.Leader.{Reaction}
+use Rattle.model.specs.Cluster.{Role, follower, Round, Call, Message, Cluster, freshServer, freshCluster, freshCopy}
+use Rattle.model.specs.Leader.{Reaction, ceased}
 use Rattle.model.specs.Lines.{Line, cluster, elect, call, deliver, copy, lose, timeout, stop, State, initialState, Tally, firstOf, conditions, either, noServer, noBucket, noBucketFor, badKey, badValue, badWords, limitReached, stoppedAt, isLeading, lastNumber, serverAt, dropAt, Work, afterStep, byLine, lostMessage, delivery, work, tallied, LineResult}
 use Rattle.model.specs.Parse.{parse}
 use Rattle.model.specs.Run.{step, stateAfter}
-use Rattle.limits.specs.Lists.{All, nil, cons, all-head, all-tail, all-imply, all-append, all-take, all-drop, all-set, all-at, all-replicate}
+use Rattle.limits.specs.Lists.{All, nil, cons, all-head, all-tail, all-imply, all-append, all-take, all-drop, all-set, all-at, all-replicate, map-replicate}
 use Rattle.limits.specs.Refusals.{ComesOut, refused-by, founded, took, comes-out}
 use Rattle.limits.specs.Tally.{none-applies, message-there, work-counts}
-use Rattle.limits.specs.Measures.{limitsAfter, KeySized, WordsSized, idle, RoleWithin, ServerWithin, MessageWithin, AnswersWithin, endings, ReactionWithin, ClusterWithin, Grows, next-line, server-grows, message-grows}
+use Rattle.limits.specs.Measures.{limitsAfter, KeySized, WordsSized, idle, ServerWithin, MessageWithin, AnswersWithin, endings, ReactionWithin, ClusterWithin, Grows, next-line, server-grows, message-grows}
 use Rattle.limits.specs.Tables.{fresh-copy-within}
-use Rattle.limits.specs.Rules.{cease-within, elect-within, beginCall-within, handle-within}
+use Rattle.limits.specs.Rules.{role-elected, cease-within, elect-within, beginCall-within, handle-within}
 
 -- ---- what the tests of a line tell
 
@@ -68,11 +69,12 @@ pub server-there : (c : Cluster) (s : ℕ) → noServer c s ≡ false → s < le
 unfolding noServer
 server-there c s e = leb-false _ _ e
 
-leader-elected : (r : Role) (number : ℕ) → not (isLeading r) ≡ false → RoleWithin r number → 1 ≤ number
+leader-acts : (r : Role) → not (isLeading r) ≡ false → r ≢ follower
 unfolding isLeading
-leader-elected follower number e h = let z : _≡_ {A = ℕ} 0 1 = cc in absurd (omega arith)
-leader-elected candidate number e h = h
-leader-elected leading number e h = h
+leader-acts r e x =
+    let y : true ≡ false = rw x at e in
+    let z : _≡_ {A = ℕ} 0 1 = cc in
+    omega arith
 
 -- ---- one line
 
@@ -176,14 +178,15 @@ module _ (n b k : ℕ) (c : Cluster) (bLow : 1 ≤ b) (w : ClusterWithin n b k c
   unfolding work
   call-taken s x e f g h =
       let old = server-before s (named s e) in
-      let number = leader-elected _ _ h (old .frame .standing) in
+      let acting = leader-acts _ h in
+      let number = role-elected _ _ acting (old .frame .standing) in
       let line = old .stored .lines in
       let more : CallsAfter (c .calls + 1) = record { from = omega arith; to = omega arith; elected = λ y. omega arith } in
       let bucket : bucketFor (c .buckets) x < b = omega (arith, bucket-less c x (omega (arith, w .buckets)) f, w .buckets) in
       let same-bucket = ap (λ z. bucketFor z x) (sym (w .buckets)) in
       rw (w .size)
       (byLine-taken s _ more
-      (beginCall-within n b (limitsAfter (k + 1) (c .calls + 1)) s _ (named s e) bucket (c .calls + 1) x (omega arith) (omega arith) (words-sized x g) same-bucket number (server-at s more (named s e))))
+      (beginCall-within n b (limitsAfter (k + 1) (c .calls + 1)) s _ (named s e) bucket (c .calls + 1) x (omega arith) (omega arith) (words-sized x g) same-bucket acting (server-at s more (named s e))))
 
   timeout-taken : (s i : ℕ) → noServer c s ≡ false → Taken n b k (work c (timeout s i))
   unfolding work
@@ -194,7 +197,7 @@ module _ (n b k : ℕ) (c : Cluster) (bLow : 1 ≤ b) (w : ClusterWithin n b k c
   stop-taken s e =
       let y = all-at s _ (server-there c s e) (kept-servers same-calls) in
       byLine-taken s _ same-calls
-      (record { server = record { stored = y .stored; frame = y .frame; slots = y .slots }; sends = nil; answers = endings {out = []} (omega arith) nil })
+      (record { server = record { stored = y .stored; frame = y .frame; slots = y .slots; resting = y .resting }; sends = nil; answers = endings {out = []} (omega arith) nil })
 
   work-within : (l : Line) → All (λ x. x .applies ≡ false) (conditions c l) → Taken n b k (work c l)
   unfolding conditions work
@@ -246,12 +249,13 @@ Measured none t = t ≡ initialState .tally
 Measured (some c) t = Stands c t
 
 fresh-server-within : (n b : ℕ) → 1 ≤ n → ServerWithin n b (limitsAfter 0 0) 0 (freshServer n b)
-unfolding freshServer
+unfolding freshServer ceased
 fresh-server-within n b h =
     record {
       stored = record { number = omega arith; vote = omega arith; lines = omega arith; leader = omega arith; size = length-replicate b _; copies = all-replicate b freshCopy (fresh-copy-within _) };
       frame = record { votes = length-replicate n _; rounds = length-replicate b _; calls = length-replicate b _; lastRound = omega arith; standing = tt };
       slots = λ i d. rw (getD-replicate {A = Option Round} b i none none d, getD-replicate {A = Option Call} b i none none d) idle;
+      resting = λ e. simp map-replicate;
     }
 
 fresh-cluster-within : (n b : ℕ) → 1 ≤ n → ClusterWithin n b 0 (freshCluster n b)

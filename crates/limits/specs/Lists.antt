@@ -1,4 +1,5 @@
--- `All P l`: P of every element of a list, and of the lists that are made of it.
+-- `All P l`: P of every element of a list, and of the lists that are made of it; and a map over equal elements.
+use mathlib.Core.Path.{_≡_, refl, ap}
 use mathlib.Core.List.{List, [], _∷_, _++_, map}
 use Prim.Native.Nat.{ℕ, zero, suc, _<_}
 use native.Mathlib.Nat.{le-of-suc-le-suc, not-suc-le-zero}
@@ -51,3 +52,7 @@ pub all-map : {A B : Type 0} {P : B → Type 0} {Q : A → Type 0} (f : A → B)
     All P (map f l)
 all-map f g nil = nil
 all-map f g (cons {x = x} p h) = cons (g x p) (all-map f g h)
+
+pub map-replicate : {A B : Type 0} (f : A → B) (n : ℕ) (a : A) → map f (replicate n a) ≡ replicate n (f a)
+map-replicate f zero a = refl
+map-replicate f (suc n) a = ap (λ l. f a ∷ l) (map-replicate f n a)

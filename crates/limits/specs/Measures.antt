@@ -14,7 +14,7 @@ use Rattle.model.specs.Measures.{maxEntries, maxKeyBytes, maxValueBytes, maxEle
 use Rattle.model.specs.Calls.{Words, get, set, setif, del, keys, bucketFor, Result, value, listed, done, mismatch, full, notdone, unknown, Answer}
 use Rattle.model.specs.Cluster.{Copy, Stored, Role, follower, candidate, leading, Purpose, recoveryRead, recoveryWrite, check, ownWrite, Round, Call, Volatile, Server, Body, pleaseVote, ackVote, nackVote, replicaWrite, ackWrite, nackWrite, replicaRead, ackRead, nackRead, Message, Cluster, roundAt, callAt}
 use Rattle.model.specs.Replica.{Request, reading, writing}
-use Rattle.model.specs.Leader.{Reaction}
+use Rattle.model.specs.Leader.{Reaction, ceased}
 use Rattle.limits.specs.Lists.{All, all-imply}
 
 -- the accepted lines, the greatest election number, the greatest round number and counter, and the greatest number of
@@ -116,11 +116,13 @@ pub record FrameWithin (n b : ℕ) (l : Limits) (q number : ℕ) (w : Volatile) 
   pub lastRound : w .lastRound + q ≤ l .rounds
   pub standing : RoleWithin (w .role) number
 
+-- `resting`: a follower has no vote counted, no round and no call open, so ceasing to lead changes nothing of it
 pub record ServerWithin (n b : ℕ) (l : Limits) (q : ℕ) (s : Server) : Type 0 where
   pub stored : StoredWithin n b l q (s .stored)
   pub frame : FrameWithin n b l q (s .stored .number) (s .volatile)
   pub slots : (i : ℕ) → i < b →
       SlotWithin n b l (s .stored .number) (s .volatile .lastRound) i (roundAt (s .volatile) i) (callAt (s .volatile) i)
+  pub resting : s .volatile .role ≡ follower → ceased (s .volatile) ≡ s .volatile
 
 -- ---- messages
 
@@ -287,4 +289,5 @@ server-grows g s w =
       stored = stored-grows g (w .stored);
       frame = frame-grows g (w .frame);
       slots = λ i h. slot-grows (same-slack g) (w .slots i h);
+      resting = w .resting;
     }

@@ -1,6 +1,6 @@
 -- The rules of a server keep its measures: one lemma for each rule.
-use mathlib.Core.Path.{_≡_, refl, sym, _∙_}
-use mathlib.Core.List.{List, [], _∷_}
+use mathlib.Core.Path.{_≡_, refl, sym, ap, _∙_}
+use mathlib.Core.List.{List, [], _∷_, map-map}
 use mathlib.Core.Bool.{Bool, true, false}
 use mathlib.Core.Option.{Option, none, some}
 use mathlib.Core.Logic.{_≢_}
@@ -22,6 +22,14 @@ use Rattle.model.specs.Leader
 use Rattle.limits.specs.Lists.{All, nil, cons, all-imply, all-append, all-set, all-at, all-map}
 use Rattle.limits.specs.Tables.{EffectWithin, effect-within, fresh-copy-within}
 use Rattle.limits.specs.Measures.{Limits, Fits, CopyWithin, StoredWithin, WordsSized, CallWithin, left, RoundWithin, SlotWithin, idle, busy, RoleWithin, FrameWithin, ServerWithin, RequestWithin, OfVote, OfRound, BodyWithin, MessageWithin, ResultWithin, AnswerWithin, Ending, AnswersWithin, single, endings, ReactionWithin, fewer, copy-grows, stored-grows, frame-grows, server-grows}
+
+-- ---- roles
+
+-- whoever is no follower has raised its number
+pub role-elected : (r : Role) (number : ℕ) → r ≢ follower → RoleWithin r number → 1 ≤ number
+role-elected follower number x h = absurd (x refl)
+role-elected candidate number x h = h
+role-elected leading number x h = h
 
 -- ---- broadcasts
 
@@ -93,7 +101,7 @@ module _ (n b : ℕ) (l : Limits) where
 
   with-stored : {q : ℕ} {s : Server} {st : Stored} → Kept q (s .stored .number) st → ServerWithin n b l q s →
       ServerWithin n b l q (withStored s st)
-  with-stored k w = record { stored = k .within; frame = rw (k .same) (w .frame); slots = λ i h. rw (k .same) (w .slots i h) }
+  with-stored k w = record { stored = k .within; frame = rw (k .same) (w .frame); slots = λ i h. rw (k .same) (w .slots i h); resting = w .resting }
 
   -- ---- when leading ends
 
@@ -150,6 +158,7 @@ module _ (n b : ℕ) (l : Limits) where
               standing = tt;
             };
         slots = λ i h. rw (List·getD-map (λ x. none) (v .rounds) i none, List·getD-map (λ x. none) (v .calls) i none) idle;
+        resting = λ e. simp map-map;
       }
 
   endings-of : {q : ℕ} {s : Server} → ServerWithin n b l q s → AnswersWithin b l (Leader.endings (s .volatile .calls))
@@ -188,6 +197,15 @@ module _ (n b : ℕ) (l : Limits) where
       role true = e
       role false = e
 
+  -- whoever stands is no follower
+  standing-acts : (votes : List Bool) (w : Volatile) → standing n votes w .role ≢ follower
+  unfolding standing
+  standing-acts votes w = go (leb (majority n) (votesFor votes))
+    where
+      go : (t : Bool) → elim t [ true ↦ leading | false ↦ candidate ] ≢ follower
+      go true e = let z : _≡_ {A = ℕ} 0 1 = cc in omega arith
+      go false e = let z : _≡_ {A = ℕ} 0 1 = cc in omega arith
+
   stands-within : (me : ℕ) (s : Server) → me < n → 1 ≤ b → 1 ≤ s .stored .number → ServerWithin n b l 0 s →
       ReactionWithin n b l (standForElection n me (s .stored .number) s)
   unfolding standForElection standing
@@ -200,6 +218,7 @@ module _ (n b : ℕ) (l : Limits) where
               stored = k .within;
               frame = rw (k .same) (standing-within votes (rw length-set (w .frame .votes)) e (w .frame));
               slots = λ i d. rw (k .same) (w .slots i d);
+              resting = λ x. absurd (standing-acts votes (s .volatile) x);
             };
         sends = broadcast-within me 0 (s .stored .number) 0 pleaseVote h j e (w .stored .number) (λ q. (refl, refl));
         answers = no-answers;
@@ -225,7 +244,7 @@ module _ (n b : ℕ) (l : Limits) where
   ack-within p e s w candidate r =
       let votes = ListN.set (s .volatile .votes) p true in
       let f = standing-within votes (rw length-set (w .frame .votes)) r (w .frame) in
-      chosen (eqb e (s .stored .number)) (quiet-within (record { stored = w .stored; frame = f; slots = w .slots })) (quiet-within w)
+      chosen (eqb e (s .stored .number)) (quiet-within (record { stored = w .stored; frame = f; slots = w .slots; resting = λ x. absurd (standing-acts votes (s .volatile) x) })) (quiet-within w)
 
   onAckVote-within : {q : ℕ} (p e : ℕ) (s : Server) → ServerWithin n b l q s → ReactionWithin n b l (onAckVote n p e s)
   unfolding onAckVote
@@ -255,14 +274,17 @@ module _ (n b : ℕ) (l : Limits) where
   slot-later later h idle = idle
   slot-later later h (busy r c) = busy (record { low = r .low; high = omega arith; elected = r .elected; election = r .election; present = r .present; marks = r .marks; best = r .best }) c
 
-  -- a server in the midst of the call c on bucket i, for which q more rounds may be made
+  -- a server in the midst of the call c on bucket i, for which q more rounds may be made; no follower has a call
   record Amidst (i q : ℕ) (c : Call) (s : Server) : Type 0 where
     stored : StoredWithin n b l q (s .stored)
     frame : FrameWithin n b l q (s .stored .number) (s .volatile)
-    elected : 1 ≤ s .stored .number
+    acting : s .volatile .role ≢ follower
     others : OtherSlots (s .stored .number) (s .volatile .lastRound) i (s .volatile .rounds) (s .volatile .calls)
     there : callAt (s .volatile) i ≡ some c
     call : CallWithin b l i q c
+
+  amidst-elected : {i q : ℕ} {c : Call} {s : Server} → Amidst i q c s → 1 ≤ s .stored .number
+  amidst-elected {s = s} a = role-elected (s .volatile .role) (s .stored .number) (a .acting) (a .frame .standing)
 
   amidst-fewer : {i q : ℕ} {c : Call} {s : Server} (p : ℕ) → p ≤ q → Amidst i q c s → Amidst i p c s
   amidst-fewer {i} {q} p h a =
@@ -271,7 +293,7 @@ module _ (n b : ℕ) (l : Limits) where
       record {
         stored = stored-grows g (a .stored);
         frame = frame-grows g (a .frame);
-        elected = a .elected;
+        acting = a .acting;
         others = a .others;
         there = a .there;
         call = record { first = c .first; last = c .last; rounds = omega arith; sizes = c .sizes; bucket = c .bucket };
@@ -287,6 +309,7 @@ module _ (n b : ℕ) (l : Limits) where
         stored = z .stored;
         frame = z .frame;
         slots = all-slots i (s .volatile .rounds) (s .volatile .calls) (a .others) (rw (e, a .there) (busy w here));
+        resting = λ x. absurd (a .acting x);
       }
 
   -- ---- a broadcast
@@ -327,7 +350,7 @@ module _ (n b : ℕ) (l : Limits) where
                   lastRound = omega (arith, f .lastRound);
                   standing = f .standing;
                 });
-            elected = rw (k .same) (a .elected);
+            acting = a .acting;
             others = rw (k .same) (λ j e x. slot-later _ (omega arith) (others-set i (v .rounds) (v .calls) _ _ (a .others) j e x));
             there = getD-set-same (v .calls) i _ none (omega (arith, f .calls)) ∙ rw (a .there);
             call = record { first = o .first; last = o .last; rounds = omega (arith, o .rounds); sizes = o .sizes; bucket = o .bucket };
@@ -339,7 +362,7 @@ module _ (n b : ℕ) (l : Limits) where
           record {
             low = omega arith;
             high = omega arith;
-            elected = a .elected;
+            elected = amidst-elected a;
             election = a .stored .number;
             present = refl;
             marks = rw (length-set, length-replicate);
@@ -355,7 +378,7 @@ module _ (n b : ℕ) (l : Limits) where
 
       opening-sends : All (MessageWithin n b l) (broadcast n me i (s .stored .number) (s .volatile .lastRound + 1) (requestBody request))
       opening-sends =
-          broadcast-within me i (s .stored .number) (s .volatile .lastRound + 1) (requestBody request) h d (a .elected) (a .stored .number) (body request w)
+          broadcast-within me i (s .stored .number) (s .volatile .lastRound + 1) (requestBody request) h d (amidst-elected a) (a .stored .number) (body request w)
         where
           asked : Request → ℕ → Message
           asked y x = record { sender = me; receiver = x; bucket = i; election = s .stored .number; round = s .volatile .lastRound + 1; body = requestBody y }
@@ -403,6 +426,7 @@ module _ (n b : ℕ) (l : Limits) where
                     all-slots i (ListN.set (v .rounds) i none) (ListN.set (v .calls) i none)
                     (others-set i (v .rounds) (v .calls) none none (a .others))
                     (rw (getD-set-same (v .rounds) i none none (omega (arith, f .rounds)), getD-set-same (v .calls) i none none (omega (arith, f .calls))) idle);
+                resting = λ x. absurd (a .acting x);
               };
           sends = nil;
           answers = rw (a .there) (single answer);
@@ -416,7 +440,7 @@ module _ (n b : ℕ) (l : Limits) where
         Fits t → Amidst i (suc q) c s →
         RequestWithin l q (s .stored .number) (writing (version (s .stored .number) counter) t)
     write-within counter t low high fit a =
-        let e = a .elected in
+        let e = amidst-elected a in
         (refl, record { election = a .stored .number; counter = high; unwritten = omega arith; written = omega arith; empty = λ z. absurd (omega arith); fitting = fit })
 
     applying-within : {c : Call} {s : Server} (x : Effect) → EffectWithin x → Amidst i 1 c s →
@@ -450,10 +474,10 @@ module _ (n b : ℕ) (l : Limits) where
         (openRound-within recoveryRead reading tt a _ refl (λ u m. recovering-within _ (copy-within i d (a .stored) .fitting) m))
 
     pub beginCall-within : {s : Server} (number : ℕ) (words : Words) → 1 ≤ number → number ≤ l .calls → WordsSized words →
-        bucketFor b words ≡ i → 1 ≤ s .stored .number → ServerWithin n b l 4 s →
+        bucketFor b words ≡ i → s .volatile .role ≢ follower → ServerWithin n b l 4 s →
         ReactionWithin n b l (beginCall n me i number words s)
     unfolding beginCall
-    beginCall-within {s} number words low high sizes bucket e w =
+    beginCall-within {s} number words low high sizes bucket acting w =
         let f = w .frame in
         let v = s .volatile in
         let new : Call = record { number = number; words = words; rounds = 0; sent = false } in
@@ -461,7 +485,7 @@ module _ (n b : ℕ) (l : Limits) where
         (record {
           stored = w .stored;
           frame = record { votes = f .votes; rounds = f .rounds; calls = rw length-set (f .calls); lastRound = f .lastRound; standing = f .standing };
-          elected = e;
+          acting = acting;
           others = λ j k o. rw (getD-set-other (v .calls) i j (some new) none o) (w .slots j k);
           there = getD-set-same (v .calls) i (some new) none (omega (arith, f .calls));
           call = record { first = low; last = high; rounds = omega arith; sizes = sizes; bucket = bucket };
@@ -476,16 +500,25 @@ module _ (n b : ℕ) (l : Limits) where
     closed-within best w check a = afterRead-within a
     closed-within best w ownWrite a = finish-within done tt a
 
+    -- a server with a call open is no follower
+    call-acts : {q : ℕ} {c : Call} {s : Server} → callAt (s .volatile) i ≡ some c → ServerWithin n b l q s → s .volatile .role ≢ follower
+    unfolding ceased
+    call-acts {q} {c} {s} e w x =
+        let there = ap (λ v. callAt v i) (w .resting x) ∙ e in
+        let gone : callAt (ceased (s .volatile)) i ≡ none = List·getD-map (λ y. none) (s .volatile .calls) i none in
+        let z : _≡_ {A = ℕ} 0 1 = cc in
+        omega arith
+
     -- the server with its round replaced, in the midst of the call there
     with-round : {q : ℕ} {c : Call} {s : Server} (r : Round) → callAt (s .volatile) i ≡ some c → CallWithin b l i q c →
-        1 ≤ s .stored .number → ServerWithin n b l 4 s → Amidst i q c (withRound s i r)
-    with-round {q} {c} {s} r e call low w =
+        ServerWithin n b l 4 s → Amidst i q c (withRound s i r)
+    with-round {q} {c} {s} r e call w =
         let g = fewer l 4 q (omega (arith, call .rounds)) in
         let f = frame-grows g (w .frame) in
         record {
           stored = stored-grows g (w .stored);
           frame = record { votes = f .votes; rounds = rw length-set (f .rounds); calls = f .calls; lastRound = f .lastRound; standing = f .standing };
-          elected = low;
+          acting = call-acts e w;
           others = λ j k o. rw (getD-set-other (s .volatile .rounds) i j (some r) none o) (w .slots j k);
           there = e;
           call = call;
@@ -497,7 +530,7 @@ module _ (n b : ℕ) (l : Limits) where
         ReactionWithin n b l (counting n me i r s)
     unfolding counting closed
     counting-within {c} {s} r e call w k =
-        let a = with-round r e call (omega (arith, w .elected, w .present)) k in
+        let a = with-round r e call k in
         let there : roundAt (withRound s i r .volatile) i ≡ some r = getD-set-same (s .volatile .rounds) i (some r) none (omega (arith, k .frame .rounds)) in
         chosen (closes n r) (closed-within (r .best .table) (w .best .fitting) (r .purpose) a)
         (chosen (fails n r) (cease-within k) (quiet-within (amidst-rests r a there w refl)))

@@ -185,9 +185,13 @@ ceasing m =
       ceases = true;
     }
 
--- a server whose vote rises above its own number
+-- a server whose vote rises above its own number ceases to lead; a follower has nothing to end, and is left alone
 unfoldable pub steppedDown : Move → Move
-steppedDown m = elim (ltb (m .local .head .number) (m .local .head .vote)) [ true ↦ ceasing m | false ↦ m ]
+steppedDown m =
+    elim (eqb (m .local .head .role) 0) [
+      | true ↦ m
+      | false ↦ elim (ltb (m .local .head .number) (m .local .head .vote)) [ true ↦ ceasing m | false ↦ m ]
+    ]
 
 -- ---- replies to rounds
 

@@ -21,12 +21,17 @@ ghost use mathlib.Core.Path.{_≡_};
 ghost use mathlib.Core.Bool.{true, false};
 ghost use Rattle.moves.specs.Moves.{steppedDown, voteMove, readRequestMove, writeRequestMove, requestMove, votingMove};
 
-// A server whose vote rises above its own number leads no more.
+// A server whose vote rises above its own number leads no more. Most requests reach a follower, which has nothing to end:
+// it is left alone, so that nobody walks over its slots.
 fn stepped_down(m: Move) -> Move
     ensures { λ r. ⌜ r ≡ steppedDown m ⌝ }
 {
     let l = m.local;
-    if must_step_down(l.head) {
+    let h = l.head;
+    if h.role == 0 {
+        return m;
+    }
+    if must_step_down(h) {
         return ceasing(m);
     }
     m

@@ -112,7 +112,7 @@ module _ (n me result : ℕ) (l : Local) where
 
     plain-stepped : (v : Move) → Plain v → Plain (steppedDown v)
     unfolding steppedDown
-    plain-stepped v e = either Plain (ltb (v .local .head .number) (v .local .head .vote)) _ _ e e
+    plain-stepped v e = either Plain (eqb (v .local .head .role) 0) _ _ e (either Plain (ltb (v .local .head .number) (v .local .head .vote)) _ _ e e)
 
     plain-voting : (kind : ℕ) → Plain (votingMove n kind m l)
     unfolding votingMove voteMove

@@ -13,6 +13,7 @@ use Rattle.table.proofs.Fitting.{within-parts}
 use Rattle.model.specs.Measures.{maxServers, maxBuckets}
 use Rattle.model.specs.Cluster as cluster
 use Rattle.model.specs.Lines as lines
+use Rattle.limits.specs.Lists.{map-replicate}
 use Rattle.cells.specs.Cells.{Front, Cell}
 use Rattle.server.specs.declared.Effect.{Effect}
 use Rattle.server.specs.Views.{flagIn, roleIn, among, roundIn, callIn}
@@ -45,15 +46,10 @@ row-zeros k p o (suc n) = ap₂ (λ (a : ℕ) (l : List ℕ). a ∷ l) (getD-zer
 
 -- ---- replicate
 
-module _ {A : Type 0} where
-  each-constant : (n : ℕ) (a : A) → each n (λ i. a) ≡ replicate n a
-  unfolding each
-  each-constant zero a = refl
-  each-constant (suc n) a = ap (λ (l : List A). a ∷ l) (each-constant n a)
-
-  map-replicate : {B : Type 0} (f : A → B) (n : ℕ) (a : A) → map f (replicate n a) ≡ replicate n (f a)
-  map-replicate f zero a = refl
-  map-replicate f (suc n) a = ap (λ l. f a ∷ l) (map-replicate f n a)
+each-constant : {A : Type 0} (n : ℕ) (a : A) → each n (λ i. a) ≡ replicate n a
+unfolding each
+each-constant zero a = refl
+each-constant {A} (suc n) a = ap (λ (l : List A). a ∷ l) (each-constant n a)
 
 no-votes : (n k : ℕ) → n ≤ k → map flagIn (take n (zeros k)) ≡ replicate n false
 unfolding flagIn

@@ -44,7 +44,7 @@ use Rattle.runs.specs.Meaning.{stateIn, resultOf}
 use Rattle.runs.proofs.Accepting.{Ready, Possible, keptMessages, workOf, reactionOf}
 use Rattle.runs.proofs.Standing.{measured}
 use Rattle.runs.proofs.Conditions.{judged, planned, ready-perform, server-stands, stopped-seen, message-judged, moved-run, lost-run}
-use Rattle.runs.proofs.Resting.{cluster-within, last-low, counter-low, table-fits, call-open}
+use Rattle.runs.proofs.Resting.{cluster-within, server-within, last-low, counter-low, table-fits, call-open}
 use Rattle.runs.proofs.Filling.{handled-written, reads-table-open, effect-writes}
 
 -- two that differ are of several
@@ -163,7 +163,8 @@ module _ {m : Memory} {l : List ℕ} {t : lines.Tally} (ready : Ready m l t) (i 
 
       handled : handle n s message server ≡ reactionOf m (countsAt (m .counts)) step move f
       handled =
-          handled-means n s b (f .result) asked server here-local tables (callWordsAt m k) (valueBytes (f .value)) (tableIn (f .table)) (server-seen n most m s b ours) on replies
+          handled-means n s b (f .result) asked server here-local tables (callWordsAt m k) (valueBytes (f .value)) (tableIn (f .table)) (server-seen n most m s b ours)
+          (server-within ready s b mine ours .resting) on replies
 
       -- ---- what it comes to
 

@@ -179,7 +179,8 @@ whole-ceasing v w = record { votes = zeros; marks = w .marks }
 
 whole-steppedDown : (v : Move) → WholeMove v → WholeMove (steppedDown v)
 unfolding steppedDown
-whole-steppedDown v w = either WholeMove (ltb (v .local .head .number) (v .local .head .vote)) _ _ (whole-ceasing v w) w
+whole-steppedDown v w =
+    either WholeMove (eqb (v .local .head .role) 0) _ _ w (either WholeMove (ltb (v .local .head .number) (v .local .head .vote)) _ _ (whole-ceasing v w) w)
 
 whole-fetching : (better : Bool) (v : Move) → WholeMove v → WholeMove (fetching better v)
 unfolding fetching
