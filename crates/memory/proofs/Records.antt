@@ -13,7 +13,6 @@ use Rattle.server.specs.declared.Call.{Call}
 use Rattle.server.specs.declared.Message.{Message}
 use Rattle.memory.specs.declared.Numbers.{Numbers}
 use Rattle.memory.specs.declared.Counts.{Counts}
-use Rattle.memory.specs.Rows.{Bytes}
 use Rattle.memory.specs.Layout.{
   serverRoom,
   headSize,
@@ -58,7 +57,7 @@ use Rattle.memory.specs.Layout.{
   countsAt,
   putCounts,
 }
-use Rattle.memory.proofs.Rows.{length-putRow, row-put, row-other, row-beside, bytes-row}
+use Rattle.memory.proofs.Rows.{length-putRow, row-put, row-other, row-beside, row-all}
 
 -- ---- heads
 
@@ -67,13 +66,13 @@ module _ (l : List ℕ) (s : ℕ) (h : Head) where
   unfolding putHead
   length-putHead = length-putRow (headRow h) l (s * headSize) 0
 
-  pub head-putHead : (s + 1) * headSize ≤ length l → Bytes serverRoom (h .votes) → headAt (putHead l s h) s ≡ h
+  pub head-putHead : (s + 1) * headSize ≤ length l → length (h .votes) ≡ serverRoom → headAt (putHead l s h) s ≡ h
   unfolding headAt putHead
   head-putHead fits seven =
       ap headOf (row-put (headRow h) l (s * headSize) 0 (omega arith))
       ∙ ap
       (λ (votes : List ℕ). record { number = h .number; vote = h .vote; leader = h .leader; role = h .role; last = h .last; stopped = h .stopped; votes = votes })
-      (bytes-row serverRoom (h .votes) seven)
+      (row-all serverRoom (h .votes) seven)
 
   pub head-elsewhere : (k : ℕ) → k ≢ s → headAt (putHead l s h) k ≡ headAt l k
   unfolding headAt putHead
@@ -111,13 +110,13 @@ module _ (l : List ℕ) (i : ℕ) (r : Round) where
   unfolding putRound
   length-putRound = length-putRow (roundRow r) l (i * slotSize) roundPlace
 
-  pub round-putRound : (i + 1) * slotSize ≤ length l → Bytes serverRoom (r .marks) → roundAt (putRound l i r) i ≡ r
+  pub round-putRound : (i + 1) * slotSize ≤ length l → length (r .marks) ≡ serverRoom → roundAt (putRound l i r) i ≡ r
   unfolding roundAt putRound
   round-putRound fits seven =
       ap roundOf (row-put (roundRow r) l (i * slotSize) roundPlace (omega arith))
       ∙ ap
       (λ (marks : List ℕ). record { purpose = r .purpose; number = r .number; election = r .election; best = r .best; marks = marks })
-      (bytes-row serverRoom (r .marks) seven)
+      (row-all serverRoom (r .marks) seven)
 
   pub round-elsewhere : (k : ℕ) → k ≢ i → roundAt (putRound l i r) k ≡ roundAt l k
   unfolding roundAt putRound

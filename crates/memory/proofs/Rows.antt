@@ -2,14 +2,13 @@
 use mathlib.Core.Path.{_≡_, refl, ap, _∙_}
 use mathlib.Core.Logic.{_≢_}
 use mathlib.Core.List.{List, [], _∷_}
-use Prim.Native.Nat.{ℕ, zero, suc, _+_, _*_, _%_, _≤_, _<_}
-use native.Mathlib.Nat.{mod-eq-of-lt}
+use Prim.Native.Nat.{ℕ, zero, suc, _+_, _*_, _≤_, _<_}
 use native.Mathlib.Decide.{decLt}
 use native.Mathlib.Omega.{arith}
-use lib.ListN.{length, getD, set, take, drop, length-set, length-map, List·getD-map}
-use lib.Seq.{sets, take-all, drop-cons, getD-set-same, getD-set-other, ext-getD}
+use lib.ListN.{length, getD, set, take, drop, length-set}
+use lib.Seq.{sets, take-all, drop-cons, getD-set-same, getD-set-other}
 use Rattle.blocks.proofs.Laws.{blocks-around}
-use Rattle.memory.specs.Rows.{row, putRow, bytes, Bytes}
+use Rattle.memory.specs.Rows.{row, putRow}
 
 pub length-putRow : (vs l : List ℕ) (p o : ℕ) → length (putRow l p o vs) ≡ length l
 length-putRow [] l p o = refl
@@ -68,17 +67,12 @@ row-part (suc n) p o l h =
     let rest : row p (o + 1) n l ≡ take n (drop (suc (p + o)) l) = rw (← e) (row-part n p (o + 1) l (omega arith)) in
     rw (drop-cons l (p + o) 0 (omega arith)) (ap (λ x. getD l (p + o) 0 ∷ x) rest)
 
+-- a list of n words, read word by word, is the list
+pub row-all : (n : ℕ) (l : List ℕ) → length l ≡ n → row 0 0 n l ≡ l
+row-all n l size = row-part n 0 0 l (omega arith) ∙ take-all n l (omega arith)
+
 pub putRow-sets : (vs l : List ℕ) (p o : ℕ) → putRow l p o vs ≡ sets l (p + o) vs
 putRow-sets [] l p o = refl
 putRow-sets (v ∷ vs) l p o =
     let e : p + (o + 1) ≡ suc (p + o) = omega arith in
     rw (← e) (putRow-sets vs (set l (p + o) v) p (o + 1))
-
--- bytes stored one to a word are read back
-pub bytes-row : (n : ℕ) (l : List ℕ) → Bytes n l → bytes (row 0 0 n l) ≡ l
-bytes-row n l b =
-    let size = b .size in
-    let all : row 0 0 n l ≡ l = row-part n 0 0 l (omega arith) ∙ take-all n l (omega arith) in
-    let at : (i : ℕ) → i < length (bytes l) → getD (bytes l) i 0 ≡ getD l i 0 =
-    λ i h. List·getD-map (λ x. x % 256) l i 0 ∙ mod-eq-of-lt (b .small i (omega (arith, length-map l (λ (x : ℕ). x % 256)))) in
-    ap bytes all ∙ ext-getD 0 (bytes l) l (length-map l (λ x. x % 256)) at

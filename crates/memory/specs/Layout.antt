@@ -18,7 +18,7 @@ use Rattle.server.specs.declared.Words.{Words}
 use Rattle.server.specs.declared.Message.{Message}
 use Rattle.memory.specs.declared.Numbers.{Numbers}
 use Rattle.memory.specs.declared.Counts.{Counts}
-use Rattle.memory.specs.Rows.{row, putRow, bytes}
+use Rattle.memory.specs.Rows.{row, putRow}
 
 -- ---- sizes: servers, slots (one for each server and bucket), messages
 
@@ -115,7 +115,7 @@ headOf w =
       role = getD w 3 0;
       last = getD w 4 0;
       stopped = getD w 5 0;
-      votes = bytes (drop 6 w);
+      votes = drop 6 w;
     }
 
 abbrev pub headFields : List ℕ → ℕ → Head
@@ -162,7 +162,7 @@ roundOf w =
       number = getD w 1 0;
       election = getD w 2 0;
       best = versionOf (drop 3 w);
-      marks = bytes (drop 5 w);
+      marks = drop 5 w;
     }
 
 abbrev pub roundFields : List ℕ → ℕ → Round

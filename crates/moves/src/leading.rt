@@ -74,7 +74,7 @@ fn finished_move(result: u32, l: Local) -> Move
     ensures { λ r. ⌜ r ≡ finishedMove result l ⌝ }
 {
     let best = no_version();
-    let marks = [0u8; 7];
+    let marks = [0u32; 7];
     let round = Round {
         purpose: 0,
         number: 0,

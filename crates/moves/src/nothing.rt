@@ -31,7 +31,7 @@ pub fn no_round() -> Round
         number: 0,
         election: 0,
         best: no_version(),
-        marks: [0u8; 7],
+        marks: [0u32; 7],
     }
 }
 

@@ -54,7 +54,15 @@ fn counted_move(n: u32, me: u32, result: u32, k: Counted, l: Local) -> Move
 }
 
 // A reply that does not belong to the round of the slot changes nothing.
-fn reply_move(n: u32, me: u32, result: u32, mark: u8, report: Version, m: Message, l: Local) -> Move
+fn reply_move(
+    n: u32,
+    me: u32,
+    result: u32,
+    mark: u32,
+    report: Version,
+    m: Message,
+    l: Local,
+) -> Move
     ensures { λ r. ⌜ r ≡ replyMove n me result mark report m l ⌝ }
 {
     if matches(l.round, m.election, m.round) {
@@ -69,7 +77,7 @@ pub fn reported_move(
     n: u32,
     me: u32,
     result: u32,
-    mark: u8,
+    mark: u32,
     reports: bool,
     m: Message,
     l: Local,
@@ -81,7 +89,7 @@ pub fn reported_move(
 }
 
 // Whether a reply closes the checking round of the slot.
-pub fn closes_check(n: u32, mark: u8, reports: bool, m: Message, l: Local) -> bool
+pub fn closes_check(n: u32, mark: u32, reports: bool, m: Message, l: Local) -> bool
     ensures { λ r. ⌜ r ≡ readsBy n m l (Reply mark reports) ⌝ }
 {
     let round = l.round;

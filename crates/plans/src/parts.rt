@@ -84,7 +84,7 @@ fn no_head() -> Head
         role: 0,
         last: 0,
         stopped: 0,
-        votes: [0u8; 7],
+        votes: [0u32; 7],
     }
 }
 

@@ -21,13 +21,13 @@ fn head_fields(heads: &[u32; 112], s: usize) -> Head
 {
     let b = s * HEAD;
     let votes = [
-        (heads[b + 6] % 256) as u8,
-        (heads[b + 7] % 256) as u8,
-        (heads[b + 8] % 256) as u8,
-        (heads[b + 9] % 256) as u8,
-        (heads[b + 10] % 256) as u8,
-        (heads[b + 11] % 256) as u8,
-        (heads[b + 12] % 256) as u8,
+        heads[b + 6],
+        heads[b + 7],
+        heads[b + 8],
+        heads[b + 9],
+        heads[b + 10],
+        heads[b + 11],
+        heads[b + 12],
     ];
     Head {
         number: heads[b + 0],
@@ -63,16 +63,16 @@ fn head_numbers(heads: &mut [u32; 112], s: usize, h: Head)
     heads[b + 5] = h.stopped;
 }
 
-fn head_votes(heads: &mut [u32; 112], s: usize, votes: [u8; 7])
+fn head_votes(heads: &mut [u32; 112], s: usize, votes: [u32; 7])
     requires { ⌜ s < serverRoom ⌝ }
     ensures { λ _. ⌜ now (heads .exit) ≡ putRow (now (heads .entry)) (s * headSize) 6 (row 0 0 serverRoom votes) ⌝ }
 {
     let b = s * HEAD;
-    heads[b + 6] = votes[0] as u32;
-    heads[b + 7] = votes[1] as u32;
-    heads[b + 8] = votes[2] as u32;
-    heads[b + 9] = votes[3] as u32;
-    heads[b + 10] = votes[4] as u32;
-    heads[b + 11] = votes[5] as u32;
-    heads[b + 12] = votes[6] as u32;
+    heads[b + 6] = votes[0];
+    heads[b + 7] = votes[1];
+    heads[b + 8] = votes[2];
+    heads[b + 9] = votes[3];
+    heads[b + 10] = votes[4];
+    heads[b + 11] = votes[5];
+    heads[b + 12] = votes[6];
 }

@@ -64,13 +64,13 @@ fn round_fields(slots: &[u32; 1792], k: usize) -> Round
         counter: slots[b + 6],
     };
     let marks = [
-        (slots[b + 7] % 256) as u8,
-        (slots[b + 8] % 256) as u8,
-        (slots[b + 9] % 256) as u8,
-        (slots[b + 10] % 256) as u8,
-        (slots[b + 11] % 256) as u8,
-        (slots[b + 12] % 256) as u8,
-        (slots[b + 13] % 256) as u8,
+        slots[b + 7],
+        slots[b + 8],
+        slots[b + 9],
+        slots[b + 10],
+        slots[b + 11],
+        slots[b + 12],
+        slots[b + 13],
     ];
     Round {
         purpose: slots[b + 2],
@@ -104,18 +104,18 @@ fn round_numbers(slots: &mut [u32; 1792], k: usize, r: Round)
     slots[b + 6] = best.counter;
 }
 
-fn round_marks(slots: &mut [u32; 1792], k: usize, marks: [u8; 7])
+fn round_marks(slots: &mut [u32; 1792], k: usize, marks: [u32; 7])
     requires { ⌜ k < slotRoom ⌝ }
     ensures { λ _. ⌜ now (slots .exit) ≡ putRow (now (slots .entry)) (k * slotSize) 7 (row 0 0 serverRoom marks) ⌝ }
 {
     let b = k * SLOT;
-    slots[b + 7] = marks[0] as u32;
-    slots[b + 8] = marks[1] as u32;
-    slots[b + 9] = marks[2] as u32;
-    slots[b + 10] = marks[3] as u32;
-    slots[b + 11] = marks[4] as u32;
-    slots[b + 12] = marks[5] as u32;
-    slots[b + 13] = marks[6] as u32;
+    slots[b + 7] = marks[0];
+    slots[b + 8] = marks[1];
+    slots[b + 9] = marks[2];
+    slots[b + 10] = marks[3];
+    slots[b + 11] = marks[4];
+    slots[b + 12] = marks[5];
+    slots[b + 13] = marks[6];
 }
 
 // The open call of slot k, without its words.

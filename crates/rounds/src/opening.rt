@@ -30,7 +30,7 @@ pub fn new_round(me: u32, purpose: u32, h: Head, v: Version) -> Round
     ensures is { λ r. ⌜ r ≡ newRoundOf me purpose h v ⌝ }
     ensures means { λ r. ⌜ ((n b : ℕ) (x : Beside) → h .last + 1 < 2 ^ 32 → versionIn v ≡ copyAt (storedIn h (x .copies)) b .version → openIn n r (reportTo (purposeIn purpose) (copyAt (storedIn h (x .copies)) b) .table) ≡ newRound (min 7 n) me b (purposeIn purpose) (serverIn n x h)) ⌝ }
 {
-    let marks = placed([0u8; 7], me, 1);
+    let marks = placed([0u32; 7], me, 1);
     let best = report_to(purpose, v);
     let number = wrapping_add_u32(h.last, 1);
     Round {

@@ -44,7 +44,7 @@ pub fn fails(n: u32, r: Round) -> bool
 }
 
 // Whether a mark stands for no reply yet.
-fn is_silent(m: u8) -> bool
+fn is_silent(m: u32) -> bool
     ensures { λ b. ⌜ b ≡ isSilent (markIn m) ⌝ }
 {
     if m == 1 {
@@ -73,7 +73,7 @@ fn pick_version(b: bool, v: Version, w: Version) -> Version
 }
 
 // The round with the reply of q counted: a mark is set once, and what q reported counts only with its mark.
-pub fn counted(n: u32, q: u32, mark: u8, report: Version, r: Round) -> Counted
+pub fn counted(n: u32, q: u32, mark: u32, report: Version, r: Round) -> Counted
     ensures is { λ k. ⌜ k ≡ countedOf n q mark report r ⌝ }
     ensures means { λ k. ⌜ ((t u : List Entry) → openIn n (k .round) (pickTable (k .better) u t) ≡ counted q (markIn mark) (record { version = versionIn report; table = u }) (openIn n r t)) ⌝ }
 {

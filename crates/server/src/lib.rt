@@ -13,6 +13,7 @@ pub struct Version {
 }
 
 // A server without its copies, rounds and calls. Stored: number, vote, leader. Forgotten at a stop: role, last (the number of the last round), votes.
+// Votes, and the marks of a round, are words, as the memory keeps them: a load or a store converts nothing.
 pub struct Head {
     pub number: u32,
     pub vote: u32,
@@ -20,7 +21,7 @@ pub struct Head {
     pub role: u32,
     pub last: u32,
     pub stopped: u32,
-    pub votes: [u8; 7],
+    pub votes: [u32; 7],
 }
 
 // An open round: one mark for each server beside its numbers. With purpose 0 no round is open.
@@ -29,7 +30,7 @@ pub struct Round {
     pub number: u32,
     pub election: u32,
     pub best: Version,
-    pub marks: [u8; 7],
+    pub marks: [u32; 7],
 }
 
 // A round with a reply counted, and whether the reported copy is now the best one.
@@ -87,7 +88,7 @@ pub enum Handling {
     // REPLICAWRITE or REPLICAREAD
     Request { writes: bool },
     // a reply to a round: its mark, and whether it reports a copy
-    Reply { mark: u8, reports: bool },
+    Reply { mark: u32, reports: bool },
     // none of the nine kinds
     Other,
 }

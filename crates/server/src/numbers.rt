@@ -32,7 +32,7 @@ pub fn above(v: Version, w: Version) -> bool
 }
 
 // How many of the first n places hold x.
-pub fn count(n: u32, places: [u8; 7], x: u8) -> u32
+pub fn count(n: u32, places: [u32; 7], x: u32) -> u32
     ensures { λ r. ⌜ r ≡ countOf x (take n places) ⌝ }
 {
     let m = at_most(n as usize, 7);
@@ -48,7 +48,7 @@ pub fn count(n: u32, places: [u8; 7], x: u8) -> u32
 }
 
 // Seven places with x at q; there is none at 7 or above.
-pub fn placed(places: [u8; 7], q: u32, x: u8) -> [u8; 7]
+pub fn placed(places: [u32; 7], q: u32, x: u32) -> [u32; 7]
     ensures { λ r. ⌜ r ≡ set places q x ⌝ }
 {
     let mut a = places;
@@ -61,7 +61,7 @@ pub fn placed(places: [u8; 7], q: u32, x: u8) -> [u8; 7]
 }
 
 // What stands at q among the first n places, and `past` where there is none.
-pub fn place_at(n: u32, places: [u8; 7], q: u32, past: u8) -> u8
+pub fn place_at(n: u32, places: [u32; 7], q: u32, past: u32) -> u32
     ensures { λ r. ⌜ r ≡ getD (take n places) q past ⌝ }
 {
     if n <= q {

@@ -69,7 +69,7 @@ pub fn ceased(h: Head) -> Head
 {
     let mut a = h;
     a.role = 0;
-    a.votes = [0u8; 7];
+    a.votes = [0u32; 7];
     a
 }
 
@@ -99,7 +99,7 @@ pub fn standing(n: u32, h: Head) -> Head
 }
 
 // The vote of server q is v.
-fn voted(q: u32, v: u8, h: Head) -> Head
+fn voted(q: u32, v: u32, h: Head) -> Head
     ensures { λ r. ⌜ r ≡ votedHead q v h ⌝ }
 {
     let old = h.votes;
@@ -110,7 +110,7 @@ fn voted(q: u32, v: u8, h: Head) -> Head
 }
 
 // The number of a yes or no.
-fn numbered(b: bool) -> u8
+fn numbered(b: bool) -> u32
     ensures { λ r. ⌜ r ≡ numbered b ⌝ }
 {
     if b { 1 } else { 0 }

@@ -15,7 +15,6 @@ use Rattle.model.specs.Calls as calls
 use Rattle.server.specs.declared.Round.{Round}
 use Rattle.server.specs.declared.Call.{Call}
 use Rattle.server.specs.Views.{among, roundIn, callIn}
-use Rattle.memory.specs.Rows.{Bytes}
 use Rattle.memory.specs.Layout.{serverRoom, slotRoom, versionAt, roundAt, callAt, wordsAt, putVersion, putRound, putCall}
 use Rattle.memory.proofs.Records.{
   length-putVersion,
@@ -39,7 +38,6 @@ use Rattle.moves.specs.declared.Local.{Local}
 use Rattle.moves.specs.Moves.{noRound, noCall}
 use Rattle.views.specs.Memory.{slotOf}
 use Rattle.views.specs.Changes.{putLocal, isIdle, clearedSlot, clearedSlots}
-use Rattle.views.proofs.Whole.{zeros}
 
 -- the slot reads the same before and after
 pub record SameSlot (before after : List ℕ) (j : ℕ) : Type 0 where
@@ -80,7 +78,7 @@ module _ (l : List ℕ) (k : ℕ) (x : Local) where
     pub version-putLocal : versionAt (putLocal l k x) k ≡ x .version
     version-putLocal = rw (version-putCall, version-putRound, version-putVersion l k (x .version) (omega arith))
 
-    pub round-putLocal : Bytes serverRoom (x .round .marks) → roundAt (putLocal l k x) k ≡ x .round
+    pub round-putLocal : length (x .round .marks) ≡ serverRoom → roundAt (putLocal l k x) k ≡ x .round
     round-putLocal whole = let h = length-putVersion l k (x .version) in rw (round-putCall, round-putRound one k (x .round) (omega arith) whole)
 
     pub call-putLocal : callAt (putLocal l k x) k ≡ x .call
@@ -136,7 +134,7 @@ module _ (l : List ℕ) (k : ℕ) where
   emptied : length l ≡ 1792 → k < slotRoom → Idle cleared k
   emptied room slot =
       let h = length-putRound l k noRound in
-      let r : roundAt cleared k ≡ noRound = round-putCall (putRound l k noRound) k noCall k ∙ round-putRound l k noRound (omega arith) zeros in
+      let r : roundAt cleared k ≡ noRound = round-putCall (putRound l k noRound) k noCall k ∙ round-putRound l k noRound (omega arith) refl in
       let c : callAt cleared k ≡ noCall = call-putCall (putRound l k noRound) k noCall (omega arith) in
       record { round = λ n t. rw r (no-round n noRound t refl); call = λ words. rw c (no-call noCall words refl) }
 

@@ -1,13 +1,10 @@
--- The votes and marks of a local are seven bytes, as read from the memory and after each move.
+-- The votes and marks of a local have seven places, as read from the memory and after each move.
 use mathlib.Core.Path.{_≡_, refl, _∙_}
 use mathlib.Core.Bool.{Bool, true, false}
-use mathlib.Core.List.{List, []}
-use Prim.Native.Nat.{ℕ, _*_, _%_, _<_}
-use native.Mathlib.Decide.{ℕ-discrete}
-use native.Mathlib.Omega.{arith}
+use mathlib.Core.List.{[]}
+use Prim.Native.Nat.{ℕ}
 use lib.Dec.{eqb, ltb, leb}
-use lib.ListN.{length, getD, set, replicate, take, length-map, length-set, getD-replicate, List·getD-map}
-use lib.Seq.{getD-set-same, getD-set-other}
+use lib.ListN.{length, getD, replicate, take, length-set}
 use Rattle.model.specs.Replica.{mayAccept}
 use Rattle.model.specs.Leader.{closes, fails}
 use Rattle.server.specs.declared.Version.{Version}
@@ -17,12 +14,11 @@ use Rattle.server.specs.declared.Counted.{Counted}
 use Rattle.server.specs.declared.Message.{Message}
 use Rattle.server.specs.declared.Handling.{Handling}
 use Rattle.server.specs.declared.Handling.the-variants.{Vote, Request, Reply, Other}
-use Rattle.server.specs.Views.{among, markIn, openIn, roundIn, storedIn}
-use Rattle.server.specs.Heads.{numbered, afterVoteHead, raisedHead, stoodHead, electedHead, onAckVoteHead}
+use Rattle.server.specs.Views.{markIn, openIn, roundIn, storedIn}
+use Rattle.server.specs.Heads.{afterVoteHead, raisedHead, stoodHead, electedHead, onAckVoteHead}
 use Rattle.rounds.specs.Rounds.{isSilent, newRoundOf, countedOf, matching}
 use Rattle.rounds.specs.Kinds.{handlingIn}
-use Rattle.memory.specs.Rows.{row, bytes, Bytes}
-use Rattle.memory.specs.Layout.{serverRoom, headSize, slotSize, headAt, roundAt}
+use Rattle.memory.specs.Layout.{serverRoom, headAt, roundAt}
 use Rattle.moves.specs.declared.Local.{Local}
 use Rattle.moves.specs.declared.Move.{Move}
 use Rattle.moves.specs.Moves.{
@@ -64,39 +60,19 @@ either : {A : Type 0} (P : A → Type 0) (t : Bool) (x y : A) → P x → P y �
 either P true x y a b = a
 either P false x y a b = b
 
--- ---- bytes
-
-pub zeros : Bytes serverRoom (replicate 7 0)
-zeros = record { size = refl; small = λ i h. rw (getD-replicate {A = ℕ} 7 i 0 0 h) (omega arith) }
-
-bytes-of : (l : List ℕ) → Bytes (length l) (bytes l)
-bytes-of l = record { size = length-map l (λ x. x % 256); small = λ i h. rw (List·getD-map (λ x. x % 256) l i 0) (omega arith) }
-
-bytes-set : (n : ℕ) (l : List ℕ) (q v : ℕ) → Bytes n l → v < 256 → Bytes n (set l q v)
-bytes-set n l q v b low = record { size = length-set l q v ∙ b .size; small = λ i h. at i h (ℕ-discrete i q) }
-  where
-    at : (i : ℕ) → i < n → Dec (i ≡ q) → getD (set l q v) i 0 < 256
-    at i h (yes e) = let s = b .size in rw (e, getD-set-same l q v 0 (omega arith)) low
-    at i h (no d) = rw (getD-set-other l q i v 0 d) (b .small i h)
-
 -- ---- as read
 
 pub whole-at : (m : Memory) (s k : ℕ) → WholeLocal (localAt m s k)
 unfolding headAt roundAt
-whole-at m s k = record { votes = bytes-of (row (s * headSize) 6 serverRoom (m .heads)); marks = bytes-of (row (k * slotSize) 7 serverRoom (m .slots)) }
+whole-at m s k = record { votes = refl; marks = refl }
 
 -- ---- heads and rounds
 
 abbrev WholeHead : Head → Type 0
-WholeHead h = Bytes serverRoom (h .votes)
+WholeHead h = length (h .votes) ≡ serverRoom
 
 abbrev WholeRound : Round → Type 0
-WholeRound r = Bytes serverRoom (r .marks)
-
-numbered-small : (t : Bool) → numbered t < 256
-unfolding numbered
-numbered-small true = omega arith
-numbered-small false = omega arith
+WholeRound r = length (r .marks) ≡ serverRoom
 
 whole-afterVote : (e p : ℕ) (h : Head) → WholeHead h → WholeHead (afterVoteHead e p h)
 unfolding afterVoteHead
@@ -104,20 +80,20 @@ whole-afterVote e p h w = w
 
 whole-elected : (n me : ℕ) (h : Head) → WholeHead (electedHead n me h)
 unfolding electedHead stoodHead afterVoteHead
-whole-elected n me h = either WholeHead (ltb (raisedHead h .number) (h .vote)) _ _ zeros (bytes-set serverRoom (replicate 7 0) me _ zeros (numbered-small _))
+whole-elected n me h = either WholeHead (ltb (raisedHead h .number) (h .vote)) _ _ refl (length-set (replicate 7 0) me _)
 
 whole-ackVote : (n q e : ℕ) (h : Head) → WholeHead h → WholeHead (onAckVoteHead n q e h)
 unfolding onAckVoteHead
 whole-ackVote n q e h w =
-    either WholeHead (eqb (h .role) 1) _ _ (either WholeHead (eqb e (h .number)) _ _ (bytes-set serverRoom (h .votes) q 1 w (omega arith)) w) w
+    either WholeHead (eqb (h .role) 1) _ _ (either WholeHead (eqb e (h .number)) _ _ (length-set (h .votes) q 1 ∙ w) w) w
 
 whole-newRound : (me purpose : ℕ) (h : Head) (v : Version) → WholeRound (newRoundOf me purpose h v)
-whole-newRound me purpose h v = bytes-set serverRoom (replicate 7 0) me 1 zeros (omega arith)
+whole-newRound me purpose h v = length-set (replicate 7 0) me 1
 
-whole-counted : (n q mark : ℕ) (report : Version) (r : Round) → mark < 256 → WholeRound r → WholeRound (countedOf n q mark report r .round)
+whole-counted : (n q mark : ℕ) (report : Version) (r : Round) → WholeRound r → WholeRound (countedOf n q mark report r .round)
 unfolding countedOf
-whole-counted n q mark report r low w =
-    either (λ (c : Counted). WholeRound (c .round)) (isSilent (markIn (getD (take n (r .marks)) q 2))) _ _ (bytes-set serverRoom (r .marks) q mark w low) w
+whole-counted n q mark report r w =
+    either (λ (c : Counted). WholeRound (c .round)) (isSilent (markIn (getD (take n (r .marks)) q 2))) _ _ (length-set (r .marks) q mark ∙ w) w
 
 -- ---- moves
 
@@ -126,7 +102,7 @@ WholeMove v = WholeLocal (v .local)
 
 whole-finished : (result : ℕ) (l : Local) → WholeLocal l → WholeMove (finishedMove result l)
 unfolding finishedMove
-whole-finished result l w = record { votes = w .votes; marks = zeros }
+whole-finished result l w = record { votes = w .votes; marks = refl }
 
 module _ (me : ℕ) where
   whole-reading : (purpose : ℕ) (l : Local) → WholeLocal l → WholeMove (readingMove me purpose l)
@@ -175,7 +151,7 @@ whole-begun n me i kind result l w =
 -- ---- messages
 
 whole-ceasing : (v : Move) → WholeMove v → WholeMove (ceasing v)
-whole-ceasing v w = record { votes = zeros; marks = w .marks }
+whole-ceasing v w = record { votes = refl; marks = w .marks }
 
 whole-steppedDown : (v : Move) → WholeMove v → WholeMove (steppedDown v)
 unfolding steppedDown
@@ -186,23 +162,6 @@ whole-fetching : (better : Bool) (v : Move) → WholeMove v → WholeMove (fetch
 unfolding fetching
 whole-fetching better v w = w
 
--- the mark of a reply is a byte
-abbrev SmallMark : Handling → Type 0
-SmallMark (Vote kind) = Unit {0}
-SmallMark (Request writes) = Unit {0}
-SmallMark (Reply mark reports) = mark < 256
-SmallMark Other = Unit {0}
-
-handling-small : (kind : ℕ) → SmallMark (handlingIn kind)
-unfolding handlingIn
-handling-small kind =
-    either SmallMark (among 3 kind) _ _ tt
-    (either SmallMark (eqb kind 4) _ _ tt
-    (either SmallMark (eqb kind 5) _ _ (omega arith)
-    (either SmallMark (eqb kind 6) _ _ (omega arith)
-    (either SmallMark (eqb kind 7) _ _ tt
-    (either SmallMark (eqb kind 8) _ _ (omega arith) (either SmallMark (eqb kind 9) _ _ (omega arith) tt))))))
-
 module _ (n me result : ℕ) (m : Message) (l : Local) (w : WholeLocal l) where
   whole-countedMove : (k : Counted) → WholeRound (k .round) → WholeMove (countedMove n me result k l)
   unfolding countedMove
@@ -211,11 +170,11 @@ module _ (n me result : ℕ) (m : Message) (l : Local) (w : WholeLocal l) where
       either WholeMove (closes n (openIn n (k .round) [])) _ _ (whole-fetching (k .better) _ (whole-closed me result _ counted))
       (either WholeMove (fails n (openIn n (k .round) [])) _ _ (whole-ceasing (quiet l) w) (whole-fetching (k .better) (quiet (withRound (k .round) l)) counted))
 
-  whole-reply : (mark : ℕ) (report : Version) → mark < 256 → WholeMove (replyMove n me result mark report m l)
+  whole-reply : (mark : ℕ) (report : Version) → WholeMove (replyMove n me result mark report m l)
   unfolding replyMove
-  whole-reply mark report low =
+  whole-reply mark report =
       either WholeMove (matching (m .election) (m .round) (roundIn n (l .round) [])) _ _
-      (whole-countedMove (countedOf n (m .sender) mark report (l .round)) (whole-counted n (m .sender) mark report (l .round) low (w .marks))) w
+      (whole-countedMove (countedOf n (m .sender) mark report (l .round)) (whole-counted n (m .sender) mark report (l .round) (w .marks))) w
 
   whole-vote : WholeMove (voteMove m l)
   unfolding voteMove
@@ -234,16 +193,16 @@ module _ (n me result : ℕ) (m : Message) (l : Local) (w : WholeLocal l) where
       either WholeMove (eqb kind 1) _ _ whole-vote
       (either WholeMove (eqb kind 2) _ _ (record { votes = whole-ackVote n (m .sender) (m .election) (l .head) (w .votes); marks = w .marks }) w)
 
-  whole-handling : (x : Handling) → SmallMark x → WholeMove (handlingMove n me result m l x)
+  whole-handling : (x : Handling) → WholeMove (handlingMove n me result m l x)
   unfolding handlingMove
-  whole-handling (Vote kind) h = whole-voting kind
-  whole-handling (Request writes) h = whole-request writes
-  whole-handling (Reply mark reports) h = whole-reply mark _ h
-  whole-handling Other h = w
+  whole-handling (Vote kind) = whole-voting kind
+  whole-handling (Request writes) = whole-request writes
+  whole-handling (Reply mark reports) = whole-reply mark _
+  whole-handling Other = w
 
   pub whole-handled : WholeLocal (handledMove n me result m l .local)
   unfolding handledMove
-  whole-handled = whole-handling (handlingIn (m .kind)) (handling-small (m .kind))
+  whole-handled = whole-handling (handlingIn (m .kind))
 
 -- ---- lines that name a server
 

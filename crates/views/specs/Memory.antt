@@ -14,7 +14,6 @@ use Rattle.model.specs.Cluster as cluster
 use Rattle.cells.specs.Cells.{Front, Cell}
 use Rattle.server.specs.Views.{wordsIn}
 use Rattle.memory.specs.declared.Counts.{Counts}
-use Rattle.memory.specs.Rows.{Bytes}
 use Rattle.memory.specs.Layout.{serverRoom, headAt, versionAt, roundAt, callAt, wordsAt, countsAt, contentAt}
 use Rattle.messages.specs.Messages.{Sent, messagesAt}
 use Rattle.moves.specs.declared.Local.{Local}
@@ -64,10 +63,10 @@ tableAt l i = tableOf maxEntries maxValueBytes (contentAt l i)
 abbrev pub localAt : Memory → ℕ → ℕ → Local
 localAt m s k = local (headAt (m .heads) s) (versionAt (m .slots) k) (roundAt (m .slots) k) (callAt (m .slots) k)
 
--- one whose votes and marks are seven bytes
+-- one whose votes and marks have seven places
 pub record WholeLocal (l : Local) : Type 0 where
-  pub votes : Bytes serverRoom (l .head .votes)
-  pub marks : Bytes serverRoom (l .round .marks)
+  pub votes : length (l .head .votes) ≡ serverRoom
+  pub marks : length (l .round .marks) ≡ serverRoom
 
 abbrev pub callWordsAt : Memory → ℕ → calls.Words
 callWordsAt m k = wordsIn (wordsAt (m .slots) (m .texts) k)

@@ -26,6 +26,9 @@ loop-holds : tie.Need-loop-holds Inv-loop μ-loop
 unfolding countOf
 loop-holds c = (omega arith, (omega arith, refl))
 
+mul-if1 : tie.Need-mul-if1 Inv-loop μ-loop
+mul-if1 c = omega arith
+
 array-read-if1 : tie.Need-array-read-if1 Inv-loop μ-loop
 array-read-if1 c = omega arith
 
@@ -66,6 +69,7 @@ count-spec =
     μ-loop
     at-most-requires
     loop-holds
+    mul-if1
     array-read-if1
     add-found
     add-i

@@ -20,6 +20,9 @@ returns-2 c =
     let seven : length (s .args .t2) ≡ 7 = s .good .1 .0 .1 .0 .1 in
     sym (List·getD-eq-default (take (s .args .n) (s .args .t2)) (s .args .past) (omega (arith, length-take (s .args .n) (s .args .t2))))
 
+mul-result : tie.Need-mul-result
+mul-result c = search needs
+
 array-read-result : tie.Need-array-read-result
 array-read-result c = search needs
 
@@ -31,4 +34,4 @@ returns-3 c =
     sym (getD-take (a .n) (a .t2) (a .q) (a .past) h ∙ getD-within (a .t2) (a .q) (a .past) 0 (omega arith))
 
 pub place-at-spec : {M : Type 1} → statement M
-place-at-spec = tie.close (tie.spec returns returns-2 array-read-result returns-3)
+place-at-spec = tie.close (tie.spec returns returns-2 mul-result array-read-result returns-3)

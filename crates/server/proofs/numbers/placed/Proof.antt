@@ -7,6 +7,9 @@ use lib.Seq.{set-out}
 use Rattle.server.proofs.numbers.placed.Statement.{statement}
 use Rattle.server.proofs.numbers.placed.Tie as tie
 
+mul-a : tie.Need-mul-a
+mul-a c = search needs
+
 array-write-a : tie.Need-array-write-a
 array-write-a c = search needs
 
@@ -20,4 +23,4 @@ returns-2 c =
     sym (set-out (a .places) (a .q) (a .x) (omega arith))
 
 pub placed-spec : {M : Type 1} → statement M
-placed-spec = tie.close (tie.spec array-write-a returns returns-2)
+placed-spec = tie.close (tie.spec mul-a array-write-a returns returns-2)
