@@ -6,9 +6,7 @@ use crate::carrying::report_of;
 use crate::numbers::standing;
 use memory::Counts;
 use messages::load_message;
-use moves::Local;
 use moves::handling::handled_move;
-use plans::Step;
 use plans::deliveries::asked_effect;
 use plans::deliveries::is_gone;
 use plans::deliveries::message_refusal;
@@ -18,54 +16,10 @@ use plans::limits::places_left;
 use plans::parts::no_effect;
 use records::counters::load_counts;
 use runs::Report;
-use server::Effect;
-use server::Message;
 ghost use Prim.Native.Nat.{_<_};
 ghost use Rattle.views.specs.Memory.{memory};
 ghost use Rattle.plans.specs.Arrays.{Measured};
-ghost use Rattle.machine.specs.Contracts.{Handable, Reported, handledRun, HandedListed, HandRan};
-
-// A message to a server that is there; f is the effect that it asks for, if it does.
-fn hand_to(
-    counts: &mut [u32; 8],
-    heads: &mut [u32; 112],
-    slots: &mut [u32; 1792],
-    copies: &mut [u8; 7168],
-    works: &mut [u8; 7168],
-    texts: &[u8; 3584],
-    queue: &mut [u32; 512],
-    loads: &mut [u8; 8192],
-    answers: &mut [u32; 32],
-    c: Counts,
-    x: Step,
-    m: Message,
-    l: Local,
-    f: Effect,
-) -> Report
-    requires { ⌜ Handable c x ⌝ }
-    ensures { λ r. ⌜ Reported (handledRun (memory (now (counts .entry)) (now (heads .entry)) (now (slots .entry)) (now (copies .entry)) (now (works .entry)) (now (texts .entry)) (now (queue .entry)) (now (loads .entry))) (now (answers .entry)) c x m l f) f (memory (now (counts .exit)) (now (heads .exit)) (now (slots .exit)) (now (copies .exit)) (now (works .exit)) (now (texts .entry)) (now (queue .exit)) (now (loads .exit))) (now (answers .exit)) r ⌝ }
-{
-    let v = handled_move(c.servers, x.server, f.result, m, l);
-    if places_left(c, x.removes, v.sends) {
-        let t = carry_out(
-            counts,
-            heads,
-            slots,
-            copies,
-            works,
-            texts,
-            queue,
-            loads,
-            answers,
-            c,
-            x,
-            v,
-            f.table,
-        );
-        return report_of(t, x, f);
-    }
-    refused(12, f)
-}
+ghost use Rattle.machine.specs.Contracts.{HandedListed, HandRan};
 
 // A message that is in the list; to a server that is not there, or that is stopped, it is lost.
 fn hand_listed(
@@ -92,22 +46,26 @@ fn hand_listed(
         return lose(counts, queue, loads, c, x, no_effect());
     }
     let f = asked_effect(slots, copies, texts, c.servers, m, l, x);
-    hand_to(
-        counts,
-        heads,
-        slots,
-        copies,
-        works,
-        texts,
-        queue,
-        loads,
-        answers,
-        c,
-        x,
-        m,
-        l,
-        f,
-    )
+    let v = handled_move(c.servers, x.server, f.result, m, l);
+    if places_left(c, x.removes, v.sends) {
+        let t = carry_out(
+            counts,
+            heads,
+            slots,
+            copies,
+            works,
+            texts,
+            queue,
+            loads,
+            answers,
+            c,
+            x,
+            v,
+            f.table,
+        );
+        return report_of(t, x, f);
+    }
+    refused(12, f)
 }
 
 // The message at place i is handed over; `copy` leaves it in the list.
