@@ -5,7 +5,7 @@ use mathlib.Core.List.{List}
 use Prim.Native.Nat.{ℕ, _+_}
 use native.Mathlib.Numerals.{add-one}
 use Rattle.server.specs.Views.{among}
-use Rattle.rounds.specs.Calls.{endedOf}
+use Rattle.open_calls.specs.Calls.{endedOf}
 use Rattle.memory.specs.Layout.{callAt}
 use Rattle.views.specs.Memory.{slotOf}
 use Rattle.views.specs.Changes.{putAnswer, endedCall, endedCalls}

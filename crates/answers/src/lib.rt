@@ -1,7 +1,7 @@
 // The answers of a step in 32 lent words, in blocks of four: the call's number, its result and its rounds.
 use moves::Move;
+use open_calls::ended;
 use records::slots::load_call;
-use rounds::calls::ended;
 use server::Answer;
 use server::Call;
 ghost use mathlib.Core.Path.{_≡_};

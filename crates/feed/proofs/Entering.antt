@@ -1,23 +1,26 @@
 -- The public calls: what the parts of a call leave is what its contract says.
-use mathlib.Core.Path.{_≡_, refl, subst, _∙_}
-use mathlib.Core.List.{List, [], _∷_, _++_}
-use Prim.Native.Nat.{ℕ, _+_, _≤_, _<_}
+use mathlib.Core.Path.{_≡_, refl, sym, ap, subst, _∙_}
+use mathlib.Core.List.{List, [], _∷_, _++_, append-assoc}
+use Prim.Native.Nat.{ℕ, zero, suc, _+_, _≤_, _<_}
 use native.Mathlib.Omega.{arith}
-use lib.ListN.{length, take, drop, getD, set, length-append, length-take}
+use native.Mathlib.Decide.{decLe}
+use lib.ListN.{length, take, drop, getD, set, length-append, length-take, take-append-drop}
+use lib.Seq.{take-all, length-take-le, length-front}
 use Rattle.model.specs.Print.{tallyText}
 use Rattle.print.specs.Printed.{Printed}
 use Rattle.views.specs.Memory.{Memory, memory}
 use Rattle.runs.specs.declared.Tally.{Tally}
 use Rattle.runs.specs.Meaning.{tallyIn}
-use Rattle.input.specs.Reading.{lastRead, lastText, finished, finishedText}
-use Rattle.input.proofs.Whole.{last-none, last-some}
+use Rattle.input.specs.Reading.{fed, fedText, lastRead, lastText, finished, finishedText}
+use Rattle.input.proofs.Whole.{last-is-fed}
+use Rattle.progress.specs.declared.Progress.{Progress}
+use Rattle.progress.specs.Progress.{lineRoom, lastFeed}
+use Rattle.progress.proofs.Feeds.{feeds-none, feeds-one}
 use Rattle.lines.specs.Sessions.{Held, held, Session, session, presentLine, readingIn}
-use Rattle.lines.specs.Lines.{LastLine, none, past, one, LastTold}
-use Rattle.lines.specs.declared.Progress.{Progress}
-use Rattle.parts.specs.Feeding.{PartFed}
-use Rattle.parts.proofs.Advancing.{written-on}
+use Rattle.lines.specs.Feeding.{Fed, PartFed}
+use Rattle.lines.proofs.Advancing.{written-on}
 use Rattle.feed.specs.Entry.{sessionIn, MeasuredIn, SessionFed, Finished, Finishes}
-use Rattle.feed.proofs.Feeding.{Ready, fed-means, line-means, line-ready}
+use Rattle.feed.proofs.Feeding.{Ready, fed-means, part-takes}
 
 -- ---- the three words of a reader
 
@@ -62,40 +65,84 @@ present-some : (h : Held) → 1 ≤ h .count → length (h .bytes) ≡ 121 → 1
 unfolding presentLine
 present-some h c s = rw (length-take (h .count) (h .bytes), s) (omega arith)
 
+-- the end of the input does what a line feed does there, or nothing
+last-fed : (w : Session) → length (w .held .bytes) ≡ 121
+    → (finished (readingIn w) ≡ fed (readingIn w) (lastFeed (w .held .count))) × (lastText (readingIn w) (presentLine (w .held)) ≡ fedText (readingIn w) (lastFeed (w .held .count)))
+unfolding finished lastRead lastText fed fedText presentLine
+last-fed w s = go (decLe 1 (w .held .count))
+  where
+    go : Dec (1 ≤ w .held .count) → (finished (readingIn w) ≡ fed (readingIn w) (lastFeed (w .held .count))) × (lastText (readingIn w) (presentLine (w .held)) ≡ fedText (readingIn w) (lastFeed (w .held .count)))
+    go (yes h) = rw (feeds-one (w .held .count) h) (last-is-fed (readingIn w) (presentLine (w .held)) (present-some (w .held) h s))
+    go (no h) =
+        let z : w .held .count ≡ 0 = omega arith in
+        (rw (z, feeds-none), rw (z, feeds-none))
+
 -- what the last line stands for
 record LastMeans (w w′ : Session) (text : List ℕ) : Type 0 where
   reads : finished (readingIn w) ≡ readingIn w′
   prints : lastText (readingIn w) (presentLine (w .held)) ≡ text
   measured : MeasuredIn w′
 
-last-means : (w w′ : Session) (text : List ℕ) → Ready w → LastLine w w′ text → LastMeans w w′ text
-unfolding finished lastRead lastText
-last-means w w′ text r (none e) = record { reads = rw e; prints = rw e; measured = r .measured }
-last-means w w′ text r (past h) =
-    let k = last-none (readingIn w) (presentLine (w .held)) h in
-    record { reads = k .0; prints = k .1; measured = r .measured }
-last-means w w′ text r (one u x c h e) =
-    let k = last-some (readingIn w) (presentLine (w .held)) h (present-some (w .held) c (r .size)) in
-    let m = line-means w u x r e in
-    record { reads = k .0 ∙ m .0; prints = k .1 ∙ m .1; measured = line-ready w u x r e .measured }
+last-means : (w w′ : Session) (text : List ℕ) → Ready w → Fed w lineRoom (lastFeed (w .held .count)) text w′ → LastMeans w w′ text
+last-means w w′ text r f =
+    let m = fed-means w lineRoom r f in
+    let k = last-fed w (r .size) in
+    record { reads = k .0 ∙ m .reads; prints = k .1 ∙ m .prints; measured = m .ready .measured }
 
-finished-told : (w : Session) (out : List ℕ) (v : Session) (mid : List ℕ) (written : ℕ) (out′ : List ℕ) (r : ℕ) → length (w .held .bytes) ≡ 121 → 1088 ≤ length out
-    → LastTold w out v mid written → Printed (tallyText (tallyIn (v .tally))) mid written out′ r → Finished w out v out′ r
+few-feeds : (n : ℕ) → length (lastFeed n) ≤ 1
+few-feeds n = go (decLe 1 n)
+  where
+    go : Dec (1 ≤ n) → length (lastFeed n) ≤ 1
+    go (yes h) = rw (feeds-one n h) (omega arith)
+    go (no h) =
+        let z : n ≡ 0 = omega arith in
+        rw (z, feeds-none) (omega arith)
+
+-- a last line feed is taken, where there is room for a line
+all-taken : (w : Session) (n : ℕ) (out : List ℕ) (v : Session) (out′ : List ℕ) (taken written : ℕ) → lineRoom ≤ length out → PartFed w (lastFeed n) out v out′ taken written → take taken (lastFeed n) ≡ lastFeed n
+all-taken w n out v out′ taken written r f = go (decLe 1 (length (lastFeed n)))
+  where
+    go : Dec (1 ≤ length (lastFeed n)) → take taken (lastFeed n) ≡ lastFeed n
+    go (yes h) = take-all taken (lastFeed n) (omega (arith, few-feeds n, part-takes w (lastFeed n) out v out′ taken written r h f))
+    go (no h) = take-all taken (lastFeed n) (omega arith)
+
+-- bytes of the first m, and those after them
+rest-of : (n m : ℕ) (l : List ℕ) → n ≤ m → drop n (take m l) ++ drop m l ≡ drop n l
+rest-of zero m l h = take-append-drop m l
+rest-of (suc n) zero l h = absurd (omega arith)
+rest-of (suc n) (suc m) [] h = refl
+rest-of (suc n) (suc m) (x ∷ l) h = rest-of n m l (omega arith)
+
+-- what a part of the output holds is no longer than it
+few-written : (w : Session) (input out : List ℕ) (v : Session) (part : List ℕ) (taken written : ℕ) → PartFed w input out v part taken written → length part ≡ length out → written ≤ length out
+few-written w input out v part taken written k z = omega (arith, k .count, simp length-append at (ap length (k .wrote)))
+
+-- behind what a line prints there is room for the tally
+pub tally-fits : (w : Session) (input out : List ℕ) (v : Session) (part : List ℕ) (taken written : ℕ) → 1088 ≤ length out → PartFed w input (take 1024 out) v part taken written → length part ≡ length (take 1024 out) → written + 64 ≤ length (part ++ drop 1024 out)
+tally-fits w input out v part taken written h k z =
+    rw (length-front out part 1024 z) (omega (arith, few-written w input (take 1024 out) v part taken written k z, length-take-le 1024 out (omega arith)))
+
+finished-told : (w : Session) (out : List ℕ) (v : Session) (part : List ℕ) (taken written : ℕ) (out′ : List ℕ) (r : ℕ) → length (w .held .bytes) ≡ 121 → 1088 ≤ length out
+    → PartFed w (lastFeed (w .held .count)) (take 1024 out) v part taken written → length part ≡ length (take 1024 out)
+    → Printed (tallyText (tallyIn (v .tally))) (part ++ drop 1024 out) written out′ r → Finished w out v out′ r
 unfolding finishedText
-finished-told w out v mid written out′ r s h k p =
+finished-told w out v part taken written out′ r s h k z p =
     let x = k .text in
+    let mid = part ++ drop 1024 out in
     let y = tallyText (tallyIn (v .tally)) in
-    let n : written ≡ length x = k .printed .ends ∙ omega arith in
-    let z : 0 + length x ≡ length x = omega arith in
-    let a : mid ≡ x ++ drop (length x) out = subst (λ (i : ℕ). mid ≡ x ++ drop i out) z (k .printed .is) in
-    let b : out′ ≡ take (length x) mid ++ y ++ drop (length x + length y) mid = subst (λ (i : ℕ). out′ ≡ take i mid ++ y ++ drop (i + length y) mid) n (p .is) in
+    let room : length (take 1024 out) ≡ 1024 = length-take-le 1024 out (omega arith) in
+    let few : length x ≤ 1024 = omega (arith, k .count, few-written w (lastFeed (w .held .count)) (take 1024 out) v part taken written k z) in
+    let fits : Fed w lineRoom (lastFeed (w .held .count)) x v =
+    subst (λ (l : List ℕ). Fed w lineRoom l x v) (all-taken w (w .held .count) (take 1024 out) v part taken written (omega arith) k) (subst (λ (n : ℕ). Fed w n (take taken (lastFeed (w .held .count))) x v) room (k .feeds)) in
+    let a : part ++ drop 1024 out ≡ x ++ drop (length x) out = rw (k .wrote, append-assoc x (drop (length x) (take 1024 out)) (drop 1024 out), rest-of (length x) 1024 out few) in
+    let b : out′ ≡ take (length x) mid ++ y ++ drop (length x + length y) mid = subst (λ (i : ℕ). out′ ≡ take i mid ++ y ++ drop (i + length y) mid) (k .count) (p .is) in
     let wrote : out′ ≡ (x ++ y) ++ drop (length (x ++ y)) out = written-on x y out mid out′ a b in
-    let count : r ≡ length (x ++ y) = p .ends ∙ rw (n, length-append x y) in
+    let count : r ≡ length (x ++ y) = p .ends ∙ rw (k .count, length-append x y) in
     record {
       waits = λ g. absurd (omega arith);
-      leaves = λ g. record { text = x; ends = k .ends; wrote = wrote; count = count };
+      leaves = λ g. record { text = x; ends = fits; wrote = wrote; count = count };
       means = λ g i.
-          let m = last-means w v x (record { measured = i; size = s }) (k .ends) in
+          let m = last-means w v x (record { measured = i; size = s }) fits in
           let t : finishedText (readingIn w) ≡ x ++ y = rw (finishedText, m .prints, m .reads) in
           record { reads = m .reads; wrote = rw t wrote; count = rw t count; measured = m .measured };
     }
@@ -109,15 +156,16 @@ module _ (counts heads slots copies works texts queue loads answers reader line 
       → Finishes counts heads slots copies works texts queue loads answers reader line t out counts heads slots copies works texts queue loads answers reader line out (record { tally = t; taken = 0 })
   end-waits h = record { does = finished-waits _ out h; rests = λ g. refl; wrote = λ g. absurd (omega arith) }
 
-  pub end-finished : (counts′ heads′ slots′ copies′ works′ texts′ queue′ loads′ answers′ reader′ mid : List ℕ) (p : Progress) (out′ : List ℕ) (r : ℕ)
+  pub end-finished : (counts′ heads′ slots′ copies′ works′ texts′ queue′ loads′ answers′ reader′ line′ feed part : List ℕ) (p : Progress) (out′ : List ℕ) (r : ℕ)
       → length reader ≡ 3 → length line ≡ 121 → 1088 ≤ length out
-      → LastTold (session (memory counts heads slots copies works texts queue loads) answers t (getD reader 0 0) (held line (getD reader 1 0))) out (session (memory counts′ heads′ slots′ copies′ works′ texts′ queue′ loads′) answers′ (p .tally) (p .lines) (held line (p .held))) mid (p .written)
-      → Printed (tallyText (tallyIn (p .tally))) mid (p .written) out′ r
+      → PartFed (session (memory counts heads slots copies works texts queue loads) answers t (getD reader 0 0) (held line (getD reader 1 0))) feed (take 1024 out) (session (memory counts′ heads′ slots′ copies′ works′ texts′ queue′ loads′) answers′ (p .tally) (p .lines) (held line′ (p .held))) part (p .taken) (p .written)
+      → feed ≡ lastFeed (getD reader 1 0) → length part ≡ length (take 1024 out)
+      → Printed (tallyText (tallyIn (p .tally))) (part ++ drop 1024 out) (p .written) out′ r
       → reader′ ≡ set (set (set reader 0 (p .lines)) 1 (p .held)) 2 r
-      → Finishes counts heads slots copies works texts queue loads answers reader line t out counts′ heads′ slots′ copies′ works′ texts′ queue′ loads′ answers′ reader′ line out′ (record { tally = p .tally; taken = r })
-  end-finished counts′ heads′ slots′ copies′ works′ texts′ queue′ loads′ answers′ reader′ mid p out′ r q s h k g e =
+      → Finishes counts heads slots copies works texts queue loads answers reader line t out counts′ heads′ slots′ copies′ works′ texts′ queue′ loads′ answers′ reader′ line′ out′ (record { tally = p .tally; taken = r })
+  end-finished counts′ heads′ slots′ copies′ works′ texts′ queue′ loads′ answers′ reader′ line′ feed part p out′ r q s h k f z g e =
       record {
-        does = rw (e, word-0 reader (p .lines) (p .held) r q, word-1 reader (p .lines) (p .held) r q) (finished-told _ out _ mid (p .written) out′ r s h k g);
-        rests = λ f. absurd (omega arith);
-        wrote = λ f. rw e (word-2 reader (p .lines) (p .held) r q);
+        does = rw (e, word-0 reader (p .lines) (p .held) r q, word-1 reader (p .lines) (p .held) r q) (finished-told _ out _ part (p .taken) (p .written) out′ r s h (rw f at k) z g);
+        rests = λ i. absurd (omega arith);
+        wrote = λ i. rw e (word-2 reader (p .lines) (p .held) r q);
       }

@@ -1,9 +1,10 @@
 -- What is fed stands for what the definitions make of the same bytes.
 use mathlib.Core.Path.{_≡_, refl, sym, ap, _∙_}
 use mathlib.Core.List.{List, [], _∷_, append-nil}
-use Prim.Native.Nat.{ℕ}
+use Prim.Native.Nat.{ℕ, _≤_}
 use native.Mathlib.Omega.{arith}
-use lib.ListN.{length, length-append}
+use native.Mathlib.Decide.{decLe}
+use lib.ListN.{length, take, length-append}
 use Rattle.model.specs.Run.{step}
 use Rattle.runs.specs.Meaning.{stateIn}
 use Rattle.runs.proofs.Reading.{step-read}
@@ -13,7 +14,8 @@ use Rattle.input.proofs.Parts.{fed-append, fedText-append, line-kept, line-sile
 use Rattle.lines.specs.Sessions.{held, Session, presentLine, readingIn}
 use Rattle.lines.specs.Lines.{LineEnded}
 use Rattle.lines.proofs.Holding.{putAll-means, putAll-size}
-use Rattle.parts.specs.Feeding.{Fed, nothing, bytes, line, past}
+use Rattle.progress.specs.Progress.{lineRoom}
+use Rattle.lines.specs.Feeding.{Fed, nothing, bytes, line, past, PartFed}
 use Rattle.feed.specs.Entry.{MeasuredIn}
 
 -- where nothing was taken nothing is written
@@ -22,6 +24,18 @@ fed-nothing w room nothing e = refl
 fed-nothing w room (bytes {input = a} g h l n) e = fed-nothing w room g (omega (arith, length-append a l))
 fed-nothing w room (line {input = a} g h r u more k) e = absurd (omega (arith, length-append a (10 ∷ [])))
 fed-nothing w room (past {input = a} g h l) e = fed-nothing w room g (omega (arith, length-append a l))
+
+-- a part is taken, at least a byte of it, where there is room for a line
+pub part-takes : (w : Session) (input out : List ℕ) (u : Session) (out′ : List ℕ) (taken n : ℕ) → lineRoom ≤ length out → 1 ≤ length input → PartFed w input out u out′ taken n → 1 ≤ taken
+part-takes w input out u out′ taken n r i f = go (decLe 1 taken)
+  where
+    go : Dec (1 ≤ taken) → 1 ≤ taken
+    go (yes h) = h
+    go (no h) =
+        let z : taken ≡ 0 = omega arith in
+        let e : length (take taken input) ≡ 0 = rw z refl in
+        let k = fed-nothing w (length out) (f .feeds) e in
+        absurd (omega (arith, k, f .count, f .stops (omega arith) .short))
 
 -- within the measures of document 01, with the array of the present line in its size
 pub record Ready (w : Session) : Type 0 where

@@ -2,18 +2,16 @@
 use mathlib.Core.Path.{_≡_, refl, sym, ap, _∙_}
 use mathlib.Core.List.{List, _++_}
 use Prim.Native.Nat.{ℕ, _≤_}
-use native.Mathlib.Omega.{arith}
-use native.Mathlib.Decide.{decLe}
 use lib.ListN.{length, take, drop}
 use lib.Seq.{take-append-seam}
 use Rattle.input.specs.Reading.{Reading, start, fed, fedText, finished, finishedText}
 use Rattle.input.proofs.Parts.{fed-append, fedText-append}
 use Rattle.input.proofs.Whole.{printed-whole, state-whole}
+use Rattle.progress.specs.Progress.{lineRoom}
 use Rattle.lines.specs.Sessions.{Session, readingIn}
 use Rattle.feed.specs.Whole.{zeros, Calls, begins, feeds, Whole}
 use Rattle.feed.specs.Entry.{MeasuredIn, SessionFed, finishRoom, Finished}
-use Rattle.lines.specs.Lines.{lineRoom}
-use Rattle.feed.proofs.Feeding.{fed-nothing}
+use Rattle.feed.proofs.Feeding.{part-takes}
 use Rattle.feed.proofs.Starting.{zeros-start, zeros-measured}
 
 record CallsMean (w : Session) (script text : List ℕ) (v : Session) : Type 0 where
@@ -55,12 +53,4 @@ script-whole heads slots copies works texts queue loads answers line {script} {t
 
 -- a call with room for a line takes a byte, where there is one
 pub takes-some : (w : Session) (input out : List ℕ) (u : Session) (out′ : List ℕ) (taken n : ℕ) → lineRoom ≤ length out → 1 ≤ length input → SessionFed w input out u out′ taken n → 1 ≤ taken
-takes-some w input out u out′ taken n r i f = go (decLe 1 taken)
-  where
-    go : Dec (1 ≤ taken) → 1 ≤ taken
-    go (yes h) = h
-    go (no h) =
-        let z : taken ≡ 0 = omega arith in
-        let e : length (take taken input) ≡ 0 = rw z refl in
-        let k = fed-nothing w (length out) (f .leaves .feeds) e in
-        absurd (omega (arith, k, f .leaves .count, f .leaves .stops (omega arith) .short))
+takes-some w input out u out′ taken n r i f = part-takes w input out u out′ taken n r i (f .leaves)

@@ -10,9 +10,9 @@ use Rattle.views.specs.Memory.{Memory, memory, clusterIn}
 use Rattle.runs.specs.declared.Tally.{Tally}
 use Rattle.runs.specs.Meaning.{tallyIn}
 use Rattle.input.specs.Reading.{fed, fedText, finished, finishedText}
+use Rattle.progress.specs.Progress.{lineRoom, lastFeed}
 use Rattle.lines.specs.Sessions.{held, Session, session, readingIn}
-use Rattle.lines.specs.Lines.{LastLine}
-use Rattle.parts.specs.Feeding.{PartFed}
+use Rattle.lines.specs.Feeding.{Fed, PartFed}
 use Rattle.feed.specs.declared.Answer.{Answer}
 
 abbrev pub sessionIn : Memory → (answers reader line : List ℕ) → Tally → Session
@@ -51,10 +51,10 @@ Feeds counts heads slots copies works texts queue loads answers reader line t in
 abbrev pub finishRoom : ℕ
 finishRoom = 1088
 
--- the last line and the tally are printed
+-- the last line is fed its line feed, then the tally is printed
 pub record SessionFinished (w : Session) (out : List ℕ) (w′ : Session) (out′ : List ℕ) (r : ℕ) : Type 0 where
   pub text : List ℕ
-  pub ends : LastLine w w′ text
+  pub ends : Fed w lineRoom (lastFeed (w .held .count)) text w′
   pub wrote : out′ ≡ (text ++ tallyText (tallyIn (w′ .tally))) ++ drop (length (text ++ tallyText (tallyIn (w′ .tally)))) out
   pub count : r ≡ length (text ++ tallyText (tallyIn (w′ .tally)))
 

@@ -1,11 +1,12 @@
 // The public calls: a part of the input, and its end, on lent arrays and with the tally by value.
 use crate::Answer;
-use lines::endings::finish_line;
+use lines::feeding::feed_part;
 use output::put_end;
-use parts::feed_part;
+use progress::line_feeds;
+use progress::put_reader;
 use runs::Tally;
 ghost use mathlib.Core.Path.{_≡_};
-ghost use lib.ListN.{length, set};
+ghost use lib.ListN.{length};
 ghost use Rattle.feed.specs.Entry.{Feeds, Finishes};
 
 // The sizes of two arrays, for the caller's proof: it does nothing.
@@ -13,15 +14,6 @@ fn sizes(reader: &[usize], line: &[u8])
     requires { ⌜ (length (now reader) ≡ 3) × (length (now line) ≡ 121) ⌝ }
     ensures { λ _. ⌜ (length (now (reader .entry)) ≡ 3) × (length (now (line .entry)) ≡ 121) ⌝ }
 {}
-
-// What is kept between parts, as three words.
-fn put_reader(reader: &mut [usize; 3], lines: usize, held: usize, written: usize)
-    ensures { λ _. ⌜ now (reader .exit) ≡ set (set (set (now (reader .entry)) 0 lines) 1 held) 2 written ⌝ }
-{
-    reader[0] = lines;
-    reader[1] = held;
-    reader[2] = written;
-}
 
 // A part of the input.
 pub fn feed_value(
@@ -62,7 +54,7 @@ pub fn feed_value(
         lines,
         count,
     );
-    put_reader(reader, p.lines, p.held, p.written);
+    put_reader(reader, p, p.written);
     let tally = p.tally;
     Answer {
         tally,
@@ -70,7 +62,8 @@ pub fn feed_value(
     }
 }
 
-// The end of the input: 0 where the output has no room, else how many bytes it wrote.
+// The end of the input: a line feed ends a last line that lacks it, then the tally follows. It answers 0 where the output has no room,
+// else how many bytes it wrote.
 pub fn finish_value(
     counts: &mut [u32; 8],
     heads: &mut [u32; 112],
@@ -94,7 +87,9 @@ pub fn finish_value(
     }
     let lines = reader[0];
     let count = reader[1];
-    let p = finish_line(
+    let feed = [10u8; 1];
+    let n = line_feeds(count);
+    let p = feed_part(
         counts,
         heads,
         slots,
@@ -105,14 +100,15 @@ pub fn finish_value(
         loads,
         answers,
         line,
-        out,
+        &mut out[..1024],
+        &feed[..n],
         t,
         lines,
         count,
     );
     let tally = p.tally;
     let written = put_end(out, p.written, tally);
-    put_reader(reader, p.lines, p.held, written);
+    put_reader(reader, p, written);
     Answer {
         tally,
         taken: written,

@@ -11,9 +11,10 @@ use borrow.Author.Tests.{eq-eqb, ne-eqb}
 use Rattle.blocks.specs.Blocks.{block}
 use Rattle.server.specs.declared.Message.{Message}
 use Rattle.memory.specs.Layout.{contentSize}
+use Rattle.refusals.specs.Refusals.{isBroadcast, sendCount}
 use Rattle.messages.specs.Messages.{Appended}
 use Rattle.moves.specs.declared.Move.{Move}
-use Rattle.views.specs.Queue.{Flight, flight, appended, messageTo, sentTo, spread, isBroadcast, broadcastOf, replyOf, sent, sendCount}
+use Rattle.views.specs.Queue.{Flight, flight, appended, messageTo, sentTo, spread, broadcastOf, replyOf, sent}
 
 -- what the arrays are after one was appended
 pub appended-is : (queue loads : List ℕ) (n : ℕ) (m : Message) (v queue′ loads′ : List ℕ) → Appended queue loads n m v queue′ loads′ → flight queue′ loads′ (n + 1) ≡ appended v m (flight queue loads n)

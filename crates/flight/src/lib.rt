@@ -2,16 +2,18 @@
 use messages::append_message;
 use messages::remove_message;
 use moves::Move;
+use refusals::is_broadcast;
 use server::Message;
 ghost use mathlib.Core.Path.{_≡_};
 ghost use mathlib.Core.Bool.{true};
 ghost use mathlib.Core.Logic.{_≢_};
 ghost use Prim.Native.Nat.{_<_, _≤_, _+_, _-_};
 ghost use lib.Dec.{eqb};
+ghost use Rattle.server.specs.Views.{chosen};
 ghost use Rattle.blocks.specs.Blocks.{block};
 ghost use Rattle.memory.specs.Layout.{slotRoom, contentSize};
-ghost use Rattle.moves.specs.Moves.{chosen};
-ghost use Rattle.views.specs.Queue.{flight, withoutMessage, messageTo, sentTo, spread, isBroadcast, broadcastOf, replyOf, sent, sendCount};
+ghost use Rattle.refusals.specs.Refusals.{isBroadcast, sendCount};
+ghost use Rattle.views.specs.Queue.{flight, withoutMessage, messageTo, sentTo, spread, broadcastOf, replyOf, sent};
 ghost use Rattle.flight.specs.Flown.{Flown};
 
 // Message i is removed.
@@ -21,19 +23,6 @@ pub fn remove(queue: &mut [u32; 512], loads: &mut [u8; 8192], count: usize, i: u
 {
     remove_message(queue, loads, count, i);
     count - 1
-}
-
-// Kinds 1, 4 and 7 go to all others.
-fn is_broadcast(kind: u32) -> bool
-    ensures { λ r. ⌜ r ≡ isBroadcast kind ⌝ }
-{
-    if kind == 1 {
-        return true;
-    }
-    if kind == 4 {
-        return true;
-    }
-    kind == 7
 }
 
 // PLEASEVOTE carries bucket 0 and round 0.

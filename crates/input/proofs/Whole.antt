@@ -12,7 +12,7 @@ use Rattle.model.specs.Measures.{maxLines, maxLineBytes}
 use Rattle.model.specs.Lines.{State, initialState, LineResult, refusal}
 use Rattle.model.specs.Parse.{parse}
 use Rattle.model.specs.Run.{step, stateAfter, lastLine, linesFrom, linesOf, printedFrom, run}
-use Rattle.input.specs.Reading.{Reading, reading, start, kept, keptAll, ended, endedText, fed, fedText}
+use Rattle.input.specs.Reading.{Reading, reading, start, kept, keptAll, ended, endedText, byteRead, byteText, fed, fedText}
 use Rattle.input.specs.Reading.{fedParts, fedPartsText, lastRead, lastText, finished, finishedText}
 use Rattle.input.proofs.Parts.{fed-append, fedText-append, kept-more, kept-no-more, keptAll-append, past-kept, past-silent}
 use Rattle.input.proofs.Parts.{byte-kept, byte-silent, byte-ends, byte-prints}
@@ -58,7 +58,7 @@ step-kept s l = go (decLe (length l) 120)
 
 -- ---- the end of the input
 
-pub last-none : (r : Reading) (l : List ℕ) → maxLines ≤ r .lines → (lastRead r l ≡ r) × (lastText r l ≡ [])
+last-none : (r : Reading) (l : List ℕ) → maxLines ≤ r .lines → (lastRead r l ≡ r) × (lastText r l ≡ [])
 unfolding lastRead lastText
 last-none r [] h = (refl, refl)
 last-none r (b ∷ l) h = (rw (lastRead, le-ltb (r .lines) maxLines h), rw (lastText, le-ltb (r .lines) maxLines h))
@@ -67,10 +67,16 @@ last-empty : (r : Reading) (l : List ℕ) → l ≡ [] → (lastRead r l ≡ r) 
 unfolding lastRead lastText
 last-empty r l e = (rw e, rw e)
 
-pub last-some : (r : Reading) (l : List ℕ) → r .lines < maxLines → 0 < length l → (lastRead r l ≡ ended r) × (lastText r l ≡ endedText r)
+last-some : (r : Reading) (l : List ℕ) → r .lines < maxLines → 0 < length l → (lastRead r l ≡ ended r) × (lastText r l ≡ endedText r)
 unfolding lastRead lastText
 last-some r [] h k = absurd (omega arith)
 last-some r (b ∷ l) h k = (rw (lastRead, lt-ltb (r .lines) maxLines h), rw (lastText, lt-ltb (r .lines) maxLines h))
+
+-- the end of the input after a line that is not empty does what a line feed there does
+pub last-is-fed : (r : Reading) (l : List ℕ) → 0 < length l → (lastRead r l ≡ fed r (10 ∷ [])) × (lastText r l ≡ fedText r (10 ∷ []))
+unfolding lastRead lastText fed fedText byteRead byteText
+last-is-fed r [] h = absurd (omega arith)
+last-is-fed r (b ∷ l) h = (refl, sym (append-nil (byteText r 10)))
 
 -- ---- one reading, to the end of the input
 

@@ -1,4 +1,4 @@
 -- Laws that belong to no one function.
 pub mod Holding
 pub mod Told
-pub mod Finishing
+pub mod Advancing

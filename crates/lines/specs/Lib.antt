@@ -1,3 +1,4 @@
 -- What the contracts of `lines` cite.
 pub mod Sessions
 pub mod Lines
+pub mod Feeding

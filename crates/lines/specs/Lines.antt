@@ -3,7 +3,6 @@ use mathlib.Core.Path.{_≡_}
 use mathlib.Core.List.{List, [], _++_}
 use Prim.Native.Nat.{ℕ, _+_, _≤_, _<_}
 use lib.ListN.{length, take, getD}
-use Rattle.model.specs.Measures.{maxLines}
 use Rattle.model.specs.Parse.{parse}
 use Rattle.model.specs.Print.{outcomeText}
 use Rattle.parse.specs.declared.Line.{Line}
@@ -13,7 +12,6 @@ use Rattle.runs.specs.declared.Tally.{Tally}
 use Rattle.machine.specs.declared.Stepped.{Stepped}
 use Rattle.runs.specs.Meaning.{outcomeIn}
 use Rattle.machine.specs.Meaning.{Performed}
-use Rattle.print.specs.Printed.{Printed}
 use Rattle.output.specs.Told.{Told}
 use Rattle.input.specs.Reading.{NoFeed}
 use Rattle.lines.specs.Sessions.{Held, held, Session, presentLine, putAll}
@@ -36,10 +34,6 @@ pub record KeptFrom (h : Held) (input : List ℕ) (from : ℕ) (h′ : Held) (ta
 
 -- ---- its end
 
--- room for what a line can print
-abbrev pub lineRoom : ℕ
-lineRoom = 1024
-
 -- the present line is read and performed
 pub record LineRun (m : Memory) (l : List ℕ) (t : Tally) (h : Held) (m′ : Memory) (l′ : List ℕ) (r : Stepped) : Type 0 where
   pub line : Line
@@ -60,19 +54,3 @@ pub record LineTold (w w′ : Session) (out : List ℕ) (at : ℕ) (out′ : Lis
   pub text : List ℕ
   pub ends : LineEnded w w′ text
   pub told : Told text out at out′ written
-
--- ---- the end of the input
-
--- what follows the last line feed: nothing, or past the last line that is read, or one more line
-pub data LastLine (w : Session) : Session → List ℕ → Type 0 where
-  none : presentLine (w .held) ≡ [] → LastLine w w []
-  past : maxLines ≤ w .lines → LastLine w w []
-  one : (u : Session) (text : List ℕ) → 1 ≤ w .held .count → w .lines < maxLines → LineEnded w u text → LastLine w u text
-
--- the last line, told at the start of the output
-pub record LastTold (w : Session) (out : List ℕ) (w′ : Session) (out′ : List ℕ) (written : ℕ) : Type 0 where
-  pub text : List ℕ
-  pub ends : LastLine w w′ text
-  pub printed : Printed text out 0 out′ written
-  pub within : written ≤ lineRoom
-  pub size : length out′ ≡ length out

@@ -1,8 +1,8 @@
 // The bytes of the present line.
-use crate::Kept;
 use entries::keys::at_most;
 use parse::Line;
 use parse::parse_line;
+use progress::Kept;
 ghost use mathlib.Core.Path.{_≡_};
 ghost use Prim.Native.Nat.{_≤_};
 ghost use lib.ListN.{length};

@@ -7,15 +7,15 @@ use native.Mathlib.Omega.{arith}
 use lib.Dec.{leb}
 use Rattle.entries.specs.Entries.{Entry}
 use Rattle.server.specs.declared.Effect.{Effect}
+use Rattle.server.specs.Views.{chosen}
 use Rattle.memory.specs.declared.Counts.{Counts}
+use Rattle.refusals.specs.Refusals.{sendCount, placesLeft}
 use Rattle.moves.specs.declared.Move.{Move}
-use Rattle.moves.specs.Moves.{chosen}
 use Rattle.views.specs.Memory.{Memory, memory, slotOf}
 use Rattle.views.specs.Changes.{filledFrom, moved}
-use Rattle.views.specs.Queue.{flight, withoutMessage, sendCount}
+use Rattle.views.specs.Queue.{flight, withoutMessage}
 use Rattle.flight.specs.Flown.{Flown}
 use Rattle.plans.specs.declared.Step.{Step}
-use Rattle.plans.specs.Plans.{placesLeft}
 use Rattle.runs.specs.declared.Report.{Report}
 use Rattle.runs.specs.Runs.{Ran, ran, carriedRun}
 use Rattle.machine.specs.declared.Told.{Told}

@@ -12,12 +12,13 @@ use Rattle.server.specs.declared.Words.{Words}
 use Rattle.server.specs.declared.Effect.{Effect}
 use Rattle.server.specs.Views.{flagIn, among}
 use Rattle.memory.specs.declared.Counts.{Counts}
+use Rattle.refusals.specs.Refusals.{placesLeft, inside}
 use Rattle.moves.specs.declared.Local.{Local}
 use Rattle.moves.specs.declared.Move.{Move}
 use Rattle.views.specs.Memory.{Memory}
 use Rattle.plans.specs.declared.Step.{Step}
 use Rattle.plans.specs.declared.Plan.{Plan}
-use Rattle.plans.specs.Plans.{refusedPlan, placesLeft, roomy, lineStep, unless, electPlan, timeoutPlan, stopPlan, inside, electAt, timeoutAt, stopAt, badLengths, callBucket, callStep, callPlan, callAt, lostPlan, gone, handPlan, handAt, loseAt}
+use Rattle.plans.specs.Plans.{refusedPlan, roomy, lineStep, unless, electPlan, timeoutPlan, stopPlan, electAt, timeoutAt, stopAt, badLengths, callBucket, callStep, callPlan, callAt, lostPlan, gone, handPlan, handAt, loseAt}
 use Rattle.plans.specs.Arrays.{Measured}
 use Rattle.plans.proofs.Judging.{inside-there, in-list}
 use Rattle.parse.specs.declared.Kind.{Kind}

@@ -13,13 +13,14 @@ use Rattle.server.specs.declared.Message.{Message}
 use Rattle.server.specs.Views.{effectIn}
 use Rattle.memory.specs.declared.Counts.{Counts}
 use Rattle.memory.specs.Layout.{countsAt, messageAt}
+use Rattle.refusals.specs.Refusals.{placesLeft, messageRefusal}
 use Rattle.moves.specs.declared.Local.{Local}
 use Rattle.moves.specs.declared.Move.{Move}
 use Rattle.moves.specs.Moves.{handledMove, readsTable}
 use Rattle.views.specs.Memory.{Memory, memory, slotOf, localAt, standing}
 use Rattle.plans.specs.declared.Step.{Step}
 use Rattle.plans.specs.declared.Plan.{Plan}
-use Rattle.plans.specs.Plans.{refusedPlan, placesLeft, roomy, unless, movePlan, messageRefusal, messageStep, lostPlan, gone, receiverAt, handPlan, handAt}
+use Rattle.plans.specs.Plans.{refusedPlan, roomy, unless, movePlan, messageStep, lostPlan, gone, receiverAt, handPlan, handAt}
 use Rattle.plans.specs.Arrays.{Measured, askedAt}
 use Rattle.plans.proofs.Judging.{unless-none, unless-some}
 use Rattle.runs.specs.declared.Report.{Report}

@@ -19,12 +19,12 @@ use Rattle.parse.specs.declared.Line.{Line}
 use Rattle.parse.specs.Meaning.{lineIn}
 use Rattle.runs.specs.declared.Report.{Report}
 use Rattle.runs.specs.Runs.{ran}
-use Rattle.runs.specs.Meaning.{stateIn, performed, talliedBy, resultOf, WholeLine, tallyIn, outcomeIn}
+use Rattle.runs.specs.Meaning.{stateIn, performed, talliedBy, resultOf, WholeLine, tallyIn, outcomeIn, tallyAfter}
 use Rattle.runs.proofs.LineMeans.{line-means}
 use Rattle.runs.specs.declared.Tally.{Tally}
 use Rattle.machine.specs.declared.Stepped.{Stepped}
 use Rattle.machine.specs.Contracts.{RanLine}
-use Rattle.machine.specs.Meaning.{tallyAfter, Performed}
+use Rattle.machine.specs.Meaning.{Performed}
 
 performed-comes-out : (s : lines.State) (o : Option lines.Line) → ComesOut s o (performed s o)
 unfolding performed

@@ -11,18 +11,19 @@ use Rattle.server.specs.declared.Message.{Message}
 use Rattle.server.specs.Views.{flagIn, effectIn, wordsIn}
 use Rattle.memory.specs.declared.Counts.{Counts}
 use Rattle.memory.specs.Layout.{countsAt, messageAt, wordsAt, putCounts, putWords, putTexts}
+use Rattle.refusals.specs.Refusals.{sendCount, placesLeft}
 use Rattle.moves.specs.declared.Local.{Local}
 use Rattle.moves.specs.declared.Move.{Move}
 use Rattle.moves.specs.Moves.{handledMove, readsTable}
 use Rattle.views.specs.Memory.{Memory, memory, slotOf, standing, tableAt}
 use Rattle.views.specs.Changes.{answered}
-use Rattle.views.specs.Queue.{flight, withoutMessage, sent, sendCount}
+use Rattle.views.specs.Queue.{flight, withoutMessage, sent}
 use Rattle.steps.specs.Stored.{MovedServer}
 use Rattle.answers.specs.Answers.{Listed}
 use Rattle.flight.specs.Flown.{Flown}
 use Rattle.plans.specs.declared.Step.{Step}
 use Rattle.plans.specs.declared.Plan.{Plan}
-use Rattle.plans.specs.Plans.{placesLeft, roomy, movePlan, messageStep, gone, receiverAt, handPlan, handAt}
+use Rattle.plans.specs.Plans.{roomy, movePlan, messageStep, gone, receiverAt, handPlan, handAt}
 use Rattle.plans.specs.Arrays.{Measured, askedAt}
 use Rattle.runs.specs.declared.Report.{Report}
 use Rattle.runs.specs.Runs.{Ran, ran, nextCounts, freshCounts, refusedRun, executed, clusterRun, linePlan, plannedRun, lineRun, HandEffect, EffectOf}

@@ -1,33 +1,15 @@
 -- What a line does to the state that memory and tally stand for: document 01's step.
 use mathlib.Core.Path.{_≡_}
-use mathlib.Core.Bool.{true, false}
 use mathlib.Core.List.{List}
-use Prim.Native.Nat.{ℕ, _+_, _%_, _^_}
-use lib.Dec.{eqb}
+use Prim.Native.Nat.{ℕ}
 use Rattle.limits.specs.Always.{Measured}
 use Rattle.views.specs.Memory.{Memory, clusterIn}
 use Rattle.parse.specs.declared.Line.{Line}
 use Rattle.parse.specs.Meaning.{lineIn}
-use Rattle.runs.specs.declared.Report.{Report}
 use Rattle.runs.specs.declared.Tally.{Tally}
-use Rattle.runs.specs.Meaning.{stateIn, tallyIn, performed, outcomeIn}
+use Rattle.runs.specs.Meaning.{stateIn, tallyIn, tallyAfter, performed, outcomeIn}
 use Rattle.machine.specs.declared.Stepped.{Stepped}
 use Rattle.machine.specs.Contracts.{RanLine}
-
--- the tally after a line, number by number; the counts wrap at 2 ^ 32
-unfoldable pub tallyAfter : Tally → Report → Tally
-tallyAfter t r =
-    elim (eqb (r .refusal) 0) [
-      | true ↦
-          record {
-            sent = (t .sent + r .sent) % 2 ^ 32;
-            copied = (t .copied + r .copied) % 2 ^ 32;
-            delivered = (t .delivered + r .delivered) % 2 ^ 32;
-            lost = (t .lost + r .lost) % 2 ^ 32;
-            flight = r .messages;
-          }
-      | false ↦ t
-    ]
 
 -- a line: every word and byte that it leaves, the tally, and, for every state within the measures of document 01, the definition's step,
 -- which leaves such a state

@@ -2,30 +2,13 @@
 use crate::Stepped;
 use crate::lines::run_line;
 use parse::Line;
-use runs::Report;
 use runs::Tally;
-use std::num::wrapping_add_u32;
+use runs::tally_after;
 ghost use mathlib.Core.Path.{_≡_};
 ghost use lib.ListN.{length};
 ghost use Rattle.views.specs.Memory.{memory, Sized};
 ghost use Rattle.runs.specs.Meaning.{WholeLine};
-ghost use Rattle.machine.specs.Meaning.{tallyAfter, Performed};
-
-// The tally after a line: a refused one leaves it as it was.
-pub fn tally_after(t: Tally, r: Report) -> Tally
-    ensures { λ u. ⌜ u ≡ tallyAfter t r ⌝ }
-{
-    if r.refusal == 0 {
-        return Tally {
-            sent: wrapping_add_u32(t.sent, r.sent),
-            copied: wrapping_add_u32(t.copied, r.copied),
-            delivered: wrapping_add_u32(t.delivered, r.delivered),
-            lost: wrapping_add_u32(t.lost, r.lost),
-            flight: r.messages,
-        };
-    }
-    t
-}
+ghost use Rattle.machine.specs.Meaning.{Performed};
 
 // The lengths of the arrays, for the caller's proof: it does nothing.
 fn sizes(

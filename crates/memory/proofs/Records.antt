@@ -202,10 +202,6 @@ module _ (l : List ℕ) (i : ℕ) (m : Message) where
 -- ---- counts
 
 module _ (l : List ℕ) (c : Counts) where
-  pub length-putCounts : length (putCounts l c) ≡ length l
-  unfolding putCounts
-  length-putCounts = length-putRow (countsRow c) l 0 0
-
   pub counts-putCounts : countsWords ≤ length l → countsAt (putCounts l c) ≡ c
   unfolding countsAt putCounts
   counts-putCounts fits = ap countsOf (row-put (countsRow c) l 0 0 (omega arith))

@@ -22,12 +22,12 @@ use Rattle.cells.specs.Laws.{begin-is}
 use Rattle.server.specs.declared.Version.{Version}
 use Rattle.server.specs.declared.Call.{Call}
 use Rattle.server.specs.declared.Effect.{Effect}
-use Rattle.server.specs.Views.{flagIn, versionIn, among, roundIn, takenIn, callIn, resultIn, effectIn}
+use Rattle.server.specs.Views.{flagIn, versionIn, among, roundIn, takenIn, callIn, resultIn, effectIn, chosen}
 use Rattle.rounds.specs.Rounds.{noVersion, pickVersion, pickTable}
-use Rattle.rounds.specs.Calls.{versionOf, nextVersionOf}
+use Rattle.open_calls.specs.Calls.{versionOf, nextVersionOf}
 use Rattle.moves.specs.declared.Local.{Local}
 use Rattle.moves.specs.declared.Move.{Move}
-use Rattle.moves.specs.Moves.{withCall, chosen, readingMove, stores, writingMove, finishedMove, ownWriteMove, afterReadMove}
+use Rattle.moves.specs.Moves.{withCall, readingMove, stores, writingMove, finishedMove, ownWriteMove, afterReadMove}
 use Rattle.moves.specs.Moves.{recoveryMove, recovered, startedMove, recoveredAlone, readAlone, aloneMove, newCall, begunMove}
 use Rattle.moves.specs.Reactions.{frontIn, bestIn, cellIn, Seen, Tables, Asked, workAfter, copyAfter, sendsIn, answersIn, reactionIn}
 use Rattle.moves.proofs.Ceasing.{seen-itself}

@@ -11,13 +11,13 @@ use Rattle.model.specs.Calls as calls
 use Rattle.model.specs.Cluster as cluster
 use Rattle.model.specs.Leader.{Reaction, reaction, noReaction, withStored, withVolatile, endings, cease, broadcast, standing, standForElection, raised, elect, onAckVote}
 use Rattle.server.specs.declared.Head.{Head}
-use Rattle.server.specs.Views.{besideIn, flagIn}
+use Rattle.server.specs.Views.{besideIn, flagIn, chosen}
 use Rattle.server.specs.Heads.{afterVoteHead, raisedHead, stoodHead, electedHead, onAckVoteHead}
 use Rattle.server.proofs.HeadLaws as heads
 use Rattle.rounds.specs.Rounds.{noVersion}
 use Rattle.moves.specs.declared.Local.{Local}
 use Rattle.moves.specs.declared.Move.{Move}
-use Rattle.moves.specs.Moves.{noAnswer, withHead, quiet, chosen, electedMove, timedOutMove, stoppedMove}
+use Rattle.moves.specs.Moves.{noAnswer, withHead, quiet, electedMove, timedOutMove, stoppedMove}
 use Rattle.moves.specs.Reactions.{Seen, Tables, workAfter, copyAfter, Asked, sendsIn, answersIn, serverAfter, answersAfter, reactionIn}
 use Rattle.moves.proofs.Ceasing.{placed, seen-itself, calls-kept, ceasing-means}
 

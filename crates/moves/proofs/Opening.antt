@@ -19,14 +19,14 @@ use Rattle.cells.specs.Cells.{Front, Cell}
 use Rattle.cells.specs.Cells as cells
 use Rattle.cells.specs.Moves.{finishing, keeping, roundFor, frontAfter, cellAfter, openingRound}
 use Rattle.server.specs.declared.Version.{Version}
-use Rattle.server.specs.Views.{markIn, purposeIn, versionIn, among, roundIn, callIn, resultIn}
+use Rattle.server.specs.Views.{markIn, purposeIn, versionIn, among, roundIn, callIn, resultIn, chosen}
 use Rattle.server.proofs.Counting.{set-viewed, replicate-viewed}
 use Rattle.rounds.specs.Rounds.{openedHead, reported, pickVersion, pickTable}
-use Rattle.rounds.specs.Calls.{oneMoreOf, versionOf, nextVersionOf}
-use Rattle.rounds.proofs.CallLaws.{one-more-means}
+use Rattle.open_calls.specs.Calls.{oneMoreOf, versionOf, nextVersionOf}
+use Rattle.open_calls.proofs.CallLaws.{one-more-means}
 use Rattle.moves.specs.declared.Local.{Local}
 use Rattle.moves.specs.declared.Move.{Move}
-use Rattle.moves.specs.Moves.{chosen, readingMove, stores, writingMove, finishedMove, ownWriteMove, recoveryMove}
+use Rattle.moves.specs.Moves.{readingMove, stores, writingMove, finishedMove, ownWriteMove, recoveryMove}
 use Rattle.moves.specs.Reactions.{frontIn, bestIn, cellIn, Tables, Asked, workAfter, copyAfter, sendsIn, answersIn, idled, movedServer, serverAfter, answersAfter, reactionIn}
 
 -- ---- whether a new round closes

@@ -23,12 +23,12 @@ use Rattle.server.specs.declared.Counted.{Counted}
 use Rattle.server.specs.declared.Effect.{Effect}
 use Rattle.server.specs.declared.Message.{Message}
 use Rattle.server.specs.declared.Handling.the-variants.{Reply}
-use Rattle.server.specs.Views.{purposeIn, versionIn, among, openIn, roundIn, markIn, resultIn, effectIn}
+use Rattle.server.specs.Views.{purposeIn, versionIn, among, openIn, roundIn, markIn, resultIn, effectIn, chosen}
 use Rattle.rounds.specs.Rounds.{noVersion, pickVersion, pickTable, improves, isSilent, countedWith, countedOf, matching}
 use Rattle.rounds.proofs.RoundLaws.{fresh-below, counted-means, matching-shut, unmatched, matched}
 use Rattle.moves.specs.declared.Local.{Local}
 use Rattle.moves.specs.declared.Move.{Move}
-use Rattle.moves.specs.Moves.{withRound, quiet, chosen, readingMove, writingMove, finishedMove, ownWriteMove, afterReadMove}
+use Rattle.moves.specs.Moves.{withRound, quiet, readingMove, writingMove, finishedMove, ownWriteMove, afterReadMove}
 use Rattle.moves.specs.Moves.{recoveryMove, closedMove, ceasing, fetching, countedMove, replyMove, readsBy}
 use Rattle.moves.specs.Reactions.{frontIn, bestIn, cellIn, Seen, Tables, Asked, workAfter, copyAfter, sendsIn, answersIn, reactionIn}
 use Rattle.moves.proofs.Ceasing.{seen-itself, quiet-means, ceasing-means}

@@ -13,12 +13,12 @@ use Rattle.model.specs.Leader.{Reaction, reaction, withStored, stepDown, replyi
 use Rattle.cells.specs.Laws.{copy-there, accepted-is}
 use Rattle.cells.specs.Moves.{keeping}
 use Rattle.server.specs.declared.Message.{Message}
-use Rattle.server.specs.Views.{besideIn, storedIn, versionIn}
+use Rattle.server.specs.Views.{besideIn, storedIn, versionIn, chosen}
 use Rattle.server.specs.Heads.{votingHead, afterVoteHead}
 use Rattle.server.proofs.HeadLaws.{after-vote-means}
 use Rattle.rounds.specs.Rounds.{pickVersion, noVersion}
 use Rattle.moves.specs.declared.Local.{Local}
-use Rattle.moves.specs.Moves.{withHead, sending, chosen, steppedDown, stores, voteMove, readRequestMove, writeRequestMove, requestMove}
+use Rattle.moves.specs.Moves.{withHead, sending, steppedDown, stores, voteMove, readRequestMove, writeRequestMove, requestMove}
 use Rattle.moves.specs.Reactions.{frontIn, cellIn, Seen, Tables, workAfter, copyAfter, bodyIn, messageIn, Asked, askedIn, replyIn}
 use Rattle.moves.specs.Reactions.{sendsIn, answersIn, movedServer, serverAfter, answersAfter, reactionIn}
 use Rattle.moves.proofs.Ceasing.{placed, seen-itself, calls-kept, replyWith, Resting, stepped-down-means}

@@ -17,10 +17,10 @@ use Rattle.server.specs.declared.Counted.{Counted}
 use Rattle.server.specs.declared.Message.{Message}
 use Rattle.server.specs.declared.Handling.{Handling}
 use Rattle.server.specs.declared.Handling.the-variants.{Vote, Request, Reply, Other}
-use Rattle.server.specs.Views.{versionIn, storedIn, openIn, roundIn}
+use Rattle.server.specs.Views.{versionIn, storedIn, openIn, roundIn, chosen}
 use Rattle.server.specs.Heads.{votingHead, afterVoteHead, ceasedHead, raisedHead, electedHead, onAckVoteHead}
 use Rattle.rounds.specs.Rounds.{pickVersion, noVersion, roundWith, newRoundOf, openedHead, countedOf, matching}
-use Rattle.rounds.specs.Calls.{oneMoreOf, answerWith, versionOf, nextVersionOf}
+use Rattle.open_calls.specs.Calls.{oneMoreOf, answerWith, versionOf, nextVersionOf}
 use Rattle.rounds.specs.Kinds.{handlingIn}
 use Rattle.moves.specs.declared.Local.{Local}
 use Rattle.moves.specs.declared.Move.{Move}
@@ -54,9 +54,6 @@ sending kind v l = record { local = l; sends = kind; written = v; fills = 0; kee
 
 abbrev pub quiet : Local → Move
 quiet l = sending 0 noVersion l
-
-unfoldable pub chosen : Bool → ℕ → ℕ → ℕ
-chosen b x y = elim b [ true ↦ x | false ↦ y ]
 
 -- ---- rounds of a call; `me` is the server's own number
 

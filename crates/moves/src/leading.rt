@@ -1,27 +1,27 @@
 // The rounds of a call, from its first to its answer.
 use crate::Local;
 use crate::Move;
-use crate::nothing::chosen;
 use crate::nothing::no_version;
-use crate::parts::pick_version;
 use crate::parts::plain;
 use crate::parts::quiet;
 use crate::parts::sending;
 use crate::parts::with_call;
-use rounds::calls::next_version;
-use rounds::calls::one_more;
-use rounds::calls::recovered;
+use open_calls::next_version;
+use open_calls::one_more;
+use open_calls::recovered;
 use rounds::opening::new_round;
 use rounds::opening::opened;
+use rounds::replies::pick_version;
 use server::Answer;
 use server::Call;
 use server::Round;
 use server::Version;
 use server::numbers::above;
+use server::numbers::chosen;
 ghost use mathlib.Core.Path.{_≡_};
 ghost use lib.Dec.{eqb};
 ghost use Rattle.rounds.specs.Rounds.{pickVersion, newRoundOf, openedHead};
-ghost use Rattle.rounds.specs.Calls.{oneMoreOf};
+ghost use Rattle.open_calls.specs.Calls.{oneMoreOf};
 ghost use Rattle.moves.specs.Moves.{local, readingMove, writingMove, finishedMove, ownWriteMove, afterReadMove, recoveryMove, closedMove, startedMove, recoveredAlone, readAlone, aloneMove, begunMove};
 
 // What a broadcast leaves of its sender, whose copy is then of version v; `own` where it is the call's own write.

@@ -1,10 +1,10 @@
 // What script lines that name a server make of it.
 use crate::Local;
 use crate::Move;
-use crate::nothing::chosen;
 use crate::parts::ceasing;
 use crate::parts::headed;
 use crate::parts::quiet;
+use server::numbers::chosen;
 use server::votes::elected;
 use server::votes::must_step_down;
 use server::votes::raised;

@@ -3,15 +3,9 @@ use server::Call;
 use server::Round;
 use server::Version;
 ghost use mathlib.Core.Path.{_≡_};
+ghost use Rattle.server.specs.Views.{chosen};
 ghost use Rattle.rounds.specs.Rounds.{noVersion};
-ghost use Rattle.moves.specs.Moves.{chosen, noRound, noCall};
-
-// A choice of a number.
-pub fn chosen(b: bool, x: u32, y: u32) -> u32
-    ensures { λ r. ⌜ r ≡ chosen b x y ⌝ }
-{
-    if b { x } else { y }
-}
+ghost use Rattle.moves.specs.Moves.{noRound, noCall};
 
 // The version below all others.
 pub fn no_version() -> Version

@@ -12,13 +12,6 @@ ghost use mathlib.Core.Path.{_≡_};
 ghost use Rattle.rounds.specs.Rounds.{pickVersion, noVersion};
 ghost use Rattle.moves.specs.Moves.{withHead, withRound, withCall, sending, quiet, ceasing};
 
-// A choice of a version.
-pub fn pick_version(b: bool, v: Version, w: Version) -> Version
-    ensures { λ r. ⌜ r ≡ pickVersion b v w ⌝ }
-{
-    if b { v } else { w }
-}
-
 // The same local with another head.
 pub fn with_head(h: Head, l: Local) -> Local
     ensures { λ r. ⌜ r ≡ withHead h l ⌝ }

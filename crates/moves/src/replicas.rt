@@ -1,16 +1,16 @@
 // What others ask of a server, as a voter and as a replica.
 use crate::Local;
 use crate::Move;
-use crate::nothing::chosen;
 use crate::parts::ceasing;
 use crate::parts::headed;
-use crate::parts::pick_version;
 use crate::parts::plain;
 use crate::parts::quiet;
 use crate::parts::sending;
 use crate::parts::with_head;
+use rounds::replies::pick_version;
 use server::Message;
 use server::numbers::above;
+use server::numbers::chosen;
 use server::votes::after_vote;
 use server::votes::grants;
 use server::votes::may_accept;

@@ -12,7 +12,7 @@ use Rattle.model.specs.Measures.{maxServers, maxBuckets}
 use Rattle.server.specs.declared.Answer.{Answer}
 use Rattle.server.specs.declared.Effect.{Effect}
 use Rattle.server.specs.Views.{among}
-use Rattle.rounds.specs.Calls.{endedOf}
+use Rattle.open_calls.specs.Calls.{endedOf}
 use Rattle.memory.specs.declared.Counts.{Counts}
 use Rattle.memory.specs.Layout.{countsAt, callAt}
 use Rattle.moves.specs.declared.Move.{Move}

@@ -14,11 +14,12 @@ use Rattle.server.specs.declared.Words.{Words}
 use Rattle.server.specs.declared.Effect.{Effect}
 use Rattle.server.specs.Views.{among, effectIn, wordsIn}
 use Rattle.memory.specs.declared.Counts.{Counts}
+use Rattle.refusals.specs.Refusals.{placesLeft, inside, messageRefusal}
 use Rattle.moves.specs.declared.Local.{Local}
 use Rattle.views.specs.Memory.{Memory, slotOf, localAt, tableAt}
 use Rattle.plans.specs.declared.Step.{Step}
 use Rattle.plans.specs.declared.Plan.{Plan}
-use Rattle.plans.specs.Plans.{refusedPlan, placesLeft, roomy, unless, electPlan, timeoutPlan, stopPlan, inside, electAt, timeoutAt, stopAt, badLengths, callBucket, callPlan, callAt, messageRefusal, messageStep, loseAt}
+use Rattle.plans.specs.Plans.{refusedPlan, roomy, unless, electPlan, timeoutPlan, stopPlan, electAt, timeoutAt, stopAt, badLengths, callBucket, callPlan, callAt, messageStep, loseAt}
 use Rattle.plans.specs.Arrays.{Measured, servers, Called, CallPlanned}
 
 -- ---- the effect of a plan

@@ -1,11 +1,9 @@
--- How many messages a step sends at most, and the bytes that are lent: those of a key that count, and those of a content that count.
+-- The bytes that are lent: those of a key that count, and those of a content that count.
 use mathlib.Core.Path.{_≡_, sym, ap, _∙_}
-use mathlib.Core.Bool.{Bool, true, false}
 use mathlib.Core.List.{List}
 use native.Mathlib.Nat.{min-le-right}
 use native.Mathlib.Omega.{arith}
-use Prim.Native.Nat.{ℕ, _*_, _-_, _≤_}
-use lib.Dec.{eqb}
+use Prim.Native.Nat.{ℕ, _*_, _≤_}
 use lib.ListN.{length, take, drop, take-append-drop, length-take}
 use lib.Seq.{take-append-seam, take-take}
 use Rattle.entries.specs.declared.Key.{Key}
@@ -14,17 +12,6 @@ use Rattle.table.specs.Form.{tableOf}
 use Rattle.blocks.specs.Blocks.{block}
 use Rattle.memory.specs.Layout.{contentAt}
 use Rattle.views.specs.Memory.{tableAt}
-use Rattle.views.specs.Queue.{isBroadcast, sendCount}
-
-few : (n : ℕ) (t u : Bool) → n ≤ 7 → elim t [ true ↦ 0 | false ↦ elim u [ true ↦ n - 1 | false ↦ 1 ] ] ≤ 7
-few n true u h = omega arith
-few n false true h = omega arith
-few n false false h = omega arith
-
--- among at most seven servers a step sends at most seven messages
-pub few-sent : (n kind : ℕ) → n ≤ 7 → sendCount n kind ≤ 7
-unfolding sendCount
-few-sent n kind h = few n (eqb kind 0) (isBroadcast kind) h
 
 -- as many bytes as count of a key: no more than it has, and they are those that count
 pub cut-low : (k : Key) (n : ℕ) → n ≡ length (keyBytes k) → n ≤ length (k .bytes)

@@ -14,15 +14,15 @@ use Rattle.server.specs.declared.Head.{Head}
 use Rattle.server.specs.declared.Message.{Message}
 use Rattle.server.specs.declared.Words.{Words}
 use Rattle.server.specs.declared.Effect.{Effect}
-use Rattle.server.specs.Views.{flagIn, among}
+use Rattle.server.specs.Views.{flagIn, among, chosen}
 use Rattle.rounds.specs.Rounds.{noVersion}
 use Rattle.memory.specs.declared.Counts.{Counts}
 use Rattle.memory.specs.Layout.{messageAt}
+use Rattle.refusals.specs.Refusals.{placesLeft, serverRefusal, inside, messageRefusal}
 use Rattle.moves.specs.declared.Local.{Local}
 use Rattle.moves.specs.declared.Move.{Move}
-use Rattle.moves.specs.Moves.{chosen, noRound, noCall, local, quiet, begunMove, handledMove, electedMove, timedOutMove, stoppedMove}
+use Rattle.moves.specs.Moves.{noRound, noCall, local, quiet, begunMove, handledMove, electedMove, timedOutMove, stoppedMove}
 use Rattle.views.specs.Memory.{Memory, slotOf, localAt}
-use Rattle.views.specs.Queue.{sendCount}
 use Rattle.plans.specs.declared.Step.{Step}
 use Rattle.plans.specs.declared.Plan.{Plan}
 
@@ -53,18 +53,11 @@ noMove = quiet (local noHead noVersion noRound noCall)
 abbrev pub refusedPlan : ℕ → Effect → Plan
 refusedPlan r f = record { refusal = r; loses = false; takes = false; words = noWords; step = noStep; next = noMove; effect = f }
 
--- ---- 12: more to send than places left
+-- ---- refusals that several kinds of lines share
 
-abbrev pub placesLeft : Counts → Bool → ℕ → Bool
-placesLeft c removes kind = leb (c .messages - chosen removes 1 0 + sendCount (c .servers) kind) maxMessages
-
+-- 12: more to send than places left
 unfoldable pub roomy : Counts → Plan → Plan
 roomy c p = elim (placesLeft c (p .step .removes) (p .next .sends)) [ true ↦ p | false ↦ refusedPlan 12 (p .effect) ]
-
--- ---- 5 and 6
-
-unfoldable pub serverRefusal : Counts → Head → ℕ
-serverRefusal c h = elim (leb maxAccepted (c .lines)) [ true ↦ 5 | false ↦ elim (flagIn (h .stopped)) [ true ↦ 6 | false ↦ 0 ] ]
 
 -- ---- lines that name a server
 
@@ -90,10 +83,6 @@ timeoutPlan c s b l f =
 
 unfoldable pub stopPlan : Counts → ℕ → Local → Effect → Plan
 stopPlan c s l f = unless (serverRefusal c (l .head)) f (roomy c (movePlan (lineStep c s 0) (stoppedMove l) f))
-
--- 3: no such server, or no such bucket
-unfoldable pub inside : Counts → ℕ → ℕ → Bool
-inside c s b = elim (leb (c .servers) s) [ true ↦ false | false ↦ elim (leb (c .buckets) b) [ true ↦ false | false ↦ true ] ]
 
 unfoldable pub electAt : Memory → Counts → ℕ → Effect → Plan
 electAt m c s f = elim (inside c s 0) [ true ↦ electPlan c s (localAt m s (slotOf s 0)) f | false ↦ refusedPlan 3 f ]
@@ -156,10 +145,6 @@ callAt m c s w f =
     ]
 
 -- ---- messages
-
--- 5 and 7
-unfoldable pub messageRefusal : Counts → ℕ → ℕ
-messageRefusal c i = elim (leb maxAccepted (c .lines)) [ true ↦ 5 | false ↦ elim (leb (c .messages) i) [ true ↦ 7 | false ↦ 0 ] ]
 
 -- a message handed over: `copy` leaves it in the list
 abbrev pub messageStep : Counts → ℕ → Bool → Message → Step

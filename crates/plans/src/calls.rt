@@ -1,9 +1,7 @@
 // The five calls: `get`, `set`, `setif`, `del` and `keys`.
 use crate::Plan;
 use crate::Step;
-use crate::limits::inside;
 use crate::limits::roomy;
-use crate::limits::server_refusal;
 use crate::parts::no_effect;
 use crate::parts::no_message;
 use crate::parts::refused_plan;
@@ -17,6 +15,8 @@ use memory::CONTENT;
 use memory::Counts;
 use moves::Local;
 use moves::leading::begun_move;
+use refusals::inside;
+use refusals::server_refusal;
 use server::Effect;
 use server::Words;
 use std::num::wrapping_add_u32;

@@ -11,10 +11,11 @@ use crate::servers::load_local;
 use memory::Counts;
 use moves::Local;
 use moves::handling::reads_table;
-use moves::nothing::chosen;
 use records::words::load_words;
+use refusals::message_refusal;
 use server::Effect;
 use server::Message;
+use server::numbers::chosen;
 ghost use mathlib.Core.Path.{_≡_};
 ghost use mathlib.Core.Bool.{true};
 ghost use mathlib.Core.List.{[]};
@@ -23,21 +24,8 @@ ghost use Rattle.server.specs.Views.{effectIn};
 ghost use Rattle.memory.specs.Layout.{serverRoom, slotRoom};
 ghost use Rattle.moves.specs.Moves.{readsTable};
 ghost use Rattle.views.specs.Memory.{memory, slotOf, localAt};
-ghost use Rattle.plans.specs.Plans.{messageRefusal, messageStep, lostPlan, gone, loseAt};
+ghost use Rattle.plans.specs.Plans.{messageStep, lostPlan, gone, loseAt};
 ghost use Rattle.plans.specs.Arrays.{askedAt};
-
-// 5 and 7, or 0.
-pub fn message_refusal(c: Counts, i: u32) -> u32
-    ensures { λ r. ⌜ r ≡ messageRefusal c i ⌝ }
-{
-    if 1000000 <= c.lines {
-        return 5;
-    }
-    if c.messages <= i {
-        return 7;
-    }
-    0
-}
 
 fn lesser(top: u32, x: u32) -> u32
     ensures { λ r. ⌜ r ≡ min top x ⌝ }

@@ -1,8 +1,6 @@
 // Lines that name a server: `elect`, `timeout` and `stop`.
 use crate::Plan;
-use crate::limits::inside;
 use crate::limits::roomy;
-use crate::limits::server_refusal;
 use crate::limits::unless;
 use crate::parts::line_step;
 use crate::parts::move_plan;
@@ -17,6 +15,8 @@ use records::heads::load_head;
 use records::slots::load_call;
 use records::slots::load_round;
 use records::slots::load_version;
+use refusals::inside;
+use refusals::server_refusal;
 use rounds::replies::is_open;
 use server::Effect;
 ghost use mathlib.Core.Path.{_≡_};

@@ -1,3 +1,2 @@
 pub mod RoundLaws
-pub mod CallLaws
 pub mod KindLaws

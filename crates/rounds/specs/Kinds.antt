@@ -3,7 +3,6 @@ use mathlib.Core.Bool.{true, false}
 use Prim.Native.Nat.{ℕ}
 use lib.Dec.{eqb}
 use Rattle.model.specs.Cluster as cluster
-use Rattle.model.specs.Replica as replica
 use Rattle.server.specs.declared.Handling.{Handling}
 use Rattle.server.specs.declared.Handling.the-variants.{Vote, Request, Reply, Other}
 use Rattle.server.specs.Views.{among}
@@ -47,26 +46,3 @@ handlingOf cluster.nackWrite = Reply 2 false
 handlingOf cluster.replicaRead = Request false
 handlingOf (cluster.ackRead v t) = Reply 1 true
 handlingOf cluster.nackRead = Reply 2 false
-
--- what a request asks, and what a reply reports
-unfoldable pub requestIn : cluster.Body → replica.Request
-requestIn cluster.pleaseVote = replica.reading
-requestIn cluster.ackVote = replica.reading
-requestIn cluster.nackVote = replica.reading
-requestIn (cluster.replicaWrite v t) = replica.writing v t
-requestIn cluster.ackWrite = replica.reading
-requestIn cluster.nackWrite = replica.reading
-requestIn cluster.replicaRead = replica.reading
-requestIn (cluster.ackRead v t) = replica.reading
-requestIn cluster.nackRead = replica.reading
-
-unfoldable pub reportIn : cluster.Body → cluster.Copy
-reportIn cluster.pleaseVote = cluster.freshCopy
-reportIn cluster.ackVote = cluster.freshCopy
-reportIn cluster.nackVote = cluster.freshCopy
-reportIn (cluster.replicaWrite v t) = cluster.freshCopy
-reportIn cluster.ackWrite = cluster.freshCopy
-reportIn cluster.nackWrite = cluster.freshCopy
-reportIn cluster.replicaRead = cluster.freshCopy
-reportIn (cluster.ackRead v t) = record { version = v; table = t }
-reportIn cluster.nackRead = cluster.freshCopy

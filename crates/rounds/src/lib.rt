@@ -1,5 +1,4 @@
-// The rules of rounds and calls, and of messages by their kind, on the structs of crate `server`.
-pub mod calls;
+// The rules of rounds, and of messages by their kind, on the structs of crate `server`.
 pub mod kinds;
 pub mod opening;
 pub mod replies;

@@ -66,7 +66,7 @@ fn improves(purpose: u32, report: Version, best: Version) -> bool
     false
 }
 
-fn pick_version(b: bool, v: Version, w: Version) -> Version
+pub fn pick_version(b: bool, v: Version, w: Version) -> Version
     ensures { λ r. ⌜ r ≡ pickVersion b v w ⌝ }
 {
     if b { v } else { w }

@@ -14,12 +14,12 @@ use Rattle.limits.specs.Always.{Stands}
 use Rattle.server.specs.declared.Effect.{Effect}
 use Rattle.memory.specs.declared.Counts.{Counts}
 use Rattle.memory.specs.Layout.{countsAt}
+use Rattle.refusals.specs.Refusals.{placesLeft}
 use Rattle.moves.specs.declared.Move.{Move}
 use Rattle.moves.specs.Reactions.{askedIn, reactionIn}
 use Rattle.views.specs.Memory.{Memory, Sized, WholeLocal, standing, slotOf, callWordsAt, serverAt, clusterAt}
 use Rattle.views.proofs.Contents.{tablesAt}
 use Rattle.plans.specs.declared.Step.{Step}
-use Rattle.plans.specs.Plans.{placesLeft}
 use Rattle.runs.specs.Runs.{carriedRun, lostRun}
 use Rattle.runs.specs.Meaning.{stateIn, resultOf}
 

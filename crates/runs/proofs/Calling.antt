@@ -18,22 +18,22 @@ use Rattle.limits.specs.Tables.{EffectWithin, effect-within}
 use Rattle.server.specs.declared.Call.{Call}
 use Rattle.server.specs.declared.Words.{Words}
 use Rattle.server.specs.declared.Effect.{Effect}
-use Rattle.server.specs.Views.{among, roleIn, callIn, effectIn}
+use Rattle.server.specs.Views.{among, roleIn, callIn, effectIn, chosen}
 use Rattle.memory.specs.declared.Counts.{Counts}
 use Rattle.memory.specs.Layout.{countsAt}
+use Rattle.refusals.specs.Refusals.{sendCount, placesLeft, inside, serverRefusal}
 use Rattle.moves.specs.declared.Local.{Local}
 use Rattle.moves.specs.declared.Move.{Move}
-use Rattle.moves.specs.Moves.{chosen, readingMove, finishedMove, recovered, withCall, newCall, startedMove, aloneMove, begunMove}
+use Rattle.moves.specs.Moves.{readingMove, finishedMove, recovered, withCall, newCall, startedMove, aloneMove, begunMove}
 use Rattle.moves.proofs.CallMoves.{begun-means}
 use Rattle.moves.specs.Reactions.{askedIn}
 use Rattle.views.specs.Memory.{Memory, WholeLocal, slotOf, tableAt, localAt, callWordsAt, serverAt, clusterAt}
-use Rattle.views.specs.Queue.{sendCount}
 use Rattle.views.proofs.Contents.{tablesAt}
 use Rattle.views.proofs.Seen.{length-servers, role-there, call-there, server-seen}
 use Rattle.views.proofs.Whole.{whole-at, whole-begun}
 use Rattle.plans.specs.declared.Step.{Step}
 use Rattle.plans.specs.declared.Plan.{Plan}
-use Rattle.plans.specs.Plans.{noMessage, refusedPlan, placesLeft, roomy, unless, inside, badLengths, callBucket, callStep, takePlan, serverRefusal, callRefusal, callPlan, callAt}
+use Rattle.plans.specs.Plans.{noMessage, refusedPlan, roomy, unless, badLengths, callBucket, callStep, takePlan, callRefusal, callPlan, callAt}
 use Rattle.runs.specs.Runs.{taken, executed, CallEffect}
 use Rattle.runs.specs.Meaning.{stateIn, resultOf}
 use Rattle.runs.proofs.Accepting.{Ready, Possible, workOf, reactionOf}

@@ -15,18 +15,18 @@ use Rattle.model.specs.Lines as lines
 use Rattle.server.specs.declared.Effect.{Effect}
 use Rattle.memory.specs.declared.Counts.{Counts}
 use Rattle.memory.specs.Layout.{countsAt}
+use Rattle.refusals.specs.Refusals.{sendCount, placesLeft}
 use Rattle.moves.specs.declared.Move.{Move}
 use Rattle.moves.specs.Reactions.{Tables, askedIn, sendsIn}
 use Rattle.views.specs.Memory.{Memory, Sized, slotOf, serversAt, clusterAt}
 use Rattle.views.specs.Changes.{moved, answered}
-use Rattle.views.specs.Queue.{Sound, flightIn, sendCount}
+use Rattle.views.specs.Queue.{Sound, flightIn}
 use Rattle.views.proofs.Contents.{tablesAt, works-after, copies-after}
 use Rattle.views.proofs.Servers.{moved-servers, moved-sized}
 use Rattle.views.proofs.Queue.{length-flight}
 use Rattle.views.proofs.Sends.{Added, sent-flight, length-sends}
 use Rattle.views.proofs.Answers.{Holds, answered-means}
 use Rattle.plans.specs.declared.Step.{Step}
-use Rattle.plans.specs.Plans.{placesLeft}
 use Rattle.runs.specs.Runs.{leftFlight, movedAt, sentFlight, carriedRun}
 use Rattle.runs.specs.Meaning.{stateIn}
 use Rattle.runs.proofs.Accepting.{Ready, Possible, keptMessages, workOf, reactionOf, CarriesOut, LacksRoom}

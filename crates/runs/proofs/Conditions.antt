@@ -13,18 +13,18 @@ use Rattle.model.specs.Lines as lines
 use Rattle.limits.specs.Always.{either-false}
 use Rattle.server.specs.declared.Head.{Head}
 use Rattle.server.specs.declared.Effect.{Effect}
-use Rattle.server.specs.Views.{flagIn}
+use Rattle.server.specs.Views.{flagIn, chosen}
 use Rattle.memory.specs.declared.Counts.{Counts}
 use Rattle.memory.specs.Layout.{countsAt, headAt}
+use Rattle.refusals.specs.Refusals.{placesLeft, inside, serverRefusal, messageRefusal}
 use Rattle.moves.specs.declared.Move.{Move}
-use Rattle.moves.specs.Moves.{chosen}
 use Rattle.views.specs.Memory.{Memory, serverAt, clusterAt}
 use Rattle.views.specs.Queue.{flight}
 use Rattle.views.proofs.Seen.{length-servers, server-there, stopped-there}
 use Rattle.views.proofs.Queue.{length-flight}
 use Rattle.plans.specs.declared.Step.{Step}
 use Rattle.plans.specs.declared.Plan.{Plan}
-use Rattle.plans.specs.Plans.{refusedPlan, movePlan, lostPlan, placesLeft, roomy, unless, inside, serverRefusal, messageRefusal}
+use Rattle.plans.specs.Plans.{refusedPlan, movePlan, lostPlan, roomy, unless}
 use Rattle.runs.specs.Runs.{refusedRun, taken, executed}
 use Rattle.runs.specs.Meaning.{stateIn, resultOf}
 use Rattle.runs.proofs.Accepting.{Ready, Possible, workOf, reactionOf, keptMessages}

@@ -18,12 +18,12 @@ use Rattle.server.specs.declared.Message.{Message}
 use Rattle.server.specs.declared.Handling.{Handling}
 use Rattle.server.specs.declared.Handling.the-variants.{Vote, Request, Reply, Other}
 use Rattle.server.specs.declared.Effect.{Effect}
-use Rattle.server.specs.Views.{among, markIn, openIn, roundIn, storedIn, effectIn}
+use Rattle.server.specs.Views.{among, markIn, openIn, roundIn, storedIn, effectIn, chosen}
 use Rattle.rounds.specs.Rounds.{noVersion, pickVersion, isSilent, countedOf, matching}
 use Rattle.rounds.specs.Kinds.{handlingIn}
 use Rattle.moves.specs.declared.Local.{Local}
 use Rattle.moves.specs.declared.Move.{Move}
-use Rattle.moves.specs.Moves.{chosen, readingMove, writingMove, finishedMove, afterReadMove, closedMove, withRound}
+use Rattle.moves.specs.Moves.{readingMove, writingMove, finishedMove, afterReadMove, closedMove, withRound}
 use Rattle.moves.specs.Moves.{steppedDown, fetching, countedMove, replyMove, voteMove, requestMove, votingMove, handlingMove, handledMove, readsBy, readsTable}
 
 -- what holds of both cases

@@ -18,14 +18,15 @@ use Rattle.limits.specs.Measures.{limitsAfter, Fits, MessageWithin}
 use Rattle.limits.specs.Tables.{EffectWithin, effect-within}
 use Rattle.server.specs.declared.Message.{Message}
 use Rattle.server.specs.declared.Effect.{Effect}
-use Rattle.server.specs.Views.{flagIn, among, versionIn, markIn, effectIn}
+use Rattle.server.specs.Views.{flagIn, among, versionIn, markIn, effectIn, chosen}
 use Rattle.rounds.specs.Rounds.{noVersion, pickVersion, pickTable, matching}
 use Rattle.rounds.proofs.RoundLaws.{matching-shut, unmatched}
 use Rattle.memory.specs.declared.Counts.{Counts}
 use Rattle.memory.specs.Layout.{countsAt, headAt, messageAt}
+use Rattle.refusals.specs.Refusals.{messageRefusal}
 use Rattle.moves.specs.declared.Local.{Local}
 use Rattle.moves.specs.declared.Move.{Move}
-use Rattle.moves.specs.Moves.{chosen, replyMove, handledMove, readsTable}
+use Rattle.moves.specs.Moves.{replyMove, handledMove, readsTable}
 use Rattle.moves.specs.Reactions.{Tables, bestIn, messageIn, askedIn, reactionIn}
 use Rattle.moves.proofs.Ceasing.{quiet-means}
 use Rattle.moves.proofs.ReplyMoves.{reply-means}
@@ -38,7 +39,7 @@ use Rattle.views.proofs.Seen.{length-servers, round-there, server-seen}
 use Rattle.views.proofs.Whole.{whole-at, whole-handled}
 use Rattle.plans.specs.declared.Step.{Step}
 use Rattle.plans.specs.declared.Plan.{Plan}
-use Rattle.plans.specs.Plans.{messageRefusal, messageStep, handPlan, receiverAt, handAt, gone}
+use Rattle.plans.specs.Plans.{messageStep, handPlan, receiverAt, handAt, gone}
 use Rattle.runs.specs.Runs.{executed, HandEffect}
 use Rattle.runs.specs.Meaning.{stateIn, resultOf}
 use Rattle.runs.proofs.Accepting.{Ready, Possible, keptMessages, workOf, reactionOf}

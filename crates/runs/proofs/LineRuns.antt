@@ -14,16 +14,17 @@ use Rattle.model.specs.Leader.{Reaction, reaction, elect, cease}
 use Rattle.model.specs.Lines as lines
 use Rattle.server.specs.declared.Round.{Round}
 use Rattle.server.specs.declared.Effect.{Effect}
-use Rattle.server.specs.Views.{among, openIn, roundIn}
+use Rattle.server.specs.Views.{among, openIn, roundIn, chosen}
 use Rattle.memory.specs.Layout.{countsAt, headAt, roundAt}
+use Rattle.refusals.specs.Refusals.{inside}
 use Rattle.moves.specs.declared.Move.{Move}
-use Rattle.moves.specs.Moves.{chosen, electedMove, timedOutMove, stoppedMove}
+use Rattle.moves.specs.Moves.{electedMove, timedOutMove, stoppedMove}
 use Rattle.moves.proofs.LineMoves.{elected-means, timed-out-means, stopped-means}
 use Rattle.views.specs.Memory.{Memory, WholeLocal, slotOf, localAt, clusterAt}
 use Rattle.views.proofs.Seen.{length-servers, number-there, round-there, server-seen}
 use Rattle.views.proofs.Whole.{whole-at, whole-electedMove, whole-timedOut, whole-stopped}
 use Rattle.plans.specs.declared.Plan.{Plan}
-use Rattle.plans.specs.Plans.{refusedPlan, lineStep, movePlan, roomy, inside, electPlan, timeoutPlan, stopPlan, electAt, timeoutAt, stopAt, loseAt}
+use Rattle.plans.specs.Plans.{refusedPlan, lineStep, movePlan, roomy, electPlan, timeoutPlan, stopPlan, electAt, timeoutAt, stopAt, loseAt}
 use Rattle.runs.specs.Runs.{executed}
 use Rattle.runs.specs.Meaning.{stateIn, resultOf}
 use Rattle.runs.proofs.Accepting.{Ready, Possible, reactionOf}

@@ -10,10 +10,10 @@ use lib.ListN.{length}
 use Rattle.model.specs.Measures.{maxAccepted}
 use Rattle.model.specs.Lines as lines
 use Rattle.server.specs.declared.Effect.{Effect}
+use Rattle.server.specs.Views.{chosen}
 use Rattle.memory.specs.declared.Counts.{Counts}
 use Rattle.memory.specs.Layout.{countsAt, putCounts}
 use Rattle.memory.proofs.Records.{counts-putCounts}
-use Rattle.moves.specs.Moves.{chosen}
 use Rattle.views.specs.Memory.{Memory, memory, Sized, each, cellAt, serverAt, serversAt, flightAt, clusterAt, clusterIn}
 use Rattle.views.specs.Changes.{answersAt}
 use Rattle.views.specs.Queue.{Sound, flight, flightIn, withoutMessage}

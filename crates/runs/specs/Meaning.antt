@@ -3,7 +3,7 @@ use mathlib.Core.Path.{_≡_}
 use mathlib.Core.Bool.{true, false}
 use mathlib.Core.List.{List}
 use mathlib.Core.Option.{Option, none, some}
-use Prim.Native.Nat.{ℕ, _+_}
+use Prim.Native.Nat.{ℕ, _+_, _%_, _^_}
 use lib.Dec.{eqb}
 use lib.ListN.{length}
 use Rattle.entries.specs.Decoded.{tableIn, valueBytes}
@@ -63,3 +63,18 @@ pub record WholeLine (x : Line) : Type 0 where
   pub key : length (x .key .bytes) ≡ 8
   pub expected : length (x .expected .bytes) ≡ 16
   pub value : length (x .value .bytes) ≡ 16
+
+-- the tally after a line, number by number; the counts wrap at 2 ^ 32
+unfoldable pub tallyAfter : Tally → Report → Tally
+tallyAfter t r =
+    elim (eqb (r .refusal) 0) [
+      | true ↦
+          record {
+            sent = (t .sent + r .sent) % 2 ^ 32;
+            copied = (t .copied + r .copied) % 2 ^ 32;
+            delivered = (t .delivered + r .delivered) % 2 ^ 32;
+            lost = (t .lost + r .lost) % 2 ^ 32;
+            flight = r .messages;
+          }
+      | false ↦ t
+    ]

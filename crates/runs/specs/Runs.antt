@@ -17,15 +17,16 @@ use Rattle.server.specs.Views.{flagIn, effectIn, wordsIn}
 use Rattle.server.specs.declared.Effect.{Effect}
 use Rattle.memory.specs.declared.Counts.{Counts}
 use Rattle.memory.specs.Layout.{countsAt, messageAt, wordsAt, putCounts, putWords, putTexts}
+use Rattle.refusals.specs.Refusals.{sendCount, messageRefusal}
 use Rattle.moves.specs.declared.Move.{Move}
 use Rattle.moves.specs.Moves.{readsTable}
 use Rattle.views.specs.Memory.{Memory, memory, standing, slotOf, tableAt}
 use Rattle.views.specs.Changes.{moved, answered}
-use Rattle.views.specs.Queue.{Flight, flight, withoutMessage, sent, sendCount}
+use Rattle.views.specs.Queue.{Flight, flight, withoutMessage, sent}
 use Rattle.plans.specs.declared.Step.{Step}
 use Rattle.plans.specs.declared.Plan.{Plan}
 use Rattle.plans.specs.Arrays.{askedAt}
-use Rattle.plans.specs.Plans.{noKey, noValue, noWords, refusedPlan, callBucket, messageRefusal, messageStep, gone, receiverAt, electAt, timeoutAt, stopAt, callAt, handAt, loseAt}
+use Rattle.plans.specs.Plans.{noKey, noValue, noWords, refusedPlan, callBucket, messageStep, gone, receiverAt, electAt, timeoutAt, stopAt, callAt, handAt, loseAt}
 use Rattle.parse.specs.declared.Kind.{Kind}
 use Rattle.parse.specs.declared.Kind.the-variants as K
 use Rattle.parse.specs.declared.Line.{Line}

@@ -1,5 +1,8 @@
 // One line of a script on the lent arrays. What it leaves in them is said in specs/Runs.antt, and what that stands for in specs/Meaning.antt.
 use server::Effect;
+use std::num::wrapping_add_u32;
+ghost use mathlib.Core.Path.{_≡_};
+ghost use Rattle.runs.specs.Meaning.{tallyAfter};
 
 // What a line came to: the number it is refused with, or 0; how many answers it wrote; what it adds to the tally; the messages
 // in flight after it; the effect of the call that it answers, with the data of `value` and `keys`.
@@ -22,4 +25,20 @@ pub struct Tally {
     pub delivered: u32,
     pub lost: u32,
     pub flight: u32,
+}
+
+// The tally after a line: a refused one leaves it as it was.
+pub fn tally_after(t: Tally, r: Report) -> Tally
+    ensures { λ u. ⌜ u ≡ tallyAfter t r ⌝ }
+{
+    if r.refusal == 0 {
+        return Tally {
+            sent: wrapping_add_u32(t.sent, r.sent),
+            copied: wrapping_add_u32(t.copied, r.copied),
+            delivered: wrapping_add_u32(t.delivered, r.delivered),
+            lost: wrapping_add_u32(t.lost, r.lost),
+            flight: r.messages,
+        };
+    }
+    t
 }

@@ -49,6 +49,10 @@ purposeIn x =
 unfoldable pub among : ℕ → ℕ → Bool
 among top x = elim (leb 1 x) [ true ↦ leb x top | false ↦ false ]
 
+-- the first number, or the second
+unfoldable pub chosen : Bool → ℕ → ℕ → ℕ
+chosen b x y = elim b [ true ↦ x | false ↦ y ]
+
 abbrev pub versionIn : Version → cluster.Version
 versionIn v = cluster.version (v .election) (v .counter)
 

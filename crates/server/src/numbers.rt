@@ -1,11 +1,11 @@
-// Majorities, the order of versions, and how often a number stands in seven places.
+// Majorities, the order of versions, how often a number stands in seven places, and a choice of a number.
 use crate::Version;
 use entries::keys::at_most;
 ghost use mathlib.Core.Path.{_≡_};
 ghost use lib.ListN.{getD, take, set};
 ghost use Rattle.model.specs.Measures.{majority};
 ghost use Rattle.model.specs.Cluster.{above};
-ghost use Rattle.server.specs.Views.{versionIn};
+ghost use Rattle.server.specs.Views.{versionIn, chosen};
 ghost use Rattle.server.specs.Counts.{countOf};
 
 // Document 01's table; no servers, no majority.
@@ -72,4 +72,11 @@ pub fn place_at(n: u32, places: [u32; 7], q: u32, past: u32) -> u32
         return past;
     }
     places[i]
+}
+
+// A choice of a number.
+pub fn chosen(b: bool, x: u32, y: u32) -> u32
+    ensures { λ r. ⌜ r ≡ chosen b x y ⌝ }
+{
+    if b { x } else { y }
 }

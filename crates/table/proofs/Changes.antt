@@ -115,23 +115,3 @@ module _ (most long : ℕ) (k : List ℕ) (k₁ : 1 ≤ length k) (k₂ : length
       go true p q c = is-put (omega (arith, length-put-held k (b ∷ v) t p, fits-parts most long t h .few)) (rw (stored, p) at e)
       go false p true c = is-put (omega (arith, length-put k (b ∷ v) t, ltb-true (length t) most c)) (rw (stored, p, c) at e)
       go false p false c = let z : _≡_ {A = ℕ} 0 1 = cc (rw (stored, p, c) at e) in absurd (omega arith)
-
--- ---- a removed key
-
--- a key that stands before the first of a rising table, or is that one's, stands nowhere after it
-absent-after : (e : Entry) (t : List Entry) → rising (e ∷ t) ≡ true → holds (e .key) t ≡ false
-unfolding holds
-absent-after e [] r = refl
-absent-after e (f ∷ t) r = rw (holds, rising-parts e f t r .0)
-
-pub remove-absent : (k : List ℕ) (t : List Entry) → rising t ≡ true → holds k (remove k t) ≡ false
-unfolding holds remove
-remove-absent k [] r = refl
-remove-absent k (e ∷ t) r =
-    let ih = remove-absent k t (rising-tail e t r) in
-    by-order k (e .key) (λ o. rw (remove, o, holds, o))
-    (λ o. rw (remove, o, order-same k (e .key) o) (absent-after e t r))
-    (λ o. rw (remove, o, holds, o) ih)
-
-pub remove-value : (k : List ℕ) (t : List Entry) → rising t ≡ true → valueOf k (remove k t) ≡ []
-remove-value k t r = absent-value k (remove k t) (remove-absent k t r)

@@ -16,8 +16,8 @@ use Rattle.model.specs.Leader.{ended, endings}
 use Rattle.cells.specs.Cells.{Cell}
 use Rattle.server.specs.declared.Answer.{Answer}
 use Rattle.server.specs.Views.{among, callIn, answerIn}
-use Rattle.rounds.specs.Calls.{endedOf}
-use Rattle.rounds.proofs.CallLaws.{ended-means}
+use Rattle.open_calls.specs.Calls.{endedOf}
+use Rattle.open_calls.proofs.CallLaws.{ended-means}
 use Rattle.memory.specs.Layout.{callAt}
 use Rattle.memory.proofs.Rows.{length-putRow, row-put, row-other}
 use Rattle.moves.specs.declared.Move.{Move}

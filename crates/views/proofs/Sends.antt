@@ -15,13 +15,13 @@ use Rattle.table.specs.Form.{tableOf}
 use Rattle.model.specs.Cluster as cluster
 use Rattle.model.specs.Leader.{below, without, broadcast}
 use Rattle.server.specs.declared.Message.{Message}
-use Rattle.server.specs.Views.{versionIn}
+use Rattle.server.specs.Views.{versionIn, chosen}
 use Rattle.memory.specs.Layout.{contentAt}
+use Rattle.refusals.specs.Refusals.{isBroadcast, sendCount}
 use Rattle.moves.specs.declared.Move.{Move}
 use Rattle.moves.specs.Reactions.{Tables, workAfter, copyAfter, messageIn, Asked, askedIn, bodyIn, sendsIn}
-use Rattle.moves.specs.Moves.{chosen}
 use Rattle.views.specs.Memory.{tableAt}
-use Rattle.views.specs.Queue.{Flight, Sound, flightIn, appended, messageTo, spread, isBroadcast, broadcastOf, replyOf, sent, sendCount}
+use Rattle.views.specs.Queue.{Flight, Sound, flightIn, appended, messageTo, spread, broadcastOf, replyOf, sent}
 use Rattle.views.proofs.Queue.{appended-flight, appended-count, appended-sound}
 
 -- ---- the servers that a broadcast goes to

@@ -13,7 +13,7 @@ use Rattle.server.specs.Views.{among, answerIn}
 use Rattle.server.specs.declared.Answer.{Answer}
 use Rattle.server.specs.declared.Round.{Round}
 use Rattle.server.specs.declared.Call.{Call}
-use Rattle.rounds.specs.Calls.{endedOf}
+use Rattle.open_calls.specs.Calls.{endedOf}
 use Rattle.memory.specs.Rows.{row, putRow}
 use Rattle.memory.specs.Layout.{contentSize, contentBytes, roundAt, callAt, putHead, putVersion, putRound, putCall, putContent}
 use Rattle.moves.specs.declared.Local.{Local}

@@ -8,10 +8,11 @@ use lib.ListN.{length}
 use Rattle.blocks.specs.Blocks.{block}
 use Rattle.model.specs.Cluster as cluster
 use Rattle.server.specs.declared.Message.{Message}
+use Rattle.server.specs.Views.{chosen}
 use Rattle.memory.specs.Layout.{messageSize, contentSize, putMessage, putContent}
+use Rattle.refusals.specs.Refusals.{isBroadcast}
 use Rattle.messages.specs.Messages.{closedUp}
 use Rattle.moves.specs.declared.Move.{Move}
-use Rattle.moves.specs.Moves.{chosen}
 use Rattle.views.specs.Memory.{flightAt}
 
 -- the two arrays of the messages, and how many messages there are
@@ -68,10 +69,6 @@ unfoldable pub spread : List ℕ → Message → ℕ → Flight → Flight
 spread v m zero x = x
 spread v m (suc n) x = sentTo v m n (spread v m n x)
 
--- kinds 1, 4 and 7 go to all others
-unfoldable pub isBroadcast : ℕ → Bool
-isBroadcast kind = elim (eqb kind 1) [ true ↦ true | false ↦ elim (eqb kind 4) [ true ↦ true | false ↦ eqb kind 7 ] ]
-
 -- PLEASEVOTE carries bucket 0 and round 0
 abbrev pub broadcastOf : ℕ → ℕ → Move → Message
 broadcastOf me b v =
@@ -108,7 +105,3 @@ sent n me b k asked v works copies x =
             | false ↦ appended (block contentSize k copies) (replyOf me asked v) x
           ]
     ]
-
--- how many messages that is
-unfoldable pub sendCount : ℕ → ℕ → ℕ
-sendCount n kind = elim (eqb kind 0) [ true ↦ 0 | false ↦ elim (isBroadcast kind) [ true ↦ n - 1 | false ↦ 1 ] ]

@@ -3,7 +3,7 @@ use mathlib.Core.Path.{sym, ap, _∙_}
 use Prim.Native.Nat.{_+_}
 use native.Mathlib.Omega.{arith}
 use Rattle.server.specs.Views.{among}
-use Rattle.rounds.specs.Calls.{endedOf}
+use Rattle.open_calls.specs.Calls.{endedOf}
 use Rattle.views.specs.Changes.{putAnswer}
 use Rattle.answers.specs.Answers.{written}
 use Rattle.answers.proofs.Ended.{ended-open, ended-none}

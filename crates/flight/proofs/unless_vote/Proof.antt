@@ -1,6 +1,6 @@
 -- `flight::unless_vote` meets its contract: the kind is 1 or not.
-use Rattle.moves.specs.Moves.{chosen}
 use borrow.Author.Tests.{eq-eqb, ne-eqb}
+use Rattle.server.specs.Views.{chosen}
 use Rattle.flight.proofs.unless_vote.Statement.{statement}
 use Rattle.flight.proofs.unless_vote.Tie as tie
 

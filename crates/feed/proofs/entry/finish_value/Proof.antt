@@ -1,5 +1,8 @@
--- `entry::finish_value` meets its contract.
-use Rattle.feed.proofs.Entering.{end-waits, end-finished}
+-- `entry::finish_value` meets its contract: the last line is fed its line feed, then the tally follows.
+use mathlib.Core.Path.{sym}
+use native.Mathlib.Omega.{arith}
+use lib.Seq.{length-take-le}
+use Rattle.feed.proofs.Entering.{end-waits, end-finished, tally-fits}
 use borrow.Author.Needs.{needs}
 use Rattle.feed.proofs.entry.finish_value.Statement.{statement}
 use Rattle.feed.proofs.entry.finish_value.Tie as tie
@@ -16,11 +19,26 @@ element-copy-out-lines c = search needs
 element-copy-out-count : tie.Need-element-copy-out-count
 element-copy-out-count c = search needs
 
-finish-line-requires : tie.Need-finish-line-requires
-finish-line-requires c κs = search needs
+line-feeds-requires : tie.Need-line-feeds-requires
+line-feeds-requires c κs = search needs
+
+slice-relend-prefix-feed-part : tie.Need-slice-relend-prefix-feed-part
+slice-relend-prefix-feed-part c = search needs
+
+slice-aggregate-feed-part : tie.Need-slice-aggregate-feed-part
+slice-aggregate-feed-part c = sym (length-take-le 1024 (c .before .before .before .before .before .before .before .before .before .before .before .before .before .before .before .before .before .before .before .before .before .args .out .now) (omega (arith, c .before .before .before .before .before .before .before .before .before .before .before .before .before .before .if1 .left)))
+
+array-share-prefix-feed : tie.Need-array-share-prefix-feed
+array-share-prefix-feed c = search needs
+
+slice-aggregate-feed-part-2 : tie.Need-slice-aggregate-feed-part-2
+slice-aggregate-feed-part-2 c = sym (length-take-le _ _ (c .before .before .before .before .before .before .before .before .before .before .before .before .line-feeds .ensures .1))
+
+feed-part-requires : tie.Need-feed-part-requires
+feed-part-requires c κs = search needs
 
 put-end-requires : tie.Need-put-end-requires
-put-end-requires c κs = search needs
+put-end-requires c κs = tally-fits _ _ (c .before .before .before .before .before .before .before .before .before .before .before .before .before .before .before .before .before .before .before .before .before .before .before .before .before .before .before .args .out .now) _ _ _ _ (c .before .before .before .before .before .before .before .before .before .before .before .before .before .before .before .before .before .before .before .before .if1 .left) (c .before .before .before .before .feed-part .ensures) (c .before .before .before .out .given .0)
 
 put-reader-requires : tie.Need-put-reader-requires
 put-reader-requires c κs = search needs
@@ -29,7 +47,11 @@ same-length : tie.Need-same-length
 same-length c = search needs
 
 returns-2 : tie.Need-returns-2
-returns-2 c = end-finished _ _ _ _ _ _ _ _ _ (c .before .before .before .before .before .before .before .before .before .before .before .before .before .before .before .before .before .before .before .before .before .before .before .before .before .before .before .before .before .before .args .reader .now) _ _ _ _ _ _ _ _ _ _ _ _ _ _ (c .before .before .before .before .before .before .before .before .before .finish-line .result) _ _ (c .before .before .before .before .before .before .before .before .before .before .before .before .before .before .before .before .before .before .before .before .before .before .before .before .sizes .ensures .0) (c .before .before .before .before .before .before .before .before .before .before .before .before .before .before .before .before .before .before .before .before .before .before .before .before .sizes .ensures .1) (c .before .before .before .before .before .before .before .before .before .before .before .before .before .before .before .before .before .before .before .before .before .before .before .if1 .left) (c .before .before .before .before .before .before .before .before .before .finish-line .ensures) (c .before .before .before .before .put-end .ensures .0) (c .put-reader .ensures)
+returns-2 c =
+    let a = c .before .before .before .before .before .before .before .before .before .before .before .before .before .before .before .before .before .before .before .before .before .before .before .before .before .before .before .before .before .before .before .before .args in
+    let sizes = c .before .before .before .before .before .before .before .before .before .before .before .before .before .before .before .before .before .before .before .before .before .before .before .before .before .before .sizes .ensures in
+    let fed = c .before .before .before .before .before .before .before .before .before .feed-part in
+    end-finished _ _ _ _ _ _ _ _ _ (a .reader .now) _ _ (a .out .now) _ _ _ _ _ _ _ _ _ _ _ _ _ (fed .result) _ _ (sizes .0) (sizes .1) (c .before .before .before .before .before .before .before .before .before .before .before .before .before .before .before .before .before .before .before .before .before .before .before .before .before .if1 .left) (fed .ensures) (c .before .before .before .before .before .before .before .before .before .before .before .before .before .before .before .before .before .before .before .before .before .before .line-feeds .ensures .0) (c .before .before .before .before .before .before .before .before .out .given .0) (c .before .before .before .before .put-end .ensures .0) (c .put-reader .ensures)
 
 pub finish-value-spec : {M : Type 1} → statement M
 finish-value-spec =
@@ -39,7 +61,12 @@ finish-value-spec =
     returns
     element-copy-out-lines
     element-copy-out-count
-    finish-line-requires
+    line-feeds-requires
+    slice-relend-prefix-feed-part
+    slice-aggregate-feed-part
+    array-share-prefix-feed
+    slice-aggregate-feed-part-2
+    feed-part-requires
     put-end-requires
     put-reader-requires
     same-length

@@ -1,29 +1,55 @@
--- `running::end_line` meets its contract: run, then told.
+-- `running::end_line` meets its contract: read, run, then told.
 use mathlib.Core.Path.{refl}
+use native.Mathlib.Omega.{arith}
 use Rattle.lines.proofs.Told.{few-answers}
 use borrow.Author.Needs.{needs}
 use Rattle.lines.proofs.running.end_line.Statement.{statement}
 use Rattle.lines.proofs.running.end_line.Tie as tie
 
-run-held-requires : tie.Need-run-held-requires
-run-held-requires c κs = search needs
+read-line-requires : tie.Need-read-line-requires
+read-line-requires c κs = search needs
+
+step-requires : tie.Need-step-requires
+step-requires c κs = search needs
 
 add-number : tie.Need-add-number
-add-number c = search needs
+add-number c = omega (arith, c .before .before .before .before .before .before .before .before .before .before .before .before .before .before .pre .0)
 
 cast-number : tie.Need-cast-number
-cast-number c = search needs
+cast-number c = omega (arith, c .before .before .before .before .before .before .before .before .before .before .before .before .before .before .pre .0)
 
 put-outcome-requires : tie.Need-put-outcome-requires
-put-outcome-requires c κs = (c .before .before .before .before .before .before .before .before .before .before .before .before .before .before .pre .1, few-answers (c .before .before .before .run-held .ensures))
+put-outcome-requires c κs = (c .before .before .before .before .before .before .before .before .before .before .before .before .before .before .before .before .pre .1, few-answers (c .before .before .before .step .ensures))
 
 same-length : tie.Need-same-length
 same-length c = search needs
 
 returns : tie.Need-returns
-returns c = record { text = _; ends = record { told = c .before .before .before .before .before .before .before .run-held .result; runs = c .before .before .before .before .before .before .before .run-held .ensures; counted = refl; next = refl; clear = refl; printed = refl }; told = c .before .before .before .put-outcome .ensures }
+returns c =
+    let read = c .before .before .before .before .before .before .before .before .before .before .before .before .before .before .before .before .before .read-line in
+    let ran = c .before .before .before .before .before .before .before .step in
+    record {
+      text = _;
+      ends =
+          record {
+            told = ran .result;
+            runs = record { line = read .result; reads = read .ensures; performs = ran .ensures };
+            counted = refl;
+            next = refl;
+            clear = refl;
+            printed = refl;
+          };
+      told = c .before .before .before .put-outcome .ensures;
+    }
 
 pub end-line-spec : {M : Type 1} → statement M
 end-line-spec =
     tie.close
-    (tie.spec run-held-requires add-number cast-number put-outcome-requires same-length returns)
+    (tie.spec
+    read-line-requires
+    step-requires
+    add-number
+    cast-number
+    put-outcome-requires
+    same-length
+    returns)

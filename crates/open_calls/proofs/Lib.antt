@@ -1,0 +1,2 @@
+-- What the proofs of `open_calls` share.
+pub mod CallLaws

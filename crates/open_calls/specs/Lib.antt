@@ -1,0 +1,2 @@
+-- What the contracts of `open_calls` cite.
+pub mod Calls

@@ -1,0 +1,77 @@
+// Open calls: the count of their rounds, their endings, and the versions that they read and write. What each number stands for is said
+// in crates/server/specs/Views.antt.
+use server::Answer;
+use server::Call;
+use server::Head;
+use server::Version;
+use std::num::wrapping_add_u32;
+ghost use mathlib.Core.Path.{_≡_};
+ghost use mathlib.Core.List.{List, []};
+ghost use Prim.Native.Nat.{ℕ, _+_, _<_, _^_};
+ghost use lib.Dec.{eqb};
+ghost use Rattle.entries.specs.Entries.{Entry};
+ghost use Rattle.model.specs.Calls as calls;
+ghost use Rattle.model.specs.Cluster.{Server, copyAt};
+ghost use Rattle.model.specs.Leader.{oneMore, ended, nextVersion};
+ghost use Rattle.server.specs.Views.{storedIn, versionIn, callIn, takenIn, answerIn};
+ghost use Rattle.open_calls.specs.Calls.{sentBy, endedAs, callWith, oneMoreOf, endedOf, nextVersionOf};
+
+// Whether the own write was sent, after a round that is the own write or not.
+fn sent_by(own: bool, sent: u32) -> u32
+    ensures { λ r. ⌜ r ≡ sentBy own sent ⌝ }
+{
+    if own { 1 } else { sent }
+}
+
+// One more round made for a call; `own` where it is the call's own write.
+pub fn one_more(own: bool, c: Call) -> Call
+    ensures is { λ r. ⌜ r ≡ oneMoreOf own c ⌝ }
+    ensures means { λ r. ⌜ ((words : calls.Words) → c .rounds + 1 < 2 ^ 32 → callIn r words ≡ oneMore own (callIn c words)) ⌝ }
+{
+    let sent = sent_by(own, c.sent);
+    let rounds = wrapping_add_u32(c.rounds, 1);
+    Call {
+        kind: c.kind,
+        number: c.number,
+        rounds,
+        sent,
+    }
+}
+
+// `unknown` where the own write was sent, otherwise `notdone`.
+fn ended_as(sent: u32) -> u32
+    ensures { λ r. ⌜ r ≡ endedAs sent ⌝ }
+{
+    if sent == 1 { 7 } else { 6 }
+}
+
+// The answer to a call that ends because leading ends.
+pub fn ended(c: Call) -> Answer
+    ensures is { λ r. ⌜ r ≡ endedOf c ⌝ }
+    ensures means { λ r. ⌜ ((words : calls.Words) (v : List ℕ) (t : List Entry) → answerIn r v t ≡ ended (takenIn c words)) ⌝ }
+{
+    let result = ended_as(c.sent);
+    Answer {
+        call: c.number,
+        result,
+        rounds: c.rounds,
+    }
+}
+
+// The next version under the leader's number, above version v of its copy.
+pub fn next_version(number: u32, v: Version) -> Version
+    ensures is { λ r. ⌜ r ≡ nextVersionOf number v ⌝ }
+    ensures means { λ r. ⌜ ((b : ℕ) (s : Server) → v .counter + 1 < 2 ^ 32 → number ≡ s .stored .number → versionIn v ≡ copyAt (s .stored) b .version → versionIn r ≡ nextVersion b s) ⌝ }
+{
+    Version {
+        election: number,
+        counter: wrapping_add_u32(v.counter, 1),
+    }
+}
+
+// READ: whether the copy with version v was recovered under the leader's number.
+pub fn recovered(h: Head, v: Version) -> bool
+    ensures { λ b. ⌜ b ≡ eqb (versionIn v .election) (storedIn h [] .number) ⌝ }
+{
+    v.election == h.number
+}

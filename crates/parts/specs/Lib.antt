@@ -1,2 +1,0 @@
--- What the contracts of `parts` cite.
-pub mod Feeding

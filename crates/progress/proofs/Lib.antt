@@ -1,0 +1,2 @@
+-- What the proofs of `progress` share.
+pub mod Feeds

@@ -1,0 +1,2 @@
+-- What the proofs of `refusals` share.
+pub mod Sending

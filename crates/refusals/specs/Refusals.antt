@@ -1,0 +1,32 @@
+-- Refusals that bear on several kinds of lines, in document 01's order, and how many messages a step sends.
+use mathlib.Core.Bool.{Bool, true, false}
+use Prim.Native.Nat.{ℕ, _+_, _-_}
+use lib.Dec.{eqb, leb}
+use Rattle.model.specs.Measures.{maxMessages, maxAccepted}
+use Rattle.server.specs.declared.Head.{Head}
+use Rattle.server.specs.Views.{flagIn, chosen}
+use Rattle.memory.specs.declared.Counts.{Counts}
+
+-- 3: no such server, or no such bucket
+unfoldable pub inside : Counts → ℕ → ℕ → Bool
+inside c s b = elim (leb (c .servers) s) [ true ↦ false | false ↦ elim (leb (c .buckets) b) [ true ↦ false | false ↦ true ] ]
+
+-- 5 and 6, or 0
+unfoldable pub serverRefusal : Counts → Head → ℕ
+serverRefusal c h = elim (leb maxAccepted (c .lines)) [ true ↦ 5 | false ↦ elim (flagIn (h .stopped)) [ true ↦ 6 | false ↦ 0 ] ]
+
+-- 5 and 7, or 0
+unfoldable pub messageRefusal : Counts → ℕ → ℕ
+messageRefusal c i = elim (leb maxAccepted (c .lines)) [ true ↦ 5 | false ↦ elim (leb (c .messages) i) [ true ↦ 7 | false ↦ 0 ] ]
+
+-- kinds 1, 4 and 7 go to all others
+unfoldable pub isBroadcast : ℕ → Bool
+isBroadcast kind = elim (eqb kind 1) [ true ↦ true | false ↦ elim (eqb kind 4) [ true ↦ true | false ↦ eqb kind 7 ] ]
+
+-- how many messages a step sends, by their kind, among n servers
+unfoldable pub sendCount : ℕ → ℕ → ℕ
+sendCount n kind = elim (eqb kind 0) [ true ↦ 0 | false ↦ elim (isBroadcast kind) [ true ↦ n - 1 | false ↦ 1 ] ]
+
+-- 12: whether there is a place for each; the place of a message that is removed is free
+abbrev pub placesLeft : Counts → Bool → ℕ → Bool
+placesLeft c removes kind = leb (c .messages - chosen removes 1 0 + sendCount (c .servers) kind) maxMessages

@@ -1,0 +1,88 @@
+// Refusals 3, 5, 6, 7 and 12, which bear on several kinds of lines: each from the counts of a cluster alone, or with a server's head.
+use memory::Counts;
+use server::Head;
+use server::numbers::chosen;
+ghost use mathlib.Core.Path.{_≡_};
+ghost use Prim.Native.Nat.{_≤_};
+ghost use Rattle.refusals.specs.Refusals.{isBroadcast, sendCount, placesLeft, serverRefusal, inside, messageRefusal};
+
+// 3: whether there are such a server and such a bucket.
+pub fn inside(c: Counts, s: u32, b: u32) -> bool
+    ensures { λ r. ⌜ r ≡ inside c s b ⌝ }
+{
+    if c.servers <= s {
+        return false;
+    }
+    if c.buckets <= b {
+        return false;
+    }
+    true
+}
+
+// 5 and 6, or 0.
+pub fn server_refusal(c: Counts, h: Head) -> u32
+    ensures { λ r. ⌜ r ≡ serverRefusal c h ⌝ }
+{
+    if 1000000 <= c.lines {
+        return 5;
+    }
+    if h.stopped == 1 {
+        return 6;
+    }
+    0
+}
+
+// 5 and 7, or 0.
+pub fn message_refusal(c: Counts, i: u32) -> u32
+    ensures { λ r. ⌜ r ≡ messageRefusal c i ⌝ }
+{
+    if 1000000 <= c.lines {
+        return 5;
+    }
+    if c.messages <= i {
+        return 7;
+    }
+    0
+}
+
+// Kinds 1, 4 and 7 go to all others.
+pub fn is_broadcast(kind: u32) -> bool
+    ensures { λ r. ⌜ r ≡ isBroadcast kind ⌝ }
+{
+    if kind == 1 {
+        return true;
+    }
+    if kind == 4 {
+        return true;
+    }
+    kind == 7
+}
+
+// How many messages are sent among n servers.
+pub fn send_count(n: u32, kind: u32) -> u32
+    ensures { λ r. ⌜ r ≡ sendCount n kind ⌝ }
+{
+    if kind == 0 {
+        return 0;
+    }
+    if is_broadcast(kind) {
+        if n == 0 {
+            return 0;
+        }
+        return n - 1;
+    }
+    1
+}
+
+// Whether there is a place for each message; the place of one that is removed is free.
+pub fn places_left(c: Counts, removes: bool, kind: u32) -> bool
+    requires { ⌜ (c .servers ≤ 7) × (c .messages ≤ 64) ⌝ }
+    ensures { λ r. ⌜ r ≡ placesLeft c removes kind ⌝ }
+{
+    let sends = send_count(c.servers, kind);
+    let gone = chosen(removes, 1, 0);
+    if c.messages < gone {
+        return sends <= 64;
+    }
+    c.messages - gone + sends <= 64
+}
