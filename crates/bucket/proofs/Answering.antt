@@ -13,12 +13,12 @@ use Rattle.entries.specs.declared.Decoded.{Decoded}
 use Rattle.entries.specs.Entries.{Entry}
 use Rattle.entries.specs.Decoded.{tableIn}
 use Rattle.checks.specs.Tests.{soundSlots, sound}
-use Rattle.table.specs.Form.{fits, bucketBytes, tableOf, readBucket, sameBytes}
+use Rattle.table.specs.Form.{fits, bucketBytes, tableOf, readBucket, sameBytes, readNumber}
 use Rattle.table.specs.Steps.{Bounded, Decodes}
 use Rattle.table.proofs.Reading.{read-taken, read-unfit, bytes-same}
 use Rattle.bucket.specs.declared.Outcome.the-variants.{Accepted, Malformed}
 use Rattle.bucket.specs.declared.Reading.{Reading}
-use Rattle.bucket.specs.Answers.{answer, outcomeNumber, readingOf, readNumber, tableRead, Read, Refused, writeOf}
+use Rattle.bucket.specs.Answers.{answer, outcomeNumber, readingOf, tableRead, Read, Refused, writeOf}
 
 -- ---- reading
 

@@ -10,7 +10,7 @@ use Rattle.entries.specs.declared.Decoded.{Decoded}
 use Rattle.entries.specs.Entries.{Entry}
 use Rattle.entries.specs.Decoded.{tableIn}
 use Rattle.checks.specs.Tests.{sound}
-use Rattle.table.specs.Form.{fits, bucketBytes, readBucket}
+use Rattle.table.specs.Form.{fits, bucketBytes, readBucket, readNumber}
 use Rattle.bucket.specs.declared.Outcome.{Outcome}
 use Rattle.bucket.specs.declared.Outcome.the-variants.{Accepted, Malformed}
 use Rattle.bucket.specs.declared.Written.{Written}
@@ -42,9 +42,6 @@ answer n b = record { number = n; bytes = b }
 unfoldable pub readingOf : Reading → Option (List Entry)
 readingOf r = elim (r .outcome) [ Accepted ↦ some (tableIn (r .table)) | Malformed ↦ none ]
 
-unfoldable pub readNumber : List ℕ → ℕ
-readNumber b = elim (readBucket 4 16 b) [ none ↦ 13 | some t ↦ 0 ]
-
 unfoldable pub tableRead : List ℕ → List Entry
 tableRead b = elim (readBucket 4 16 b) [ none ↦ [] | some t ↦ t ]
 
@@ -56,7 +53,7 @@ pub record Empty (t : Decoded) : Type 0 where
 -- the number, and the table, which has no entries where the bytes are refused; slots that are not in use may hold anything
 pub record Read (b : List ℕ) (r : Reading) : Type 0 where
   pub is : readingOf r ≡ readBucket 4 16 b
-  pub number : outcomeNumber (r .outcome) ≡ readNumber b
+  pub number : outcomeNumber (r .outcome) ≡ readNumber 4 16 b
   pub table : tableIn (r .table) ≡ tableRead b
   pub sound : sound (r .table) ≡ true
 

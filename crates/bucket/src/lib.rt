@@ -1,8 +1,8 @@
 // The bucket form on lent bytes: a table is read from them and written to them.
+use decoding::decode;
+use encoding::encode;
 use entries::Decoded;
 use entries::slots::blank_slot;
-use table::decoding::decode;
-use table::encoding::encode;
 ghost use mathlib.Core.Path.{_≡_};
 ghost use Prim.Native.Nat.{_≤_};
 ghost use lib.ListN.{length, take};

@@ -9,6 +9,8 @@ use bucket_calls::list_keys;
 use bucket_calls::look_up;
 use bucket_calls::put;
 use bucket_calls::remove;
+use encoding::put_key;
+use encoding::put_value;
 use entries::Decoded;
 use entries::Key;
 use entries::Slot;
@@ -16,13 +18,12 @@ use entries::Value;
 use entries::keys::at_most;
 use entries::keys::key_length;
 use entries::keys::value_length;
-use table::encoding::put_key;
-use table::encoding::put_value;
 ghost use mathlib.Core.Path.{_≡_};
 ghost use Prim.Native.Nat.{_≤_, _<_, _+_, _*_};
 ghost use lib.ListN.{length, getD};
 ghost use Rattle.entries.specs.Decoded.{keyBytes, valueBytes};
-ghost use Rattle.bucket.specs.Answers.{answer, outcomeNumber, writtenNumber, readNumber, writeOf};
+ghost use Rattle.table.specs.Form.{readNumber};
+ghost use Rattle.bucket.specs.Answers.{answer, outcomeNumber, writtenNumber, writeOf};
 ghost use Rattle.bucket_calls.specs.Answers.{changeNumber, putOf, removeOf, keysIn};
 ghost use Rattle.bucket_c.specs.Exports.{keyFrom, valueFrom, slotFrom, tableFrom, getOf, KeysPut, keysOut};
 
@@ -59,7 +60,7 @@ fn change_number(c: Change) -> u32
 // 0 where the bytes are a bucket, 13 else.
 #[no_mangle]
 pub extern "C" fn bucket_read(bucket: &[u8]) -> u32
-    ensures { λ r. ⌜ r ≡ readNumber (now (bucket .entry)) ⌝ }
+    ensures { λ r. ⌜ r ≡ readNumber 4 16 (now (bucket .entry)) ⌝ }
 {
     let r = read(bucket);
     let o = r.outcome;

@@ -19,10 +19,10 @@ use Rattle.entries.proofs.Shifts.{map-take}
 use Rattle.entries.proofs.Views.{table-whole}
 use Rattle.entries.proofs.Comparison.{order-same}
 use Rattle.entries.proofs.Changes.{by-order, absent-value, absent-remove}
-use Rattle.table.specs.Form.{maxKey, bucketSize, within, bucketBytes, readBucket}
+use Rattle.table.specs.Form.{maxKey, bucketSize, within, bucketBytes, readBucket, readNumber}
 use Rattle.table.proofs.Fitting.{within-parts, within-from, fits-parts}
 use Rattle.table.proofs.Reading.{Capped, sized-capped, length-bucket, one-form}
-use Rattle.bucket.specs.Answers.{answer, readNumber, tableRead}
+use Rattle.bucket.specs.Answers.{answer, tableRead}
 use Rattle.bucket_calls.specs.Answers.{lookOf, storable, putIn, putOf, removeOf, listed, listOf, slotKeys}
 
 -- ---- bytes that are taken
@@ -55,16 +55,16 @@ long-not-held b k t e h =
 -- ---- searching
 
 module _ (b k : List ℕ) where
-  pub look-found : (n : ℕ) (v : List ℕ) → n ≡ readNumber b → v ≡ valueOf k (tableRead b) → answer n v ≡ lookOf b k
+  pub look-found : (n : ℕ) (v : List ℕ) → n ≡ readNumber 4 16 b → v ≡ valueOf k (tableRead b) → answer n v ≡ lookOf b k
   unfolding readNumber tableRead lookOf valueOf
   look-found n v e f = ap₂ answer e f ∙ go (readBucket 4 16 b) refl
     where
-      go : (r : Option (List Entry)) → readBucket 4 16 b ≡ r → answer (readNumber b) (valueOf k (tableRead b)) ≡ lookOf b k
+      go : (r : Option (List Entry)) → readBucket 4 16 b ≡ r → answer (readNumber 4 16 b) (valueOf k (tableRead b)) ≡ lookOf b k
       go none q = rw (readNumber, tableRead, lookOf, q)
       go (some t) q = rw (readNumber, tableRead, lookOf, q)
 
-  pub look-long : (n : ℕ) (v : List ℕ) → n ≡ readNumber b → v ≡ [] → 8 < length k → answer n v ≡ lookOf b k
-  unfolding tableRead holds
+  pub look-long : (n : ℕ) (v : List ℕ) → n ≡ readNumber 4 16 b → v ≡ [] → 8 < length k → answer n v ≡ lookOf b k
+  unfolding readNumber tableRead holds
   look-long n v e f h = look-found n v e (f ∙ sym (absent-value k (tableRead b) (go (readBucket 4 16 b) refl)))
     where
       go : (r : Option (List Entry)) → readBucket 4 16 b ≡ r → holds k (tableRead b) ≡ false
@@ -144,11 +144,11 @@ module _ (b k : List ℕ) where
 
 -- ---- listing
 
-pub list-done : (b : List ℕ) (n : ℕ) (k : List (List ℕ)) → n ≡ readNumber b → k ≡ keysOf (tableRead b) → listed n k ≡ listOf b
+pub list-done : (b : List ℕ) (n : ℕ) (k : List (List ℕ)) → n ≡ readNumber 4 16 b → k ≡ keysOf (tableRead b) → listed n k ≡ listOf b
 unfolding readNumber tableRead listOf
 list-done b n k e f = ap₂ listed e f ∙ go (readBucket 4 16 b) refl
   where
-    go : (r : Option (List Entry)) → readBucket 4 16 b ≡ r → listed (readNumber b) (keysOf (tableRead b)) ≡ listOf b
+    go : (r : Option (List Entry)) → readBucket 4 16 b ≡ r → listed (readNumber 4 16 b) (keysOf (tableRead b)) ≡ listOf b
     go none q = rw (readNumber, tableRead, listOf, q)
     go (some t) q = rw (readNumber, tableRead, listOf, q)
 

@@ -1,6 +1,7 @@
 // Calls on lent bucket bytes: a key is looked up, given a value or removed, and the keys are listed.
 use bucket::Outcome;
 use bucket::read;
+use encoding::encode;
 use entries::Decoded;
 use entries::Key;
 use entries::Value;
@@ -11,7 +12,6 @@ use entries::slots::count_of;
 use entries::slots::find;
 use entries::slots::no_value;
 use entries::slots::store;
-use table::encoding::encode;
 ghost use mathlib.Core.Path.{_≡_};
 ghost use Rattle.entries.specs.Decoded.{keyBytes, valueBytes};
 ghost use Rattle.bucket.specs.Answers.{answer, outcomeNumber};

@@ -1,4 +1,4 @@
--- Words of zeros stand for the start of a script.
+-- Zeros in `counts`, in the words of the reader and in the tally stand for the start of a script.
 use mathlib.Core.Path.{_≡_, refl}
 use mathlib.Core.List.{List}
 use Prim.Native.Nat.{ℕ}

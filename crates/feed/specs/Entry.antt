@@ -1,5 +1,6 @@
 -- What the public calls leave, over all the lent arrays. `reader` has three words: the lines read, the bytes held of the present line, and
--- how many bytes the last part wrote. Words of zeros, with a tally of zeros, stand for the start (`zeros-start` of proofs/Starting.antt).
+-- how many bytes the last call wrote. Zeros in `counts` and in these words, with a tally of zeros, stand for the start (`zeros-start` of
+-- proofs/Starting.antt).
 use mathlib.Core.Path.{_≡_}
 use mathlib.Core.List.{List, _++_}
 use Prim.Native.Nat.{ℕ, _≤_, _<_}

@@ -1,4 +1,4 @@
--- A whole script through the public calls: any calls of `feed`, one after the other, each with an output of any size, and then `finish`.
+-- A whole script through the public calls: any calls of `feed_value`, one after the other, each with an output of any size, and then `finish_value`.
 use mathlib.Core.Path.{_≡_}
 use mathlib.Core.List.{List, [], _++_}
 use Prim.Native.Nat.{ℕ}
@@ -22,7 +22,7 @@ zeros heads slots copies works texts queue loads answers line =
 
 -- ---- the calls
 
--- calls of `feed`, one after the other: the bytes taken so far, and the bytes written
+-- calls of `feed_value`, one after the other: the bytes taken so far, and the bytes written
 pub data Calls (w : Session) : List ℕ → List ℕ → Session → Type 0 where
   begins : Calls w [] [] w
   feeds : {script text : List ℕ} {v : Session} → Calls w script text v → (input out : List ℕ) (u : Session) (out′ : List ℕ) (taken written : ℕ)

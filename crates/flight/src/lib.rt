@@ -12,7 +12,7 @@ ghost use lib.Dec.{eqb};
 ghost use Rattle.server.specs.Views.{chosen};
 ghost use Rattle.blocks.specs.Blocks.{block};
 ghost use Rattle.memory.specs.Layout.{slotRoom, contentSize};
-ghost use Rattle.refusals.specs.Refusals.{isBroadcast, sendCount};
+ghost use Rattle.refusals.specs.Refusals.{sendCount};
 ghost use Rattle.views.specs.Queue.{flight, withoutMessage, messageTo, sentTo, spread, broadcastOf, replyOf, sent};
 ghost use Rattle.flight.specs.Flown.{Flown};
 

@@ -108,7 +108,7 @@ RoleWithin follower number = Unit {0}
 RoleWithin candidate number = 1 ≤ number
 RoleWithin leading number = 1 ≤ number
 
--- what a server forgets when it stops, without its rounds and calls
+-- role, votes and last round of a server, and how many places its rounds and calls have
 pub record FrameWithin (n b : ℕ) (l : Limits) (q number : ℕ) (w : Volatile) : Type 0 where
   pub votes : length (w .votes) ≡ n
   pub rounds : length (w .rounds) ≡ b

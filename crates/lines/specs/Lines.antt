@@ -1,6 +1,6 @@
 -- One line: which bytes of the input are kept for it, and what it leaves at its end in the lent arrays and in the output.
 use mathlib.Core.Path.{_≡_}
-use mathlib.Core.List.{List, [], _++_}
+use mathlib.Core.List.{List, _++_}
 use Prim.Native.Nat.{ℕ, _+_, _≤_, _<_}
 use lib.ListN.{length, take, getD}
 use Rattle.model.specs.Parse.{parse}

@@ -4,18 +4,16 @@ use mathlib.Core.Bool.{Bool, true, false}
 use mathlib.Core.List.{List, []}
 use Prim.Native.Nat.{ℕ, _≤_, _<_}
 use lib.ListN.{replicate}
-use Rattle.entries.specs.Decoded.{tableIn}
-use Rattle.model.specs.Calls as calls
 use Rattle.server.specs.declared.Effect.{Effect}
 use Rattle.server.specs.declared.Message.{Message}
-use Rattle.server.specs.Views.{flagIn, effectIn, wordsIn}
+use Rattle.server.specs.Views.{effectIn}
 use Rattle.memory.specs.declared.Counts.{Counts}
-use Rattle.memory.specs.Layout.{countsAt, messageAt, wordsAt, putCounts, putWords, putTexts}
+use Rattle.memory.specs.Layout.{countsAt, messageAt, putCounts, putWords, putTexts}
 use Rattle.refusals.specs.Refusals.{sendCount, placesLeft}
 use Rattle.moves.specs.declared.Local.{Local}
 use Rattle.moves.specs.declared.Move.{Move}
 use Rattle.moves.specs.Moves.{handledMove, readsTable}
-use Rattle.views.specs.Memory.{Memory, memory, slotOf, standing, tableAt}
+use Rattle.views.specs.Memory.{Memory, memory, slotOf, standing}
 use Rattle.views.specs.Changes.{answered}
 use Rattle.views.specs.Queue.{flight, withoutMessage, sent}
 use Rattle.steps.specs.Stored.{MovedServer}

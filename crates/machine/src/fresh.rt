@@ -3,7 +3,6 @@ use memory::Counts;
 use records::counters::store_counts;
 ghost use mathlib.Core.Path.{_≡_};
 ghost use lib.ListN.{length, replicate};
-ghost use Rattle.memory.specs.Layout.{putCounts};
 ghost use Rattle.runs.specs.Runs.{freshCounts};
 ghost use Rattle.machine.specs.Contracts.{Created};
 

@@ -7,10 +7,10 @@ use lib.Dec.{eqb}
 use lib.ListN.{replicate}
 use Rattle.hash.specs.Fnv.{fnv, bucketOf}
 use Rattle.entries.specs.Entries.{Entry, entry, valueOf}
-use Rattle.table.specs.Form.{bucketBytes, readBucket, sameBytes}
+use Rattle.table.specs.Form.{bucketBytes, readNumber, sameBytes}
 use Rattle.model.specs.Measures.{majority, maxEntries, maxValueBytes}
 use Rattle.model.specs.Cluster.{Version, version, copyAt, Server, ackVote, replicaWrite, kindNumber, Message, freshServer}
-use Rattle.model.specs.Lines.{present, isLeading}
+use Rattle.model.specs.Lines.{isLeading}
 use Rattle.model.specs.Leader.{Reaction, elect, handle}
 use Rattle.model.specs.Compute.{computing}
 
@@ -67,7 +67,7 @@ rows =
     -- P6: empty table: 113 zeros
     ∷ sameBytes (bucketBytes maxEntries maxValueBytes []) (replicate 113 0)
     -- P7: P5 with last byte 1: refused 13
-    ∷ not (present (readBucket maxEntries maxValueBytes (front5 ++ (replicate 104 0 ++ (1 ∷ [])))))
+    ∷ eqb (readNumber maxEntries maxValueBytes (front5 ++ (replicate 104 0 ++ (1 ∷ [])))) 13
     -- P8: vote 5, stored (5, 3), write (5, 2): acknowledged, (5, 3) stays, with its table
     ∷ every
     (eqb (firstKind (written 5 (version 5 3) (version 5 2) .sends)) 5
@@ -82,5 +82,5 @@ rows =
     ∷ []
 
 pub rows-hold : every rows ≡ true
-unfolding computing every firstKind rows
+unfolding computing readNumber every firstKind rows
 rows-hold = refl

@@ -1,4 +1,4 @@
-// What stands where there is no version, round or call, and a choice of numbers.
+// What stands where there is no version, round or call.
 use server::Call;
 use server::Round;
 use server::Version;

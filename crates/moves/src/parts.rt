@@ -9,7 +9,7 @@ use server::Round;
 use server::Version;
 use server::votes::ceased;
 ghost use mathlib.Core.Path.{_≡_};
-ghost use Rattle.rounds.specs.Rounds.{pickVersion, noVersion};
+ghost use Rattle.rounds.specs.Rounds.{noVersion};
 ghost use Rattle.moves.specs.Moves.{withHead, withRound, withCall, sending, quiet, ceasing};
 
 // The same local with another head.

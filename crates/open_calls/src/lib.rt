@@ -14,7 +14,7 @@ ghost use Rattle.model.specs.Calls as calls;
 ghost use Rattle.model.specs.Cluster.{Server, copyAt};
 ghost use Rattle.model.specs.Leader.{oneMore, ended, nextVersion};
 ghost use Rattle.server.specs.Views.{storedIn, versionIn, callIn, takenIn, answerIn};
-ghost use Rattle.open_calls.specs.Calls.{sentBy, endedAs, callWith, oneMoreOf, endedOf, nextVersionOf};
+ghost use Rattle.open_calls.specs.Calls.{sentBy, endedAs, oneMoreOf, endedOf, nextVersionOf};
 
 // Whether the own write was sent, after a round that is the own write or not.
 fn sent_by(own: bool, sent: u32) -> u32

@@ -1,14 +1,14 @@
 -- What each line would do, judged before anything changes. The conditions stand in document 01's order; the laws in crates/runs
 -- tie each plan to the definitions of crates/model/specs/Lines.antt.
 use mathlib.Core.Bool.{Bool, true, false}
-use Prim.Native.Nat.{ℕ, _+_, _-_, _%_, _^_, min}
+use Prim.Native.Nat.{ℕ, _+_, _%_, _^_, min}
 use lib.Dec.{eqb, leb, ltb}
 use lib.ListN.{replicate}
 use Rattle.hash.specs.Fnv.{bucketOf}
 use Rattle.entries.specs.declared.Key.{Key}
 use Rattle.entries.specs.declared.Value.{Value}
 use Rattle.entries.specs.Decoded.{keyBytes}
-use Rattle.model.specs.Measures.{maxMessages, maxAccepted, maxElection, maxKeyBytes, maxValueBytes}
+use Rattle.model.specs.Measures.{maxElection, maxKeyBytes, maxValueBytes}
 use Rattle.model.specs.Calls as calls
 use Rattle.server.specs.declared.Head.{Head}
 use Rattle.server.specs.declared.Message.{Message}
@@ -53,9 +53,8 @@ noMove = quiet (local noHead noVersion noRound noCall)
 abbrev pub refusedPlan : ℕ → Effect → Plan
 refusedPlan r f = record { refusal = r; loses = false; takes = false; words = noWords; step = noStep; next = noMove; effect = f }
 
--- ---- refusals that several kinds of lines share
+-- ---- 12: more to send than places left
 
--- 12: more to send than places left
 unfoldable pub roomy : Counts → Plan → Plan
 roomy c p = elim (placesLeft c (p .step .removes) (p .next .sends)) [ true ↦ p | false ↦ refusedPlan 12 (p .effect) ]
 
@@ -122,7 +121,7 @@ callStep c s b =
 abbrev pub takePlan : Step → Words → Move → Effect → Plan
 takePlan x w v f = record { refusal = 0; loses = false; takes = true; words = w; step = x; next = v; effect = f }
 
--- 8 and 9
+-- 5, 6, 8 and 9, or 0
 unfoldable pub callRefusal : Counts → Local → ℕ
 callRefusal c l =
     elim (eqb (serverRefusal c (l .head)) 0) [

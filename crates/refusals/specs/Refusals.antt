@@ -7,7 +7,7 @@ use Rattle.server.specs.declared.Head.{Head}
 use Rattle.server.specs.Views.{flagIn, chosen}
 use Rattle.memory.specs.declared.Counts.{Counts}
 
--- 3: no such server, or no such bucket
+-- there are such a server and such a bucket; 3 is given where this is false
 unfoldable pub inside : Counts → ℕ → ℕ → Bool
 inside c s b = elim (leb (c .servers) s) [ true ↦ false | false ↦ elim (leb (c .buckets) b) [ true ↦ false | false ↦ true ] ]
 

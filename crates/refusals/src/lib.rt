@@ -1,4 +1,5 @@
-// Refusals 3, 5, 6, 7 and 12, which bear on several kinds of lines: each from the counts of a cluster alone, or with a server's head.
+// Refusals 3, 5, 6, 7 and 12, which bear on several kinds of lines: from the counts of a cluster, 6 with a server's head, 12 with the kind of
+// message that is sent.
 use memory::Counts;
 use server::Head;
 use server::numbers::chosen;

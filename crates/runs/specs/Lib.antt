@@ -1,3 +1,3 @@
--- What the contracts of the machine cite.
+-- What the contracts of `runs` and of the machine cite.
 pub mod Runs
 pub mod Meaning

@@ -13,10 +13,10 @@ use Rattle.entries.specs.declared.Key.{Key}
 use Rattle.entries.specs.declared.Value.{Value}
 use Rattle.model.specs.Calls as calls
 use Rattle.server.specs.declared.Words.{Words}
-use Rattle.server.specs.Views.{flagIn, effectIn, wordsIn}
+use Rattle.server.specs.Views.{effectIn, wordsIn}
 use Rattle.server.specs.declared.Effect.{Effect}
 use Rattle.memory.specs.declared.Counts.{Counts}
-use Rattle.memory.specs.Layout.{countsAt, messageAt, wordsAt, putCounts, putWords, putTexts}
+use Rattle.memory.specs.Layout.{countsAt, messageAt, putCounts, putWords, putTexts}
 use Rattle.refusals.specs.Refusals.{sendCount, messageRefusal}
 use Rattle.moves.specs.declared.Move.{Move}
 use Rattle.moves.specs.Moves.{readsTable}

@@ -1,4 +1,5 @@
-// One line of a script on the lent arrays. What it leaves in them is said in specs/Runs.antt, and what that stands for in specs/Meaning.antt.
+// What a line comes to: its report, and the tally after it. What a line leaves in the lent arrays is said in specs/Runs.antt, and what that
+// stands for in specs/Meaning.antt.
 use server::Effect;
 use std::num::wrapping_add_u32;
 ghost use mathlib.Core.Path.{_≡_};

@@ -12,7 +12,7 @@ pub struct Version {
     pub counter: u32,
 }
 
-// A server without its copies, rounds and calls. Stored: number, vote, leader. Forgotten at a stop: role, last (the number of the last round), votes.
+// A server without its copies, rounds and calls. Stored: number, vote, leader. Not stored: role, last (the number of the last round), votes.
 // Votes, and the marks of a round, are words, as the memory keeps them: a load or a store converts nothing.
 pub struct Head {
     pub number: u32,

@@ -1,8 +1,8 @@
 // Contents of buckets: what a move makes of a slot's working content and of its copy's content.
+use encoding::encode;
 use entries::Decoded;
 use memory::CONTENT;
 use messages::contents::copy_content;
-use table::encoding::encode;
 ghost use mathlib.Core.Path.{_≡_};
 ghost use Prim.Native.Nat.{_<_, _*_};
 ghost use lib.ListN.{length};

@@ -98,3 +98,7 @@ readBucket most long b =
       | true ↦
           elim (sameBytes b (bucketBytes most long t)) [ false ↦ none | true ↦ some t ]
     ]
+
+-- the number that reading gives: 13 where the bytes are not taken
+unfoldable pub readNumber : ℕ → ℕ → List ℕ → ℕ
+readNumber most long b = elim (readBucket most long b) [ none ↦ 13 | some t ↦ 0 ]

@@ -1,0 +1,69 @@
+-- `put_body` meets its contract: entry by entry.
+use borrow.Author.Needs.{needs}
+use Prim.Native.Nat.{_-_}
+use Rattle.table.proofs.Filling.{Bodying, bodying-starts, bodying-goes-on, bodying-ends}
+use Rattle.entries.proofs.Views.{table-whole}
+use native.Mathlib.Omega.{arith}
+use Rattle.encoding.proofs.put_body.Statement.{statement}
+use Rattle.encoding.proofs.put_body.Tie as tie
+
+abbrev Inv-loop : tie.InvT-loop
+Inv-loop out₀ n slots at₀ i₀ out at i = Bodying out₀ n slots out at i
+
+abbrev μ-loop : tie.MeasureT-loop
+μ-loop out₀ n slots at₀ i₀ out at i = n - i
+
+count-of-requires : tie.Need-count-of-requires Inv-loop μ-loop
+count-of-requires c κs = search needs
+
+mul-at : tie.Need-mul-at Inv-loop μ-loop
+mul-at c = search needs
+
+add-at : tie.Need-add-at Inv-loop μ-loop
+add-at c = search needs
+
+loop-holds : tie.Need-loop-holds Inv-loop μ-loop
+loop-holds c = bodying-starts _ _ _ (c .before .count-of .ensures .low) (c .before .count-of .ensures .four) (c .before .before .before .pre)
+
+mul-s : tie.Need-mul-s Inv-loop μ-loop
+mul-s c = search needs
+
+array-copy-out-s : tie.Need-array-copy-out-s Inv-loop μ-loop
+array-copy-out-s c = search needs
+
+put-entry-requires : tie.Need-put-entry-requires Inv-loop μ-loop
+put-entry-requires c κs = omega arith
+
+add-i : tie.Need-add-i Inv-loop μ-loop
+add-i c = search needs
+
+loop-less : tie.Need-loop-less Inv-loop μ-loop
+loop-less c = search needs
+
+loop-again : tie.Need-loop-again Inv-loop μ-loop
+loop-again c = bodying-goes-on (c .before .before .before .before .before .before .loop .inv) (c .before .before .put-entry .last .0) (c .before .before .before .before .before .loop-test .taken) (c .before .before .put-entry .ensures)
+
+same-length : tie.Need-same-length Inv-loop μ-loop
+same-length c = search needs
+
+returns : tie.Need-returns Inv-loop μ-loop
+returns c = rw (table-whole (c .before .before .before .before .before .args .t) (c .before .before .before .count-of .ensures)) at (bodying-ends (c .before .loop .inv) (c .loop-test .left))
+
+pub put-body-spec : {M : Type 1} → statement M
+put-body-spec =
+    tie.close
+    (tie.spec
+    Inv-loop
+    μ-loop
+    count-of-requires
+    mul-at
+    add-at
+    loop-holds
+    mul-s
+    array-copy-out-s
+    put-entry-requires
+    add-i
+    loop-less
+    loop-again
+    same-length
+    returns)

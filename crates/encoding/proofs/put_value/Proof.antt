@@ -1,0 +1,65 @@
+-- `put_value` meets its contract: byte by byte.
+use Prim.Native.Nat.{_-_}
+use lib.Seq.{length-take-le, getD-take}
+use Rattle.entries.proofs.Views.{value-whole, value-within}
+use lib.ListN.{take}
+use borrow.Author.Needs.{needs}
+use Rattle.table.proofs.Filling.{Putting, putting-starts, putting-goes-on, putting-ends}
+use Rattle.encoding.proofs.put_value.Statement.{statement}
+use Rattle.encoding.proofs.put_value.Tie as tie
+
+abbrev Inv-loop : tie.InvT-loop
+Inv-loop out₀ at n b i₀ out i = Putting out₀ at (take n b) n out i
+
+abbrev μ-loop : tie.MeasureT-loop
+μ-loop out₀ at n b i₀ out i = n - i
+
+value-length-requires : tie.Need-value-length-requires Inv-loop μ-loop
+value-length-requires c κs = search needs
+
+loop-holds : tie.Need-loop-holds Inv-loop μ-loop
+loop-holds c =
+    let a = c .before .before .before .args in
+    let n = c .before .value-length in
+    putting-starts (a .out .now) (a .at) (take (n .result) (a .v .bytes)) (length-take-le (n .result) (a .v .bytes) (value-within (a .v) (n .ensures))) (search needs)
+
+array-read-out : tie.Need-array-read-out Inv-loop μ-loop
+array-read-out c = search needs
+
+add-out : tie.Need-add-out Inv-loop μ-loop
+add-out c = search needs
+
+slice-write-out : tie.Need-slice-write-out Inv-loop μ-loop
+slice-write-out c = search needs
+
+add-i : tie.Need-add-i Inv-loop μ-loop
+add-i c = search needs
+
+loop-less : tie.Need-loop-less Inv-loop μ-loop
+loop-less c = search needs
+
+loop-again : tie.Need-loop-again Inv-loop μ-loop
+loop-again c = putting-goes-on (c .before .loop .inv) (c .loop-test .taken) (getD-take _ _ _ 0 (c .loop-test .taken))
+
+same-length : tie.Need-same-length Inv-loop μ-loop
+same-length c = search needs
+
+returns : tie.Need-returns Inv-loop μ-loop
+returns c = rw (value-whole (c .before .before .before .before .before .args .v) (c .before .before .before .value-length .ensures)) at (putting-ends (c .before .loop .inv) (c .loop-test .left))
+
+pub put-value-spec : {M : Type 1} → statement M
+put-value-spec =
+    tie.close
+    (tie.spec
+    Inv-loop
+    μ-loop
+    value-length-requires
+    loop-holds
+    array-read-out
+    add-out
+    slice-write-out
+    add-i
+    loop-less
+    loop-again
+    same-length
+    returns)
