@@ -3,12 +3,11 @@ use mathlib.Core.Path.{_≡_, refl, sym, _∙_, subst}
 use mathlib.Core.List.{List}
 use mathlib.Core.Bool.{false}
 use mathlib.Core.Option.{Option, none, some}
-use Prim.Native.Nat.{ℕ, suc, _*_, _<_}
+use Prim.Native.Nat.{ℕ, suc, _<_}
 use native.Mathlib.Omega.{arith}
 use lib.ListN.{set, length-set}
 use lib.Seq.{getD-set-same, getD-set-other}
 use Rattle.entries.specs.Entries.{Entry}
-use Rattle.model.specs.Measures.{majority}
 use Rattle.model.specs.Calls.{Words}
 use Rattle.model.specs.Cluster.{copyAt, Copy, leading, Round, Call, roundAt, callAt, Server}
 use Rattle.model.specs.Leader.{beginCall}
@@ -31,7 +30,7 @@ rest-of n log p e b copy none (some c) i h = absurd h
 rest-of n log p e b copy (some r) none i h = absurd h
 rest-of n log p e b copy (some r) (some c) i h = let z : _≡_ {A = ℕ} 0 1 = cc in absurd (omega arith)
 
-module _ (n buckets now taken p b : ℕ) (half : n < 2 * majority n) {log : Log} (ok : LogOk n now taken log) {s : Server} (agrees : ServerOk n buckets log p s)
+module _ (n buckets now taken p b : ℕ) {log : Log} (ok : LogOk n now taken log) {s : Server} (agrees : ServerOk n buckets log p s)
     (leads : s .volatile .role ≡ leading) (inside : b < buckets) (free : callAt (s .volatile) b ≡ none) (i : ℕ) (next : i ≡ suc taken) (words : Words) where
   abbrev pub taking : Begun
   taking = record { number = i; server = p; bucket = b; words = words; line = now }
@@ -104,7 +103,7 @@ module _ (n buckets now taken p b : ℕ) (half : n < 2 * majority n) {log : Log}
   unfolding beginCall
   begin-kept =
       let w = s .volatile in
-      read-kept n buckets now i p b half (subst (λ k. LogOk n now k takenLog) (sym next) (begun-added ok taking next refl)) taken-ready
+      read-kept n buckets now i p b (subst (λ k. LogOk n now k takenLog) (sym next) (begun-added ok taking next refl)) taken-ready
       (λ e. chosen-grows (adds-begun log p taking .grows)
       (rest-of n log p (s .stored .number) b (copyAt (s .stored) b) (roundAt w b) (callAt w b) free (leader-of agrees leads .1 b) e))
       refl fresh-unwritten

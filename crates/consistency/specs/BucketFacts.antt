@@ -3,16 +3,15 @@ use mathlib.Core.Path.{_≡_, refl, sym, _∙_, ap}
 use mathlib.Core.Logic.{_⊎_, inl, inr}
 use mathlib.Core.List.{List, Memᴰ·map}
 use mathlib.Core.Option.{Option, some}
-use Prim.Native.Nat.{ℕ, _*_, _≤_, _<_}
+use Prim.Native.Nat.{ℕ, _≤_, _<_}
 use native.Mathlib.Omega.{arith}
 use Rattle.entries.specs.Entries.{Entry}
-use Rattle.model.specs.Measures.{majority}
 use Rattle.model.specs.Calls.{Result, done, answers, writes, effect}
 use Rattle.model.specs.Cluster.{Version}
 use Rattle.history.specs.Members.{_∈_, clash}
 use Rattle.history.specs.Version.{_≼_}
 use Rattle.history.specs.History.{Quorums, Write, Accept, Report, Check, End, answered, Call, History, Holds, Chosen, Makes, Origin, Succeeds, ByWrite, ByCheck, Facts}
-use Rattle.history.specs.Quorum.{majority-quorums}
+use Rattle.consistency.specs.Majorities.{quorums}
 use Rattle.consistency.specs.Log.{Log}
 use Rattle.consistency.specs.Log
 use Rattle.consistency.specs.Claims
@@ -54,10 +53,10 @@ module _ (log : Log) (b : ℕ) where
   holds-whole {x} {t} {k} j (Holds.later w m e f) =
       each-write (λ y. y .at ≡ x → y .table ≡ t → Claims.Holds log k x t) (λ y l i. Claims.Holds.later y l (i ∙ sym j)) w m e f
 
-  chosen-part : {n : ℕ} (half : n < 2 * majority n) {x : Version} {k : ℕ} → k ≡ b → Claims.Chosen n log k x
-      → Chosen (majority-quorums n (majority n) half) (historyOf log b) x
-  chosen-part half j (Claims.Chosen.first e) = Chosen.first e
-  chosen-part half j (Claims.Chosen.quorum l q f) = Chosen.quorum l q (λ p i. part-has (λ a. a .bucket) acceptOf b (log .accepts) (f p i) j)
+  chosen-part : {n : ℕ} {x : Version} {k : ℕ} → k ≡ b → Claims.Chosen n log k x
+      → Chosen (quorums n) (historyOf log b) x
+  chosen-part j (Claims.Chosen.first e) = Chosen.first e
+  chosen-part j (Claims.Chosen.quorum l q f) = Chosen.quorum l q (λ p i. part-has (λ a. a .bucket) acceptOf b (log .accepts) (f p i) j)
 
   makes-part : {w : Log.Write} {t : List Entry} {o : Option ℕ} → w .bucket ≡ b → Invariant.Makes log w t o → Makes (historyOf log b) t (w .table) o
   unfolding left
@@ -84,9 +83,9 @@ own-by {t = t} k (Invariant.Makes.changed x m j l e) f =
 
 -- ---- the facts
 
-module _ (n now taken : ℕ) (half : n < 2 * majority n) {log : Log} (ok : LogOk n now taken log) (b : ℕ) where
+module _ (n now taken : ℕ) {log : Log} (ok : LogOk n now taken log) (b : ℕ) where
   abbrev Q : Quorums
-  Q = majority-quorums n (majority n) half
+  Q = quorums n
 
   abbrev h : History plain
   h = historyOf log b
@@ -169,7 +168,7 @@ module _ (n now taken : ℕ) (half : n < 2 * majority n) {log : Log} (ok : LogOk
           write = writeOf w;
           made = has-write log b k here;
           own = e;
-          chosen = chosen-part log b half here c;
+          chosen = chosen-part log b here c;
           before = l;
           right = λ t held. let one : t ≡ o .table = one-table ok (holds-whole log b here held) (o .holds) in cc (o .makes);
         }
@@ -185,7 +184,7 @@ module _ (n now taken : ℕ) (half : n < 2 * majority n) {log : Log} (ok : LogOk
           made = part-has (λ d. d .bucket) checkOf b (log .checks) k here;
           own = e;
           confirmed = ok .calls .confirmed c k .0;
-          chosen = chosen-part log b half here v;
+          chosen = chosen-part log b here v;
           after = a;
           before = l;
           right = λ t held. ap said (f t (holds-whole log b here held));
@@ -209,7 +208,7 @@ module _ (n now taken : ℕ) (half : n < 2 * majority n) {log : Log} (ok : LogOk
         inr (by-check l (d ∙ a) (omega arith) v (sym j ∙ ap (λ y. y .bucket) same ∙ i) (omega (arith, ap (λ y. y .line) same))
         (λ t held. cc (f t held)) (rw a at u))
 
-  pub facts-of : Facts (majority-quorums n (majority n) half) (historyOf log b)
+  pub facts-of : Facts (quorums n) (historyOf log b)
   facts-of =
       record {
         unique = part-two (λ w. w .bucket) writeOf b (log .writes) _ (λ w x m k i j e.

@@ -5,7 +5,7 @@ use mathlib.Core.Logic.{_≢_}
 use mathlib.Core.List.{List, []}
 use mathlib.Core.Bool.{Bool, true, false}
 use mathlib.Core.Option.{Option, none, some}
-use Prim.Native.Nat.{ℕ, _+_, _≤_, _*_, _<_}
+use Prim.Native.Nat.{ℕ, _+_, _≤_, _<_}
 use native.Mathlib.Omega.{arith}
 use native.Mathlib.Numerals.{add-one}
 use native.Mathlib.Decide.{ℕ-discrete}
@@ -44,21 +44,21 @@ use Rattle.consistency.specs.Finish.{finish-kept}
 abbrev phase-at : (n : ℕ) (log : Log) (e b : ℕ) (x : Version) (copy : Copy) (r : Round) (c : Call) {u : Purpose} → r .purpose ≡ u → PhaseOk n log e b x copy r c (r .purpose) → PhaseOk n log e b x copy r c u
 phase-at n log e b x copy r c i h = subst (PhaseOk n log e b x copy r c) i h
 
-module _ (n buckets now taken p b : ℕ) (half : n < 2 * majority n) where
+module _ (n buckets now taken p b : ℕ) where
   -- ---- the messages of a round
 
   read-sent : {log : Log} (ok : LogOk n now taken log) {c : Call} {s : Server} (h : Ready n buckets log p b c s) (u : Purpose) (x : Version)
       → Claims.writing u ≡ false
-      → Sent buckets p log (readLog half ok h u x) (broadcast n p b (s .stored .number) (s .volatile .lastRound + 1) (requestBody reading))
+      → Sent buckets p log (readLog ok h u x) (broadcast n p b (s .stored .number) (s .volatile .lastRound + 1) (requestBody reading))
   unfolding requestBody
   read-sent ok {c} {s} h u x kind =
-      let a = read-adds half ok h u x in
+      let a = read-adds ok h u x in
       record {
         adds = a;
         begins = refl;
         ends = refl;
         sends =
-            each-of-broadcast (MessageOk buckets (readLog half ok h u x)) n p b (s .stored .number) (s .volatile .lastRound + 1) _ (λ q d.
+            each-of-broadcast (MessageOk buckets (readLog ok h u x)) n p b (s .stored .number) (s .volatile .lastRound + 1) _ (λ q d.
             record {
               apart = λ i. d (sym i);
               positive = h .leads .positive;
@@ -73,24 +73,24 @@ module _ (n buckets now taken p b : ℕ) (half : n < 2 * majority n) where
   write-sent : {log : Log} (ok : LogOk n now taken log) {c : Call} {s : Server} (h : Ready n buckets log p b c s)
       {v u : Version} {t : List Entry} {owner : Option ℕ} (new : NewWrite n now log b c s v u t owner) (why : Purpose) (other : why ≡ check → ⊥)
       → Claims.writing why ≡ true
-      → Sent buckets p log (writeLog half ok h new why other)
+      → Sent buckets p log (writeLog ok h new why other)
       (broadcast n p b (s .stored .number) (s .volatile .lastRound + 1) (requestBody (writing v t)))
   unfolding requestBody
   write-sent ok {c} {s} h {v} {u} {t} {owner} new why other kind =
-      let a = write-adds half ok h new why other in
+      let a = write-adds ok h new why other in
       record {
         adds = a;
         begins = refl;
         ends = refl;
         sends =
-            each-of-broadcast (MessageOk buckets (writeLog half ok h new why other)) n p b (s .stored .number) (s .volatile .lastRound + 1) _ (λ q d.
+            each-of-broadcast (MessageOk buckets (writeLog ok h new why other)) n p b (s .stored .number) (s .volatile .lastRound + 1) _ (λ q d.
             record {
               apart = λ i. d (sym i);
               positive = h .leads .positive;
               claim = (
                 won-grows (a .grows) (h .leads .won),
                 new .election,
-                wrote half ok h new why other,
+                wrote ok h new why other,
                 first-in,
                 refl,
                 refl,
@@ -150,18 +150,18 @@ module _ (n buckets now taken p b : ℕ) (half : n < 2 * majority n) where
     new = own-write-new ok h t made
 
     abbrev ownLog : Log
-    ownLog = writeLog half ok (h .ready) new ownWrite own-not-check
+    ownLog = writeLog ok (h .ready) new ownWrite own-not-check
 
     own-marks : MarksAccepted ownLog b (nextVersion b s) (newRound n p b ownWrite s .marks)
-    own-marks = write-marks half ok (h .ready) new ownWrite own-not-check
+    own-marks = write-marks ok (h .ready) new ownWrite own-not-check
 
     own-done : closes n (newRound n p b ownWrite s) ≡ true → Kept n buckets now taken p ownLog (finish b done (opening n p b ownWrite (writing (nextVersion b s) t) s))
     unfolding isOwn
     own-done shut =
         let chosen : Chosen n ownLog b (nextVersion b s) = closed-chosen n (newRound n p b ownWrite s) (new-marks n p b ownWrite s) shut b _ own-marks in
-        finish-kept (write-facts half ok (h .ready) new ownWrite own-not-check)
-        (write-ready half ok (h .ready) new ownWrite own-not-check) done
-        (λ e. rw (write-copy half ok (h .ready) new ownWrite own-not-check) chosen)
+        finish-kept (write-facts ok (h .ready) new ownWrite own-not-check)
+        (write-ready ok (h .ready) new ownWrite own-not-check) done
+        (λ e. rw (write-copy ok (h .ready) new ownWrite own-not-check) chosen)
         (by-write refl _ first-in refl chosen)
 
     pub own-write-kept : Kept n buckets now taken p log (openRound n p b ownWrite (writing (nextVersion b s) t) (finish b done) s)
@@ -169,8 +169,8 @@ module _ (n buckets now taken p b : ℕ) (half : n < 2 * majority n) where
     own-write-kept =
         open-kept b s ownWrite (writing (nextVersion b s) t) (finish b done)
         (write-sent ok (h .ready) new ownWrite own-not-check refl)
-        (write-facts half ok (h .ready) new ownWrite own-not-check)
-        (write-rests half ok (h .ready) new ownWrite own-not-check
+        (write-facts ok (h .ready) new ownWrite own-not-check)
+        (write-rests ok (h .ready) new ownWrite own-not-check
         (refl, new .election, refl, _, first-in, refl, refl, refl, own-marks))
         own-done
 
@@ -265,25 +265,25 @@ module _ (n buckets now taken p b : ℕ) (half : n < 2 * majority n) where
     abbrev seen : Version
     seen = copyAt (s .stored) b .version
 
-    looks : Looks half ok (h .ready) check seen
+    looks : Looks ok (h .ready) check seen
     looks i =
         let l = h .ready .leads in
         let y = held-write (l .stored .copies b .0) (rw (h .recovered) (l .positive)) in
         (λ w m j o. l .newest b .recovered (h .recovered) w m j (o ∙ h .recovered), h .recovered, y .0, y .1, y .2, y .3)
 
     abbrev seenLog : Log
-    seenLog = readLog half ok (h .ready) check seen
+    seenLog = readLog ok (h .ready) check seen
 
     check-rests : RoundOk n seenLog p (s .stored .number) b (copyAt (s .stored) b) (newRound n p b check s) (more false c)
-    check-rests = check-ok half ok (h .ready) (h .recovered) (h .unsent) (h .unwritten) (h .chosen)
+    check-rests = check-ok ok (h .ready) (h .recovered) (h .unsent) (h .unwritten) (h .chosen)
 
     check-settled : Settled seenLog (more false c) (opening n p b check reading s)
     unfolding opening accepting isOwn
     check-settled =
         record {
-          ready = read-ready half ok (h .ready) check seen refl;
+          ready = read-ready ok (h .ready) check seen refl;
           recovered = h .recovered;
-          chosen = chosen-grows (read-adds half ok (h .ready) check seen .grows) (h .chosen);
+          chosen = chosen-grows (read-adds ok (h .ready) check seen .grows) (h .chosen);
           unsent = h .unsent;
           unwritten = h .unwritten;
         }
@@ -291,7 +291,7 @@ module _ (n buckets now taken p b : ℕ) (half : n < 2 * majority n) where
     check-answers : closes n (newRound n p b check s) ≡ true → Kept n buckets now taken p seenLog (afterRead n p b (opening n p b check reading s))
     unfolding opening accepting newRound
     check-answers shut =
-        after-read-kept (read-facts half ok (h .ready) check seen looks) check-settled
+        after-read-kept (read-facts ok (h .ready) check seen looks) check-settled
         (confirmed-by check-rests refl shut)
 
     pub checking-kept : Kept n buckets now taken p log (checking n p b s)
@@ -299,9 +299,9 @@ module _ (n buckets now taken p b : ℕ) (half : n < 2 * majority n) where
     checking-kept =
         open-kept b s check reading (afterRead n p b)
         (read-sent ok (h .ready) check seen refl)
-        (read-facts half ok (h .ready) check seen looks)
-        (round-agrees (read-ready half ok (h .ready) check seen refl) (newRound n p b check s)
-        (read-round half ok (h .ready) check seen) check-rests)
+        (read-facts ok (h .ready) check seen looks)
+        (round-agrees (read-ready ok (h .ready) check seen refl) (newRound n p b check s)
+        (read-round ok (h .ready) check seen) check-rests)
         check-answers
 
   -- ---- recovery
@@ -352,10 +352,10 @@ module _ (n buckets now taken p b : ℕ) (half : n < 2 * majority n) where
         }
 
     abbrev recoveryLog : Log
-    recoveryLog = writeLog half ok (h .ready) recovery-new recoveryWrite recovery-not-check
+    recoveryLog = writeLog ok (h .ready) recovery-new recoveryWrite recovery-not-check
 
     recovery-marks : MarksAccepted recoveryLog b (version (s .stored .number) 1) (newRound n p b recoveryWrite s .marks)
-    recovery-marks = write-marks half ok (h .ready) recovery-new recoveryWrite recovery-not-check
+    recovery-marks = write-marks ok (h .ready) recovery-new recoveryWrite recovery-not-check
 
     recovery-unwritten : Unwritten recoveryLog (c .number)
     recovery-unwritten = each-cons {P = λ w. w .call ≡ some (c .number) → ⊥} (λ e. let z : _≡_ {A = ℕ} 0 1 = cc in omega arith) (h .unwritten)
@@ -363,11 +363,11 @@ module _ (n buckets now taken p b : ℕ) (half : n < 2 * majority n) where
     recovery-checks : closes n (newRound n p b recoveryWrite s) ≡ true → Kept n buckets now taken p recoveryLog (checking n p b (opening n p b recoveryWrite (writing (version (s .stored .number) 1) t) s))
     unfolding isOwn
     recovery-checks shut =
-        let copy = write-copy half ok (h .ready) recovery-new recoveryWrite recovery-not-check in
-        let number = write-number half ok (h .ready) recovery-new recoveryWrite recovery-not-check in
-        checking-kept (write-facts half ok (h .ready) recovery-new recoveryWrite recovery-not-check)
+        let copy = write-copy ok (h .ready) recovery-new recoveryWrite recovery-not-check in
+        let number = write-number ok (h .ready) recovery-new recoveryWrite recovery-not-check in
+        checking-kept (write-facts ok (h .ready) recovery-new recoveryWrite recovery-not-check)
         (record {
-          ready = write-ready half ok (h .ready) recovery-new recoveryWrite recovery-not-check;
+          ready = write-ready ok (h .ready) recovery-new recoveryWrite recovery-not-check;
           recovered = rw (copy, number);
           chosen = rw copy (closed-chosen n (newRound n p b recoveryWrite s) (new-marks n p b recoveryWrite s) shut b _ recovery-marks);
           unsent = h .unsent;
@@ -379,8 +379,8 @@ module _ (n buckets now taken p b : ℕ) (half : n < 2 * majority n) where
     recovering-kept =
         open-kept b s recoveryWrite (writing (version (s .stored .number) 1) t) (checking n p b)
         (write-sent ok (h .ready) recovery-new recoveryWrite recovery-not-check refl)
-        (write-facts half ok (h .ready) recovery-new recoveryWrite recovery-not-check)
-        (write-rests half ok (h .ready) recovery-new recoveryWrite recovery-not-check
+        (write-facts ok (h .ready) recovery-new recoveryWrite recovery-not-check)
+        (write-rests ok (h .ready) recovery-new recoveryWrite recovery-not-check
         (refl, refl, h .unsent, recovery-unwritten, recovery-marks))
         recovery-checks
 
@@ -405,18 +405,18 @@ module _ (n buckets now taken p b : ℕ) (half : n < 2 * majority n) where
 
   module _ {log : Log} (ok : LogOk n now taken log) {c : Call} {s : Server} (h : Unsettled log c s) where
     abbrev gatherLog : Log
-    gatherLog = readLog half ok (h .ready) recoveryRead (version 0 0)
+    gatherLog = readLog ok (h .ready) recoveryRead (version 0 0)
 
     recovery-read-rests : RoundOk n gatherLog p (s .stored .number) b (copyAt (s .stored) b) (newRound n p b recoveryRead s) (more false c)
-    recovery-read-rests = recovery-read-ok half ok (h .ready) (h .old) (h .unsent) (h .unwritten) (version 0 0)
+    recovery-read-rests = recovery-read-ok ok (h .ready) (h .old) (h .unsent) (h .unwritten) (version 0 0)
 
     recovery-read-recovers : closes n (newRound n p b recoveryRead s) ≡ true
         → Kept n buckets now taken p gatherLog (recovering n p b (copyAt (s .stored) b .table) (opening n p b recoveryRead reading s))
     unfolding opening accepting newRound reportTo isOwn
     recovery-read-recovers shut =
-        recovering-kept (read-facts half ok (h .ready) recoveryRead (version 0 0) (λ i. absurd (reading-not-check i)))
+        recovering-kept (read-facts ok (h .ready) recoveryRead (version 0 0) (λ i. absurd (reading-not-check i)))
         (record {
-          ready = read-ready half ok (h .ready) recoveryRead (version 0 0) refl;
+          ready = read-ready ok (h .ready) recoveryRead (version 0 0) refl;
           old = h .old;
           unsent = h .unsent;
           unwritten = h .unwritten;
@@ -428,9 +428,9 @@ module _ (n buckets now taken p b : ℕ) (half : n < 2 * majority n) where
     recovery-read-kept =
         open-kept b s recoveryRead reading (recovering n p b (copyAt (s .stored) b .table))
         (read-sent ok (h .ready) recoveryRead (version 0 0) refl)
-        (read-facts half ok (h .ready) recoveryRead (version 0 0) (λ i. absurd (reading-not-check i)))
-        (round-agrees (read-ready half ok (h .ready) recoveryRead (version 0 0) refl) (newRound n p b recoveryRead s)
-        (read-round half ok (h .ready) recoveryRead (version 0 0)) recovery-read-rests)
+        (read-facts ok (h .ready) recoveryRead (version 0 0) (λ i. absurd (reading-not-check i)))
+        (round-agrees (read-ready ok (h .ready) recoveryRead (version 0 0) refl) (newRound n p b recoveryRead s)
+        (read-round ok (h .ready) recoveryRead (version 0 0)) recovery-read-rests)
         recovery-read-recovers
 
   pub read-kept : {log : Log} → LogOk n now taken log → {c : Call} {s : Server} → Ready n buckets log p b c s

@@ -4,7 +4,7 @@ use mathlib.Core.Logic.{_⊎_, inl, inr}
 use mathlib.Core.List.{List, [], _∷_, List·Memᴰ·tail}
 use mathlib.Core.Bool.{Bool, true, false}
 use mathlib.Core.Option.{Option, none}
-use Prim.Native.Nat.{ℕ, zero, suc, _+_, _*_, _≤_, _<_}
+use Prim.Native.Nat.{ℕ, zero, suc, _+_, _≤_, _<_}
 use native.Mathlib.Omega.{arith}
 use lib.Dec.{ltb, leb, eqb}
 use lib.ListN.{length, getD, set, length-set, List·getD-map}
@@ -59,7 +59,7 @@ pub record MayStand (n buckets : ℕ) (log : Log) (p : ℕ) (s : Server) (votes 
   pub each : length votes ≡ n
   pub had : (q : ℕ) → getD votes q false ≡ true → record { server = q; election = s .stored .number; leader = p } ∈ log .votes
 
-module _ (n buckets now taken : ℕ) (half : n < 2 * majority n) (p : ℕ) (log : Log) (ok : LogOk n now taken log) (s : Server) (votes : List Bool) (h : MayStand n buckets log p s votes) where
+module _ (n buckets now taken : ℕ) (p : ℕ) (log : Log) (ok : LogOk n now taken log) (s : Server) (votes : List Bool) (h : MayStand n buckets log p s votes) where
   abbrev theWin : Win
   theWin = record { election = s .stored .number; leader = p; members = marked (λ x. x) votes; line = now }
 
@@ -90,7 +90,7 @@ module _ (n buckets now taken : ℕ) (half : n < 2 * majority n) (p : ℕ) (log 
   unwritten-yet most w m e =
       let y = ok .writes .won w m in
       let theirs : Won (addWin theWin log) (s .stored .number) (y .0 .leader) = record { win = y .0; had = List·Memᴰ·tail (y .1); election = y .2 ∙ e; leader = refl } in
-      h .unwon (y .0) (y .1) (y .2 ∙ e) (one-winner n half (win-fact most .votes) theirs won-now)
+      h .unwon (y .0) (y .1) (y .2 ∙ e) (one-winner n (win-fact most .votes) theirs won-now)
 
   copy-chosen : majority n ≤ votesFor votes → (b : ℕ) (x : Version) (t : List Entry) → Holds log b x t → x .election ≡ s .stored .number → Chosen n (addWin theWin log) b x
   copy-chosen most b x t (Claims.Holds.first e f) i = Claims.Chosen.first e
@@ -142,7 +142,7 @@ module _ (n buckets now taken : ℕ) (half : n < 2 * majority n) (p : ℕ) (log 
 
 -- ---- a vote arrives
 
-module _ (n buckets now taken : ℕ) (half : n < 2 * majority n) (p : ℕ) (log : Log) (ok : LogOk n now taken log) (s : Server) (agrees : ServerOk n buckets log p s)
+module _ (n buckets now taken : ℕ) (p : ℕ) (log : Log) (ok : LogOk n now taken log) (s : Server) (agrees : ServerOk n buckets log p s)
     (m : Message) (here : m .receiver ≡ p) (good : MessageOk buckets log m) where
   -- a candidate notes the vote, which is in the log since it has not won
   noted : s .volatile .role ≡ candidate → m .body ≡ ackVote → m .election ≡ s .stored .number
@@ -181,7 +181,7 @@ module _ (n buckets now taken : ℕ) (half : n < 2 * majority n) (p : ℕ) (log 
         | true ↦ noReaction (withVolatile s (standing n (set (s .volatile .votes) (m .sender) true) (s .volatile)))
       ])
       counts e false f = same
-      counts e true f = stands-kept n buckets now taken half p log ok s _ (noted e body (eqb-true _ _ f))
+      counts e true f = stands-kept n buckets now taken p log ok s _ (noted e body (eqb-true _ _ f))
 
       go : (r : Role) → s .volatile .role ≡ r → Kept n buckets now taken p log (elim r [
         | follower ↦ noReaction s
@@ -199,7 +199,7 @@ module _ (n buckets now taken : ℕ) (half : n < 2 * majority n) (p : ℕ) (log 
 -- ---- an election
 
 -- a server that neither leads nor stands: its number rises by one, and it stands unless that is below its vote
-module _ (n buckets now taken : ℕ) (half : n < 2 * majority n) (p : ℕ) (log : Log) (ok : LogOk n now taken log) (s : Server) (agrees : ServerOk n buckets log p s)
+module _ (n buckets now taken : ℕ) (p : ℕ) (log : Log) (ok : LogOk n now taken log) (s : Server) (agrees : ServerOk n buckets log p s)
     (follows : s .volatile .role ≡ follower) (idle : Idle (s .volatile)) (unset : (q : ℕ) → getD (s .volatile .votes) q false ≡ true → ⊥) where
   -- the server has won nothing above its number, and so opened no round above it
   not-above : (x : Win) → x ∈ log .wins → x .election ≡ s .stored .number + 1 → x .leader ≡ p → ⊥
@@ -277,17 +277,17 @@ module _ (n buckets now taken : ℕ) (half : n < 2 * majority n) (p : ℕ) (log 
           (λ k.
           let next = addVote (freshVote p e p) log in
           grown-before (adds-vote log (freshVote p e p)) refl refl
-          (stands-kept n buckets now taken half p next (vote-fact p e p log ok (agrees .stored) k) (withStored s (voting e p (raised (s .stored)))) _
+          (stands-kept n buckets now taken p next (vote-fact p e p log ok (agrees .stored) k) (withStored s (voting e p (raised (s .stored)))) _
           (own-vote next _ true (vote-stored p e p log (agrees .stored) e (omega arith) (omega arith) k) refl refl (agrees .shape .copies) refl refl (λ i. first-in))))
           (λ k g again.
-          stands-kept n buckets now taken half p log ok (withStored s (raised (s .stored))) _
+          stands-kept n buckets now taken p log ok (withStored s (raised (s .stored))) _
           (own-vote log _ g (raised-stored k) refl (omega arith) (agrees .shape .copies) refl refl (λ i. voted-before (again i .0) (again i .1))))
 
 ceased-unset : (w : Volatile) (q : ℕ) → getD (ceased w .votes) q false ≡ true → ⊥
 unfolding ceased
 ceased-unset w q e = let z : _≡_ {A = ℕ} 0 1 = cc (List·getD-map (λ x. false) (w .votes) q false) in omega arith
 
-module _ (n buckets now taken : ℕ) (half : n < 2 * majority n) (p : ℕ) (log : Log) (ok : LogOk n now taken log) (s : Server) (agrees : ServerOk n buckets log p s) where
+module _ (n buckets now taken : ℕ) (p : ℕ) (log : Log) (ok : LogOk n now taken log) (s : Server) (agrees : ServerOk n buckets log p s) where
   -- the server ceases to lead or to stand, and then does the above
   pub elect-kept : Kept n buckets now taken p log (elect n p s)
   unfolding elect cease ceased standForElection
@@ -309,5 +309,5 @@ module _ (n buckets now taken : ℕ) (half : n < 2 * majority n) (p : ℕ) (log 
             | true ↦ reaction r [] (f .answers)
             | false ↦ let g = standForElection n p (s .stored .number + 1) r in reaction (g .server) (g .sends) (f .answers)
           ])
-      go true e = followed k (raise-kept n buckets now taken half p (k .next) (k .facts) (cease s .server) (k .server) refl idle unset (ltb-true _ _ e))
-      go false e = followed k (stand-kept n buckets now taken half p (k .next) (k .facts) (cease s .server) (k .server) refl idle unset (ltb-false _ _ e))
+      go true e = followed k (raise-kept n buckets now taken p (k .next) (k .facts) (cease s .server) (k .server) refl idle unset (ltb-true _ _ e))
+      go false e = followed k (stand-kept n buckets now taken p (k .next) (k .facts) (cease s .server) (k .server) refl idle unset (ltb-false _ _ e))

@@ -15,9 +15,10 @@ use Rattle.model.specs.Lines.{initialState}
 use Rattle.model.specs.Run.{stateAfter}
 use Rattle.history.specs.Members.{_∈_, none-in, clash}
 use Rattle.history.specs.Version.{_≼_}
-use Rattle.history.specs.Quorum.{Majority, majorities-meet}
+use Rattle.history.specs.Quorum.{Majority}
 use Rattle.history.specs.Freshness.{fresh}
 use Rattle.consistency.specs.Statement.{Begin, End, begins, ends, OneOrder}
+use Rattle.consistency.specs.Majorities.{quorums}
 use Rattle.consistency.specs.Log.{Win, Write, Check, Ended, Log}
 use Rattle.consistency.specs.Claims.{Holds, first, later}
 use Rattle.consistency.specs.Invariant.{Unwritten, EndOk, undone, unsure, by-write, by-check}
@@ -62,7 +63,7 @@ module _ {o : Option Cluster} {log : Log} {bs : List Begin} {es : List End} (ran
   fresh-by z (unsure e) x y w = absurd (y e)
   fresh-by z (by-write e a b c d) x y w = absurd (x e)
   fresh-by z (by-check c m own before chosen y begun same bucket after right unwritten) _ _ _ =
-      let facts = facts-of (ran .servers) (ran .now) (ran .taken) (ran .half) (ran .facts) (c .bucket) in
+      let facts = facts-of (ran .servers) (ran .now) (ran .taken) (ran .facts) (c .bucket) in
       let h = historyOf log (c .bucket) in
       let there : checkOf c ∈ h .checks = part-has (λ d. d .bucket) checkOf (c .bucket) (log .checks) m refl in
       let (confirmed, o, k, check, here, at, line, reports) = ran .facts .calls .confirmed c m in
@@ -81,7 +82,7 @@ module _ {o : Option Cluster} {log : Log} {bs : List Begin} {es : List End} (ran
         unbeaten = λ x j l. elim (decLe (c .line) (x .line)) [
           | yes in-time ↦ in-time
           | no early ↦
-              let (q, a, b) = majorities-meet (ran .servers) (majority (ran .servers)) (ran .half) (c .members) (x .members) confirmed (ran .facts .votes .quorate x j) in
+              let (q, a, b) = quorums (ran .servers) .meet (c .members) (x .members) confirmed (ran .facts .votes .quorate x j) in
               absurd (facts .unseated (checkOf c) there (winOf x) (Memᴰ·map winOf j) l (omega arith) q a b)
         ];
         newest = λ x j l. fresh h facts (checkOf c) there confirmed (writeOf x) (part-has (λ w. w .bucket) writeOf (c .bucket) (log .writes) j (l ∙ bucket));

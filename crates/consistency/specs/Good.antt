@@ -1,11 +1,10 @@
 -- A cluster agrees with a log: the log's facts hold, and every server and every message in flight agrees with it. Every accepted
 -- line keeps that.
 use mathlib.Core.List.{List}
-use Prim.Native.Nat.{ℕ, _*_, _<_}
+use Prim.Native.Nat.{ℕ, _<_}
 use native.Mathlib.Decide.{ℕ-discrete}
 use lib.ListN.{length, getD, set, length-set}
 use lib.Seq.{getD-set-same, getD-set-other}
-use Rattle.model.specs.Measures.{majority}
 use Rattle.model.specs.Cluster.{Server, Message, Cluster, freshServer}
 use Rattle.model.specs.Leader.{Reaction}
 use Rattle.model.specs.Lines.{serverAt, afterStep}
@@ -23,7 +22,7 @@ pub record Good (now : ℕ) (c : Cluster) (log : Log) : Type 0 where
   pub servers : (p : ℕ) → p < length (c .servers) → ServerOk (length (c .servers)) (c .buckets) log p (serverAt c p)
   pub messages : (m : Message) → m ∈ c .messages → MessageOk (c .buckets) log m
 
-module _ {now taken : ℕ} {c : Cluster} {log base : Log} (half : length (c .servers) < 2 * majority (length (c .servers))) (good : Good now c log)
+module _ {now taken : ℕ} {c : Cluster} {log base : Log} (good : Good now c log)
     (p : ℕ) (inside : p < length (c .servers)) {r : Reaction} (before : Adds p log base)
     (kept : Kept (length (c .servers)) (c .buckets) now taken p base r) where
   abbrev adds : Adds p log (kept .next)
@@ -36,7 +35,7 @@ module _ {now taken : ℕ} {c : Cluster} {log base : Log} (half : length (c .ser
   stepped-server q h =
       elim (ℕ-discrete q p) [
         | yes e ↦ rw (e, getD-set-same (c .servers) p (r .server) (freshServer 0 0) inside) (kept .server)
-        | no d ↦ rw (getD-set-other (c .servers) p q (r .server) (freshServer 0 0) d) (server-stays (length (c .servers)) half d adds (kept .facts) (good .servers q h))
+        | no d ↦ rw (getD-set-other (c .servers) p q (r .server) (freshServer 0 0) d) (server-stays (length (c .servers)) d adds (kept .facts) (good .servers q h))
       ]
 
   -- server p's step, with the messages that stay

@@ -3,12 +3,11 @@ use mathlib.Core.Path.{_≡_, refl, sym, _∙_}
 use mathlib.Core.Logic.{_⊎_, inl, inr}
 use mathlib.Core.List.{List}
 use mathlib.Core.Option.{some}
-use Prim.Native.Nat.{ℕ, _*_, _<_}
+use Prim.Native.Nat.{ℕ}
 use Rattle.entries.specs.Entries.{Entry}
-use Rattle.model.specs.Measures.{majority}
 use Rattle.model.specs.Cluster.{Version, Body, pleaseVote, ackVote, nackVote, replicaWrite, ackWrite, nackWrite, replicaRead, ackRead, nackRead, Message}
 use Rattle.history.specs.Members.{_∈_}
-use Rattle.history.specs.Quorum.{majorities-meet}
+use Rattle.consistency.specs.Majorities.{quorums}
 use Rattle.consistency.specs.Log.{Vote, Win, Write, Accept, Report, Opened, Begun, Ended, Log, Grows}
 use Rattle.consistency.specs.Claims.{Won, Holds, first, later, Chosen, quorum, RoundOf, BodyOk, MessageOk}
 use Rattle.consistency.specs.Claims
@@ -141,9 +140,9 @@ adds-trans {p} {a} {b} {c} f g =
 
 -- ---- one leader under a number
 
-pub one-winner : (n : ℕ) → n < 2 * majority n → {log : Log} → VoteFacts n log → {e p q : ℕ} → Won log e p → Won log e q → p ≡ q
-one-winner n h {log} v {e} {p} {q} a b =
-    let s = majorities-meet n (majority n) h (a .win .members) (b .win .members) (v .quorate _ (a .had)) (v .quorate _ (b .had)) in
+pub one-winner : (n : ℕ) {log : Log} → VoteFacts n log → {e p q : ℕ} → Won log e p → Won log e q → p ≡ q
+one-winner n {log} v {e} {p} {q} a b =
+    let s = quorums n .meet (a .win .members) (b .win .members) (v .quorate _ (a .had)) (v .quorate _ (b .had)) in
     let x = v .voted _ (a .had) (s .0) (s .1) in
     let y = v .voted _ (b .had) (s .0) (s .2) in
     sym (a .leader) ∙ v .one-vote _ _ x y refl (a .election ∙ sym (b .election)) ∙ b .leader

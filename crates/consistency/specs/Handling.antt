@@ -1,8 +1,7 @@
 -- A server handles a message: every kind keeps the invariant.
 use mathlib.Core.Path.{_≡_, refl}
 use mathlib.Core.List.{[]}
-use Prim.Native.Nat.{ℕ, _*_, _<_}
-use Rattle.model.specs.Measures.{majority}
+use Prim.Native.Nat.{ℕ}
 use Rattle.model.specs.Cluster.{Server, Body, pleaseVote, ackVote, nackVote, replicaWrite, ackWrite, nackWrite, replicaRead, ackRead, nackRead, Message, freshCopy, acknowledged, refused}
 use Rattle.model.specs.Replica.{reading, writing}
 use Rattle.model.specs.Leader.{Reaction, noReaction, onAckVote, onPleaseVote, onRequest, onReply, handle}
@@ -17,7 +16,7 @@ use Rattle.consistency.specs.Requests.{read-kept, write-kept}
 use Rattle.consistency.specs.Electing.{ackvote-kept}
 use Rattle.consistency.specs.Replies.{reply-kept, refused-reply, write-reply, read-reply}
 
-module _ (n buckets now taken : ℕ) (half : n < 2 * majority n) {log : Log} (ok : LogOk n now taken log) {s : Server} (m : Message)
+module _ (n buckets now taken : ℕ) {log : Log} (ok : LogOk n now taken log) {s : Server} (m : Message)
     (agrees : ServerOk n buckets log (m .receiver) s) (good : MessageOk buckets log m) where
   by-body : (body : Body) → m .body ≡ body
       → Kept n buckets now taken (m .receiver) log
@@ -33,14 +32,14 @@ module _ (n buckets now taken : ℕ) (half : n < 2 * majority n) {log : Log} (ok
         | nackRead ↦ onReply n (m .receiver) m refused freshCopy s
       ])
   by-body pleaseVote e = vote-kept n buckets now taken (m .receiver) log ok s agrees m refl good
-  by-body ackVote e = ackvote-kept n buckets now taken half (m .receiver) log ok s agrees m refl good e
+  by-body ackVote e = ackvote-kept n buckets now taken (m .receiver) log ok s agrees m refl good e
   by-body nackVote e = unmoved ok agrees [] (λ x i. none-in i)
-  by-body (replicaWrite v t) e = write-kept n buckets now taken half (m .receiver) log ok s agrees m refl good v t e
-  by-body ackWrite e = reply-kept n buckets now taken (m .receiver) half ok agrees m acknowledged freshCopy (write-reply ok m good e)
-  by-body nackWrite e = reply-kept n buckets now taken (m .receiver) half ok agrees m refused freshCopy (refused-reply ok m good)
-  by-body replicaRead e = read-kept n buckets now taken half (m .receiver) log ok s agrees m refl good e
-  by-body (ackRead v t) e = reply-kept n buckets now taken (m .receiver) half ok agrees m acknowledged _ (read-reply ok m good v t e)
-  by-body nackRead e = reply-kept n buckets now taken (m .receiver) half ok agrees m refused freshCopy (refused-reply ok m good)
+  by-body (replicaWrite v t) e = write-kept n buckets now taken (m .receiver) log ok s agrees m refl good v t e
+  by-body ackWrite e = reply-kept n buckets now taken (m .receiver) ok agrees m acknowledged freshCopy (write-reply ok m good e)
+  by-body nackWrite e = reply-kept n buckets now taken (m .receiver) ok agrees m refused freshCopy (refused-reply ok m good)
+  by-body replicaRead e = read-kept n buckets now taken (m .receiver) log ok s agrees m refl good e
+  by-body (ackRead v t) e = reply-kept n buckets now taken (m .receiver) ok agrees m acknowledged _ (read-reply ok m good v t e)
+  by-body nackRead e = reply-kept n buckets now taken (m .receiver) ok agrees m refused freshCopy (refused-reply ok m good)
 
   pub handle-kept : Kept n buckets now taken (m .receiver) log (handle n (m .receiver) m s)
   unfolding handle

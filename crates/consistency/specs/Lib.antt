@@ -1,4 +1,5 @@
 pub mod Statement
+pub mod Majorities
 pub mod Log
 pub mod Claims
 pub mod Invariant

@@ -35,7 +35,7 @@ one-leader-ever ls ms p q e (r, i) then =
     let a = leader-facts (h .now) (h .count) (h .buckets) (reached ls .cluster) (h .log) (h .agrees) p r .0 in
     let b = leader-facts (k .now) (k .count) (k .buckets) (stateAfter (reached ls) ms .cluster) (k .log) (k .agrees) q t .0 in
     let ran = ran-of k in
-    one-winner (ran .servers) (ran .half) (ran .facts .votes) (won-grows (k .grows) (rw i at a)) (rw j at b)
+    one-winner (ran .servers) (ran .facts .votes) (won-grows (k .grows) (rw i at a)) (rw j at b)
 
 -- in one state
 pub one-leader : (ls : List (List ℕ)) (p q e : ℕ) → LeadsIn (stateAfter initialState ls) p e → LeadsIn (stateAfter initialState ls) q e → p ≡ q

@@ -3,12 +3,11 @@ use mathlib.Core.Path.{_≡_, refl, _∙_}
 use mathlib.Core.Logic.{_≢_}
 use mathlib.Core.Bool.{Bool, true, false}
 use mathlib.Core.Option.{none, some}
-use Prim.Native.Nat.{ℕ, zero, suc, _+_, _≤_, _*_, _<_}
+use Prim.Native.Nat.{ℕ, zero, suc, _+_, _≤_, _<_}
 use native.Mathlib.Omega.{arith}
 use native.Mathlib.Decide.{ℕ-discrete}
 use lib.ListN.{length, getD, set, replicate, length-set, length-replicate}
 use lib.Seq.{getD-set-same, getD-set-other}
-use Rattle.model.specs.Measures.{majority}
 use Rattle.model.specs.Cluster.{Version, copyAt, Purpose, recoveryRead, check, silent, acknowledged, Call, roundAt, callAt, Server}
 use Rattle.model.specs.Replica.{reading, accepting, voting}
 use Rattle.model.specs.Leader.{isOwn, oneMore, newRound, opening, reportTo}
@@ -53,7 +52,7 @@ pub new-marks : (n p b : ℕ) (u : Purpose) (s : Server) → length (newRound n 
 unfolding newRound
 new-marks n p b u s = simp (length-set, length-replicate)
 
-module _ {n buckets now taken p b : ℕ} (half : n < 2 * majority n) {log : Log} (ok : LogOk n now taken log) {c : Call} {s : Server} (h : Ready n buckets log p b c s) where
+module _ {n buckets now taken p b : ℕ} {log : Log} (ok : LogOk n now taken log) {c : Call} {s : Server} (h : Ready n buckets log p b c s) where
   abbrev e : ℕ
   e = s .stored .number
 
@@ -73,7 +72,7 @@ module _ {n buckets now taken p b : ℕ} (half : n < 2 * majority n) {log : Log}
   -- rounds under the leader's number are the leader's own
   pub above-all : (o : Opened) → o ∈ log .rounds → o .election ≡ e → o .number < k
   above-all o m i =
-      let q = one-winner n half (ok .votes) (rw i at (ok .rounds .won o m)) (h .leads .won) in
+      let q = one-winner n (ok .votes) (rw i at (ok .rounds .won o m)) (h .leads .won) in
       omega (arith, h .leads .numbered o m q i)
 
   pub read-adds : (u : Purpose) (x : Version) → Adds p log (readLog u x)

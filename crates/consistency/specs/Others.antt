@@ -1,8 +1,7 @@
 -- What server p adds to the log leaves every other server in agreement with it.
 use mathlib.Core.Path.{_≡_, sym, _∙_, ap}
 use mathlib.Core.Logic.{inl, inr, _≢_}
-use Prim.Native.Nat.{ℕ, _*_, _<_}
-use Rattle.model.specs.Measures.{majority}
+use Prim.Native.Nat.{ℕ}
 use Rattle.model.specs.Cluster.{Copy, Stored, copyAt, Role, follower, candidate, leading, Call, Volatile, roundAt, callAt, Server}
 use Rattle.consistency.specs.Log.{Log}
 use Rattle.consistency.specs.Claims.{Won}
@@ -10,7 +9,7 @@ use Rattle.consistency.specs.Invariant.{LogOk, StoredOk, CallOk, CopyNew
 use Rattle.consistency.specs.Growth.{won-grows, holds-grows, TakenAt, Adds, one-winner}
 use Rattle.consistency.specs.Buckets.{Untouched, bucket-grows}
 
-module _ (n : ℕ) (half : n < 2 * majority n) {p q : ℕ} (apart : q ≢ p) {now taken : ℕ} {a b : Log} (add : Adds p a b) (ok : LogOk n now taken b) where
+module _ (n : ℕ) {p q : ℕ} (apart : q ≢ p) {now taken : ℕ} {a b : Log} (add : Adds p a b) (ok : LogOk n now taken b) where
   -- a call that was taken at q was not taken at p
   elsewhere : {k : ℕ} {c : Call} → CallOk a q k c → TakenAt b p (c .number) → ⊥
   elsewhere c t =
@@ -25,7 +24,7 @@ module _ (n : ℕ) (half : n < 2 * majority n) {p q : ℕ} (apart : q ≢ p) {no
 
   -- nobody else writes under a number that q won
   not-under : {e f : ℕ} → Won a e q → f ≡ e → Won b f p → ⊥
-  not-under won i h = apart (one-winner n half (ok .votes) (won-grows (add .grows) won) (rw i at h))
+  not-under won i h = apart (one-winner n (ok .votes) (won-grows (add .grows) won) (rw i at h))
 
   newest-stays : {e k : ℕ} {copy : Copy} → Won a e q → CopyNewest a e k copy → CopyNewest b e k copy
   newest-stays won h =

@@ -4,7 +4,7 @@ use mathlib.Core.Logic.{_⊎_, inl, inr}
 use mathlib.Core.List.{List, []}
 use mathlib.Core.Bool.{Bool, true, false}
 use mathlib.Core.Option.{Option, none, some}
-use Prim.Native.Nat.{ℕ, _≤_, _*_, _<_}
+use Prim.Native.Nat.{ℕ, _≤_, _<_}
 use native.Mathlib.Omega.{arith}
 use native.Mathlib.Decide.{ℕ-discrete, decLt}
 use lib.Dec.{eqb}
@@ -12,7 +12,6 @@ use lib.ListN.{length, getD, set, length-set, List·getD-eq-default}
 use lib.Seq.{getD-set-same, getD-set-other}
 use borrow.Author.Tests.{eqb-true}
 use Rattle.entries.specs.Entries.{Entry}
-use Rattle.model.specs.Measures.{majority}
 use Rattle.model.specs.Cluster.{Version, version, above, Copy, freshCopy, copyAt, Role, follower, candidate, leading, Purpose, recoveryRead, recoveryWrite, check, ownWrite, Mark, silent, acknowledged, refused, Round, Call, roundAt, callAt, Server, Message, ackWrite, ackRead}
 use Rattle.model.specs.Leader.{Reaction, noReaction, closes, fails, cease, closed, better, markedBy, reportTo, counted, withRound, counting, onReply}
 use Rattle.history.specs.Members.{_∈_, none-in}
@@ -236,7 +235,7 @@ module _ {n buckets : ℕ} {log : Log} {p : ℕ} {s : Server} {b : ℕ} {r : Rou
 
 -- ---- a reply
 
-module _ (n buckets now taken p : ℕ) (half : n < 2 * majority n) {log : Log} (ok : LogOk n now taken log) {s : Server} (agrees : ServerOk n buckets log p s) where
+module _ (n buckets now taken p : ℕ) {log : Log} (ok : LogOk n now taken log) {s : Server} (agrees : ServerOk n buckets log p s) where
   counting-kept : {b : ℕ} {r : Round} (h : OpenAt n buckets log p s b r) (x : Round) → RoundOk n log p (s .stored .number) b (copyAt (s .stored) b) x (h .call)
       → Kept n buckets now taken p log (counting n p b x s)
   unfolding counting
@@ -252,7 +251,7 @@ module _ (n buckets now taken p : ℕ) (half : n < 2 * majority n) {log : Log} (
             | true ↦ closed n p b x (withRound s b x)
             | false ↦ elim (fails n x) as (λ _. Reaction) [ true ↦ cease s | false ↦ noReaction (withRound s b x) ]
           ])
-      go true shut = closed-kept n buckets now taken p b half ok (with-round-ready h x) x ro shut
+      go true shut = closed-kept n buckets now taken p b ok (with-round-ready h x) x ro shut
       go false e = failing (fails n x)
 
   module _ (m : Message) (mark : Mark) (report : Copy) (reply : ReplyOk log p (m .sender) (m .bucket) (m .election) (m .round) mark report) where

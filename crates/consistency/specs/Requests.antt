@@ -3,12 +3,11 @@
 use mathlib.Core.Path.{_≡_, refl, sym, _∙_}
 use mathlib.Core.List.{List, [], _∷_}
 use mathlib.Core.Bool.{Bool, true, false}
-use Prim.Native.Nat.{ℕ, _*_, _≤_, _<_}
+use Prim.Native.Nat.{ℕ, _≤_}
 use native.Mathlib.Omega.{arith}
 use lib.Dec.{ltb}
 use borrow.Author.Tests.{ltb-false}
 use Rattle.entries.specs.Entries.{Entry}
-use Rattle.model.specs.Measures.{majority}
 use Rattle.model.specs.Cluster.{Version, copyAt, Server, Body, replicaWrite, replicaRead, Message}
 use Rattle.model.specs.Replica.{voting, Request, reading, writing, mayAccept, storing, accepting, acknowledging, refusing}
 use Rattle.model.specs.Leader.{reaction, withStored, stepDown, replyTo, replying, onRequest}
@@ -24,7 +23,7 @@ use Rattle.consistency.specs.Chaining.{unmoved}
 use Rattle.consistency.specs.Replying.{StoredOnly, unsettled-after, replied}
 use Rattle.consistency.specs.Storing.{heeded-stored, storing-keeps, acceptance, accept-stored, reporting, report-stored}
 
-module _ (n buckets now taken : ℕ) (half : n < 2 * majority n) (p : ℕ) (log : Log) (ok : LogOk n now taken log) (s : Server) (agrees : ServerOk n buckets log p s)
+module _ (n buckets now taken : ℕ) (p : ℕ) (log : Log) (ok : LogOk n now taken log) (s : Server) (agrees : ServerOk n buckets log p s)
     (m : Message) (here : m .receiver ≡ p) (good : MessageOk buckets log m) where
   -- a reply goes to another server, under the request's number
   reply-ok : (next : Log) (body : Body) → BodyOk buckets next (replyTo p m body) body → MessageOk buckets next (replyTo p m body)
@@ -57,7 +56,7 @@ module _ (n buckets now taken : ℕ) (half : n < 2 * majority n) (p : ℕ) (log 
   not-own : Won log (m .election) (m .sender) → s .stored .vote ≤ m .election → m .election ≤ s .stored .number → Won log (s .stored .number) p → ⊥
   not-own won l k mine =
       let e : s .stored .number ≡ m .election = omega (arith, agrees .stored .number) in
-      good .apart (one-winner n half (ok .votes) won (rw e at mine) ∙ sym here)
+      good .apart (one-winner n (ok .votes) won (rw e at mine) ∙ sym here)
 
   pub read-kept : m .body ≡ replicaRead → Kept n buckets now taken p log (onRequest p m reading s)
   unfolding accepting acknowledging

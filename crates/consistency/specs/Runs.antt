@@ -3,11 +3,10 @@ use mathlib.Core.Path.{_≡_, refl, sym, _∙_, ap, subst, subst⁻¹}
 use mathlib.Core.List.{List, [], _∷_, _++_, map, Memᴰ·append-left, Memᴰ·append-right, Memᴰ·map, Memᴰ·of-map, append-nil}
 use mathlib.Core.Bool.{true, false}
 use mathlib.Core.Option.{Option, none, some}
-use Prim.Native.Nat.{ℕ, zero, suc, _+_, _≤_, _*_, _<_}
+use Prim.Native.Nat.{ℕ, zero, suc, _+_, _≤_, _<_}
 use native.Mathlib.Omega.{arith}
 use native.Mathlib.Numerals.{add-one}
 use lib.ListN.{length, getD, take, replicate, length-replicate}
-use Rattle.model.specs.Measures.{majority}
 use Rattle.model.specs.Calls.{Answer}
 use Rattle.model.specs.Cluster.{freshCopy, freshServer, freshCluster, Cluster, Round, Call, Message}
 use Rattle.model.specs.Lines.{Line, cluster, elect, call, deliver, copy, lose, timeout, stop, State, Tally, initialState, Outcome, printed, LineResult, Work, serverAt, messageAt, dropAt, stoppedAt, lostMessage, deliveredTo, delivery, work, firstOf, conditions}
@@ -17,7 +16,7 @@ use Rattle.model.specs.Run.{step, stateAfter, outcomes}
 use Rattle.history.specs.Members.{_∈_, none-in, each-append}
 use Rattle.limits.specs.Tally.{none-applies}
 use Rattle.limits.specs.Refusals.{ComesOut, refused-by, founded, took, comes-out}
-use Rattle.limits.specs.Always.{Measured, Stands, line-keeps-measures}
+use Rattle.limits.specs.Always.{Measured, line-keeps-measures}
 use Rattle.consistency.specs.Statement.{Begin, End, buckets, meaning, beginsFrom, endsFrom, begins, ends, Distinct}
 use Rattle.consistency.specs.Log.{Begun, Ended, Log, emptyLog, Grows, _⊆_}
 use Rattle.consistency.specs.Claims.{Holds}
@@ -28,7 +27,7 @@ use Rattle.consistency.specs.Acts.{endsOf}
 use Rattle.consistency.specs.Extend.{later-line}
 use Rattle.consistency.specs.Good.{Good}
 use Rattle.consistency.specs.Once.{numbersOf, distinct-join, distinct-regroup}
-use Rattle.consistency.specs.Steps.{begunBy, LineGood, majority-half, line-good}
+use Rattle.consistency.specs.Steps.{begunBy, LineGood, line-good}
 
 -- ---- the fresh cluster
 
@@ -283,7 +282,6 @@ pub record Ran (o : Option Cluster) (log : Log) (bs : List Begin) (es : List End
   pub size : (c : Cluster) → o ≡ some c → servers ≡ length (c .servers)
   pub now : ℕ
   pub taken : ℕ
-  pub half : servers < 2 * majority servers
   pub facts : LogOk servers now taken log
   pub same : Match bs es log
 
@@ -294,19 +292,15 @@ Goes ls =
     → Measured (s .cluster) (s .tally) → RunOk now (s .cluster) count b log → Match bs es log
     → Leaves log now s ls (beginsFrom (now + 1) count b ls (outcomes s ls) ++ bs) (endsFrom (now + 1) (outcomes s ls) ++ es)
 
-cluster-half : {c : Cluster} {t : Tally} → Stands c t → length (c .servers) < 2 * majority (length (c .servers))
-cluster-half m = majority-half _ (omega (arith, m .within .size, m .someServers)) (omega (arith, m .within .size, m .fewServers))
-
 ran-none : (now count b : ℕ) (o : Option Cluster) (t : Tally) (log : Log) (bs : List Begin) (es : List End) → Measured o t → RunOk now o count b log → Match bs es log → Ran o log bs es
 ran-none now count b none t log bs es m (e, f) same =
-    record { servers = 1; size = λ c e. let z : _≡_ {A = ℕ} 0 1 = cc in absurd (omega arith); now = 0; taken = 0; half = majority-half 1 (omega arith) (omega arith); facts = rw e (empty-log-ok 1 0); same = same }
+    record { servers = 0; size = λ c e. let z : _≡_ {A = ℕ} 0 1 = cc in absurd (omega arith); now = 0; taken = 0; facts = rw e (empty-log-ok 0 0); same = same }
 ran-none now count b (some c) t log bs es m g same =
     record {
       servers = length (c .servers);
       size = λ d e. let f : c ≡ d = cc in ap (λ x. length (x .servers)) f;
       now = now;
       taken = c .calls;
-      half = cluster-half m;
       facts = g .0 .facts;
       same = same;
     }

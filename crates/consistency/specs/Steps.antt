@@ -3,11 +3,10 @@ use mathlib.Core.Path.{_≡_, refl, _∙_}
 use mathlib.Core.List.{List, [], _∷_, _++_, List·Memᴰ·head, List·Memᴰ·tail}
 use mathlib.Core.Bool.{Bool, true, false, not}
 use mathlib.Core.Option.{Option, none, some}
-use Prim.Native.Nat.{ℕ, zero, suc, _+_, _≤_, _*_, _<_}
+use Prim.Native.Nat.{ℕ, zero, suc, _+_, _<_}
 use native.Mathlib.Omega.{arith}
 use native.Mathlib.Numerals.{add-one}
 use lib.ListN.{length, getD, take, drop}
-use Rattle.model.specs.Measures.{majority, maxServers}
 use Rattle.model.specs.Calls.{Words, bucketFor}
 use Rattle.model.specs.Cluster.{Role, follower, candidate, leading, Message, Cluster, Call, callAt}
 use Rattle.model.specs.Leader.{Reaction, handle}
@@ -50,19 +49,6 @@ pub record LineGood (now : ℕ) (c : Cluster) (log : Log) (l : Line) : Type 0 wh
   pub once : Distinct (numbersOf (work c l .answers))
   pub begins : next .begins ≡ begunBy now c l ++ log .begins
   pub ends : (x : Ended) → (x ∈ next .ends → x ∈ (endsOf now (work c l .answers) ++ log .ends)) × (x ∈ (endsOf now (work c l .answers) ++ log .ends) → x ∈ next .ends)
-
--- any two majorities of 1 to 7 servers share one
-pub majority-half : (n : ℕ) → 1 ≤ n → n ≤ maxServers → n < 2 * majority n
-unfolding majority
-majority-half zero l h = absurd (omega arith)
-majority-half (suc zero) l h = omega arith
-majority-half (suc (suc zero)) l h = omega arith
-majority-half (suc (suc (suc zero))) l h = omega arith
-majority-half (suc (suc (suc (suc zero)))) l h = omega arith
-majority-half (suc (suc (suc (suc (suc zero))))) l h = omega arith
-majority-half (suc (suc (suc (suc (suc (suc zero)))))) l h = omega arith
-majority-half (suc (suc (suc (suc (suc (suc (suc zero))))))) l h = omega arith
-majority-half (suc (suc (suc (suc (suc (suc (suc (suc n)))))))) l h = absurd (omega arith)
 
 -- ---- what the tests of a line tell
 
@@ -108,18 +94,15 @@ delivery-stopped c m still copied e = rw (delivery, e)
 -- ---- the lines
 
 module _ {now : ℕ} {c : Cluster} {log : Log} {t : Tally} (stands : Stands c t) (good : Good now c log) where
-  half : length (c .servers) < 2 * majority (length (c .servers))
-  half = majority-half (length (c .servers)) (omega (arith, stands .within .size, stands .someServers)) (omega (arith, stands .within .size, stands .fewServers))
-
   -- a step of server s that the line brings about
   by-line : (s : ℕ) → s < length (c .servers) → {r : Reaction} (kept : Kept (length (c .servers)) (c .buckets) now (c .calls) s log r)
       → Good now (byLine c s (c .calls) r .cluster) (kept .next)
-  by-line s h kept = stepped-good half good s h (adds-refl s log) kept (c .messages) (λ m i. i)
+  by-line s h kept = stepped-good good s h (adds-refl s log) kept (c .messages) (λ m i. i)
 
   elect-good : (s : ℕ) → s < length (c .servers) → LineGood now c log (elect s)
   unfolding work begunBy
   elect-good s h =
-      let k = elect-kept (length (c .servers)) (c .buckets) now (c .calls) half s log (good .facts) (serverAt c s) (good .servers s h) in
+      let k = elect-kept (length (c .servers)) (c .buckets) now (c .calls) s log (good .facts) (serverAt c s) (good .servers s h) in
       let g = elect-goes (length (c .servers)) s (serverAt c s) in
       record { next = k .next; good = by-line s h k; grows = k .adds .grows; once = answers-once (good .facts) (good .servers s h) g; begins = k .begins; ends = k .ends }
 
@@ -148,11 +131,11 @@ module _ {now : ℕ} {c : Cluster} {log : Log} {t : Tally} (stands : Stands c t)
   unfolding work begunBy
   call-good s w h inside leads free =
       let b = bucketFor (c .buckets) w in
-      let k = begin-kept (length (c .servers)) (c .buckets) now (c .calls) s b half (good .facts) (good .servers s h) leads inside free (c .calls + 1) (add-one (c .calls)) w in
+      let k = begin-kept (length (c .servers)) (c .buckets) now (c .calls) s b (good .facts) (good .servers s h) leads inside free (c .calls + 1) (add-one (c .calls)) w in
       let g = going (beginCall-moves (length (c .servers)) s b (c .calls + 1) w (serverAt c s)) in
       record {
         next = k .next;
-        good = stepped-good half good s h (adds-begun log s _) k (c .messages) (λ m i. i);
+        good = stepped-good good s h (adds-begun log s _) k (c .messages) (λ m i. i);
         grows = adds-trans (adds-begun log s _) (k .adds) .grows;
         once = answers-once (good .facts) (good .servers s h) g;
         begins = k .begins;
@@ -181,12 +164,12 @@ module _ {now : ℕ} {c : Cluster} {log : Log} {t : Tally} (stands : Stands c t)
       go : (t : Bool) → stoppedAt c (m .receiver) ≡ t → LineGood now c log l
       go true i = lost-good l still copied sub (e ∙ delivery-stopped c m still copied i) f
       go false i =
-          let k = handle-kept (length (c .servers)) (c .buckets) now (c .calls) half (good .facts) m (good .servers (m .receiver) h) (good .messages m there) in
+          let k = handle-kept (length (c .servers)) (c .buckets) now (c .calls) (good .facts) m (good .servers (m .receiver) h) (good .messages m there) in
           let g : work c l ≡ deliveredTo c m still copied _ = e ∙ delivery-live c m still copied i in
           let moves = handle-goes (length (c .servers)) (m .receiver) m (serverAt c (m .receiver)) in
           record {
             next = k .next;
-            good = rw g (stepped-good half good (m .receiver) h (adds-refl (m .receiver) log) k still sub);
+            good = rw g (stepped-good good (m .receiver) h (adds-refl (m .receiver) log) k still sub);
             grows = k .adds .grows;
             once = rw g (answers-once (good .facts) (good .servers (m .receiver) h) moves);
             begins = rw f (k .begins);

@@ -57,7 +57,7 @@ module _ {cluster : Option Cluster} {log : Log} {bs : List Begin} {es : List End
   calls = historyOf log b .calls
 
   order : Ordering OneBucket.plain calls
-  order = ordering-of (ran .servers) (ran .now) (ran .taken) (ran .half) (ran .facts) b
+  order = ordering-of (ran .servers) (ran .now) (ran .taken) (ran .facts) b
 
   -- a call of the bucket is one that was taken there
   abbrev Comes : Call OneBucket.plain → Type 0

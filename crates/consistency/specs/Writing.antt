@@ -5,12 +5,11 @@ use mathlib.Core.Logic.{_≢_}
 use mathlib.Core.List.{List}
 use mathlib.Core.Bool.{true}
 use mathlib.Core.Option.{Option, none, some}
-use Prim.Native.Nat.{ℕ, _+_, _≤_, _*_, _<_}
+use Prim.Native.Nat.{ℕ, _+_, _≤_}
 use native.Mathlib.Omega.{arith}
 use lib.ListN.{set, length-set, length-replicate}
 use lib.Seq.{getD-set-same, getD-set-other}
 use Rattle.entries.specs.Entries.{Entry}
-use Rattle.model.specs.Measures.{majority}
 use Rattle.model.specs.Cluster.{Version, version, above, Copy, Stored, freshCopy, copyAt, Purpose, check, Call, roundAt, callAt, Server}
 use Rattle.model.specs.Replica.{writing, accepting, storing, voting}
 use Rattle.model.specs.Leader.{isOwn, oneMore, newRound, opening}
@@ -40,7 +39,7 @@ pub record NewWrite (n now : ℕ) (log : Log) (b : ℕ) (c : Call) (s : Server) 
   pub mine : (i : ℕ) → owner ≡ some i → i ≡ c .number
   pub unwritten : Unwritten log (c .number)
 
-module _ {n buckets now taken p b : ℕ} (half : n < 2 * majority n) {log : Log} (ok : LogOk n now taken log) {c : Call} {s : Server} (h : Ready n buckets log p b c s)
+module _ {n buckets now taken p b : ℕ} {log : Log} (ok : LogOk n now taken log) {c : Call} {s : Server} (h : Ready n buckets log p b c s)
     {v u : Version} {t : List Entry} {owner : Option ℕ} (new : NewWrite n now log b c s v u t owner) (why : Purpose) (other : why ≡ check → ⊥) where
   abbrev e : ℕ
   e = s .stored .number
@@ -52,7 +51,7 @@ module _ {n buckets now taken p b : ℕ} (half : n < 2 * majority n) {log : Log}
   own = record { server = p; bucket = b; at = v }
 
   abbrev opens : Opened
-  opens = entry half ok h why v
+  opens = entry ok h why v
 
   abbrev pub writeLog : Log
   writeLog = addAccept own (addRound opens (addWrite wrote log))
@@ -78,7 +77,7 @@ module _ {n buckets now taken p b : ℕ} (half : n < 2 * majority n) {log : Log}
       (won .win) (won .had) (won .election ∙ rw (new .election)) (λ i m. rw (new .mine i m) (new .unwritten, h .call .unended)) in
       let two =
       round-added one opens refl (record { win = won .win; had = won .had; election = won .election; leader = won .leader })
-      (above-all half ok h) (λ i. absurd (other i)) in
+      (above-all ok h) (λ i. absurd (other i)) in
       accept-added two own wrote first-in refl refl
       (λ r m i. rw (new .election, ← h .leads .vote) (h .leads .stored .reports r m i))
 

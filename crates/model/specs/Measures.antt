@@ -1,7 +1,5 @@
--- The measures of a cluster (document 01, 'Measures of a cluster'), each named once.
-use mathlib.Core.List.{[], _∷_}
-use Prim.Native.Nat.{ℕ}
-use lib.ListN.{getD}
+-- The measures of a cluster (document 01, 'Measures of a cluster'), each named once; majorities as document 02's Change 6 has them.
+use Prim.Native.Nat.{ℕ, _+_, _/_}
 use Rattle.table.specs.Form.{maxKey}
 
 abbrev pub maxServers : ℕ
@@ -42,6 +40,6 @@ maxLineBytes = 120
 abbrev pub maxElection : ℕ
 maxElection = 65535
 
--- the majorities of 1 to 7 servers, from document 01's table
+-- a majority of n servers: half of them, rounded down, plus one
 unfoldable pub majority : ℕ → ℕ
-majority n = getD (0 ∷ 1 ∷ 2 ∷ 2 ∷ 3 ∷ 3 ∷ 4 ∷ 4 ∷ []) n 0
+majority n = n / 2 + 1

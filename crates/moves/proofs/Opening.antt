@@ -15,6 +15,7 @@ use Rattle.model.specs.Calls as calls
 use Rattle.model.specs.Cluster as cluster
 use Rattle.model.specs.Replica.{Request, reading, writing, requestBody}
 use Rattle.model.specs.Leader.{reaction, endings, acknowledgements, closes, broadcast, oneMore, isOwn, reportTo, answerOf}
+use Rattle.model.proofs.Majorities.{majority-half}
 use Rattle.cells.specs.Cells.{Front, Cell}
 use Rattle.cells.specs.Cells as cells
 use Rattle.cells.specs.Moves.{finishing, keeping, roundFor, frontAfter, cellAfter, openingRound}
@@ -43,21 +44,12 @@ own-mark (suc n) zero h = ap suc (none-yet n)
 own-mark (suc n) (suc me) h = own-mark n me (omega arith)
 
 -- several servers need more than one acknowledgement
-several : (n : ℕ) → 2 ≤ n → n ≤ 7 → 1 < majority n
-unfolding majority
-several zero lo hi = absurd (omega arith)
-several (suc zero) lo hi = absurd (omega arith)
-several (suc (suc zero)) lo hi = omega arith
-several (suc (suc (suc zero))) lo hi = omega arith
-several (suc (suc (suc (suc zero)))) lo hi = omega arith
-several (suc (suc (suc (suc (suc zero))))) lo hi = omega arith
-several (suc (suc (suc (suc (suc (suc zero)))))) lo hi = omega arith
-several (suc (suc (suc (suc (suc (suc (suc zero))))))) lo hi = omega arith
-several (suc (suc (suc (suc (suc (suc (suc (suc n)))))))) lo hi = absurd (omega arith)
+several : (n : ℕ) → 2 ≤ n → 1 < majority n
+several n lo = omega (arith, majority-half n)
 
-stays-open : (n me : ℕ) (u : cluster.Purpose) (f : Front) (c : Cell) → 2 ≤ n → n ≤ 7 → me < n → closes n (roundFor n me u f c) ≡ false
+stays-open : (n me : ℕ) (u : cluster.Purpose) (f : Front) (c : Cell) → 2 ≤ n → me < n → closes n (roundFor n me u f c) ≡ false
 unfolding closes
-stays-open n me u f c lo hi mine = rw (closes, own-mark n me mine) (lt-leb _ _ (several n lo hi))
+stays-open n me u f c lo mine = rw (closes, own-mark n me mine) (lt-leb _ _ (several n lo))
 
 -- ---- the view of a new round
 
@@ -166,11 +158,11 @@ either-leads false x y e h = h
 
 -- ---- rounds of several servers wait for replies
 
-waits : (n me b : ℕ) (u : cluster.Purpose) (q : Request) (next : Front → Cell → cells.Move) (f : Front) (c : Cell) → 2 ≤ n → n ≤ 7 → me < n
+waits : (n me b : ℕ) (u : cluster.Purpose) (q : Request) (next : Front → Cell → cells.Move) (f : Front) (c : Cell) → 2 ≤ n → me < n
     → openingRound n me b u q next f c
     ≡ record { front = frontAfter me f; cell = cellAfter n me u q f c; sends = broadcast n me b (f .number) (f .lastRound + 1) (requestBody q); answers = [] }
 unfolding openingRound
-waits n me b u q next f c lo hi mine = rw (openingRound, stays-open n me u f c lo hi mine)
+waits n me b u q next f c lo mine = rw (openingRound, stays-open n me u f c lo mine)
 
 -- the copy's table after a write, by whether it is stored
 pub stored-table : (z : Bool) (t : Tables) (w : List Entry)
@@ -194,14 +186,14 @@ module _ (n me b : ℕ) (a : Asked) (l : Local) (t : Tables) (words : calls.Word
       ≡ moveIn n me b a (readingMove me 1 l) t words v u
   unfolding readingMove chosen copyAfter workAfter sendsIn answersIn requestBody
   recovery-read-waits =
-      waits n me b cluster.recoveryRead reading next (frontIn n (l .head)) (cellWith o l (t .copy) words) lo hi mine
+      waits n me b cluster.recoveryRead reading next (frontIn n (l .head)) (cellWith o l (t .copy) words) lo mine
       ∙ moved n me b reading l last (front-opened n me l hi last) (recovery-read-cell n me l hi last o (t .copy) words rounds)
 
   pub check-waits : openingRound n me b cluster.check reading next (frontIn n (l .head)) (cellWith o l (t .copy) words)
       ≡ moveIn n me b a (readingMove me 3 l) t words v u
   unfolding readingMove chosen copyAfter workAfter sendsIn answersIn requestBody
   check-waits =
-      waits n me b cluster.check reading next (frontIn n (l .head)) (cellWith o l (t .copy) words) lo hi mine
+      waits n me b cluster.check reading next (frontIn n (l .head)) (cellWith o l (t .copy) words) lo mine
       ∙ moved n me b reading l last (front-opened n me l hi last) (check-cell n me l hi last o (t .copy) (t .work) words rounds)
 
   -- a recovery writes the working table
@@ -212,7 +204,7 @@ module _ (n me b : ℕ) (a : Asked) (l : Local) (t : Tables) (words : calls.Word
   recovery-write-waits =
       let w = versionOf (l .head .number) 1 in
       let q = writing (versionIn w) (t .work) in
-      waits n me b cluster.recoveryWrite q next (frontIn n (l .head)) (cellWith o l (t .copy) words) lo hi mine
+      waits n me b cluster.recoveryWrite q next (frontIn n (l .head)) (cellWith o l (t .copy) words) lo mine
       ∙ moved n me b q l last (front-opened n me l hi last)
       (recovery-write-cell n me l hi last o w (t .work) (t .copy) (t .work) words rounds
       ∙ ap (λ c. cellIn n (recoveryMove me l .local) c (t .work) words) (sym (stored-table (stores w l) t (t .work))))
@@ -226,7 +218,7 @@ module _ (n me b : ℕ) (a : Asked) (l : Local) (t : Tables) (words : calls.Word
       let w = nextVersionOf (l .head .number) (l .version) in
       let q = writing (versionIn w) (t .made) in
       ap (λ k. openingRound n me b cluster.ownWrite (writing (cluster.version (l .head .number) k) (t .made)) next (frontIn n (l .head)) (cellWith o l (t .copy) words)) (sym (mod-eq-of-lt counter))
-      ∙ (waits n me b cluster.ownWrite q next (frontIn n (l .head)) (cellWith o l (t .copy) words) lo hi mine
+      ∙ (waits n me b cluster.ownWrite q next (frontIn n (l .head)) (cellWith o l (t .copy) words) lo mine
       ∙ moved n me b q l last (front-opened n me l hi last)
       (own-write-cell n me l hi last o w (t .made) (t .copy) (t .made) words rounds
       ∙ ap (λ c. cellIn n (ownWriteMove me l .local) c (t .made) words) (sym (stored-table (stores w l) t (t .made)))))

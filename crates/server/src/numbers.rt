@@ -8,17 +8,11 @@ ghost use Rattle.model.specs.Cluster.{above};
 ghost use Rattle.server.specs.Views.{versionIn, chosen};
 ghost use Rattle.server.specs.Counts.{countOf};
 
-// Document 01's table; no servers, no majority.
-const MAJORITIES: [u32; 8] = [0, 1, 2, 2, 3, 3, 4, 4];
-
+// A majority of n servers: half of them, rounded down, plus one.
 pub fn majority(n: u32) -> u32
     ensures { λ r. ⌜ r ≡ majority n ⌝ }
 {
-    if n < 8 {
-        let i = n as usize;
-        return MAJORITIES[i];
-    }
-    0
+    n / 2 + 1
 }
 
 // Whether version v is above w.

@@ -17,12 +17,9 @@ pub use server::BUCKETS;
 /// Most servers of a cluster.
 pub const SERVERS: usize = 7;
 
-/// Majorities for 1 to 7 servers.
-const MAJORITIES: [u32; SERVERS] = [1, 2, 2, 3, 3, 4, 4];
-
-/// Majority of `size` servers, 1 to 7.
+/// Majority of `size` servers: half of them, rounded down, plus one.
 pub fn majority(size: usize) -> u32 {
-    MAJORITIES[size - 1]
+    size as u32 / 2 + 1
 }
 
 /// What a line after the cluster line asks for, with its numbers as written.

@@ -1,5 +1,6 @@
-//! The Bizur cluster bench of document 01 in plain Rust: an independent
-//! program to compare another one with, byte for byte and in speed.
+//! The Bizur cluster bench of document 01, with the changes of document 02 that
+//! docs/changes lists, in plain Rust: an independent program to compare another
+//! one with, byte for byte and in speed.
 
 #![forbid(unsafe_code)]
 

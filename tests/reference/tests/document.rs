@@ -27,8 +27,7 @@ fn rows_p1_to_p3_hash() {
 
 #[test]
 fn row_p4_majorities() {
-    let all: Vec<u32> = (1..=7).map(majority).collect();
-    assert_eq!(all, [1, 2, 2, 3, 3, 4, 4]);
+    assert_eq!([1, 4, 7].map(majority), [1, 3, 4]);
 }
 
 #[test]

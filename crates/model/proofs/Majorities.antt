@@ -1,0 +1,14 @@
+-- What a majority is for, shown for every number of servers: any two of them share a server, and no smaller number of servers would do.
+use Prim.Native.Nat.{ℕ, _*_, _≤_, _<_}
+use native.Mathlib.Omega.{arith}
+use Rattle.model.specs.Measures.{majority}
+
+-- two majorities are together more than all servers
+pub majority-half : (n : ℕ) → n < 2 * majority n
+unfolding majority
+majority-half n = omega arith
+
+-- a majority is the least number with that
+pub majority-least : (n m : ℕ) → n < 2 * m → majority n ≤ m
+unfolding majority
+majority-least n m h = omega arith
