@@ -59,7 +59,7 @@ pub record MayStand (n buckets : ℕ) (log : Log) (p : ℕ) (s : Server) (votes 
   pub each : length votes ≡ n
   pub had : (q : ℕ) → getD votes q false ≡ true → record { server = q; election = s .stored .number; leader = p } ∈ log .votes
 
-module _ (n buckets now taken : ℕ) (p : ℕ) (log : Log) (ok : LogOk n now taken log) (s : Server) (votes : List Bool) (h : MayStand n buckets log p s votes) where
+module _ (n buckets now taken p : ℕ) (log : Log) (ok : LogOk n now taken log) (s : Server) (votes : List Bool) (h : MayStand n buckets log p s votes) where
   abbrev theWin : Win
   theWin = record { election = s .stored .number; leader = p; members = marked (λ x. x) votes; line = now }
 
@@ -142,7 +142,7 @@ module _ (n buckets now taken : ℕ) (p : ℕ) (log : Log) (ok : LogOk n now tak
 
 -- ---- a vote arrives
 
-module _ (n buckets now taken : ℕ) (p : ℕ) (log : Log) (ok : LogOk n now taken log) (s : Server) (agrees : ServerOk n buckets log p s)
+module _ (n buckets now taken p : ℕ) (log : Log) (ok : LogOk n now taken log) (s : Server) (agrees : ServerOk n buckets log p s)
     (m : Message) (here : m .receiver ≡ p) (good : MessageOk buckets log m) where
   -- a candidate notes the vote, which is in the log since it has not won
   noted : s .volatile .role ≡ candidate → m .body ≡ ackVote → m .election ≡ s .stored .number
@@ -199,7 +199,7 @@ module _ (n buckets now taken : ℕ) (p : ℕ) (log : Log) (ok : LogOk n now tak
 -- ---- an election
 
 -- a server that neither leads nor stands: its number rises by one, and it stands unless that is below its vote
-module _ (n buckets now taken : ℕ) (p : ℕ) (log : Log) (ok : LogOk n now taken log) (s : Server) (agrees : ServerOk n buckets log p s)
+module _ (n buckets now taken p : ℕ) (log : Log) (ok : LogOk n now taken log) (s : Server) (agrees : ServerOk n buckets log p s)
     (follows : s .volatile .role ≡ follower) (idle : Idle (s .volatile)) (unset : (q : ℕ) → getD (s .volatile .votes) q false ≡ true → ⊥) where
   -- the server has won nothing above its number, and so opened no round above it
   not-above : (x : Win) → x ∈ log .wins → x .election ≡ s .stored .number + 1 → x .leader ≡ p → ⊥
@@ -287,7 +287,7 @@ ceased-unset : (w : Volatile) (q : ℕ) → getD (ceased w .votes) q false ≡ t
 unfolding ceased
 ceased-unset w q e = let z : _≡_ {A = ℕ} 0 1 = cc (List·getD-map (λ x. false) (w .votes) q false) in omega arith
 
-module _ (n buckets now taken : ℕ) (p : ℕ) (log : Log) (ok : LogOk n now taken log) (s : Server) (agrees : ServerOk n buckets log p s) where
+module _ (n buckets now taken p : ℕ) (log : Log) (ok : LogOk n now taken log) (s : Server) (agrees : ServerOk n buckets log p s) where
   -- the server ceases to lead or to stand, and then does the above
   pub elect-kept : Kept n buckets now taken p log (elect n p s)
   unfolding elect cease ceased standForElection

@@ -23,7 +23,7 @@ use Rattle.consistency.specs.Chaining.{unmoved}
 use Rattle.consistency.specs.Replying.{StoredOnly, unsettled-after, replied}
 use Rattle.consistency.specs.Storing.{heeded-stored, storing-keeps, acceptance, accept-stored, reporting, report-stored}
 
-module _ (n buckets now taken : ℕ) (p : ℕ) (log : Log) (ok : LogOk n now taken log) (s : Server) (agrees : ServerOk n buckets log p s)
+module _ (n buckets now taken p : ℕ) (log : Log) (ok : LogOk n now taken log) (s : Server) (agrees : ServerOk n buckets log p s)
     (m : Message) (here : m .receiver ≡ p) (good : MessageOk buckets log m) where
   -- a reply goes to another server, under the request's number
   reply-ok : (next : Log) (body : Body) → BodyOk buckets next (replyTo p m body) body → MessageOk buckets next (replyTo p m body)

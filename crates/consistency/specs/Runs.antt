@@ -9,7 +9,7 @@ use native.Mathlib.Numerals.{add-one}
 use lib.ListN.{length, getD, take, replicate, length-replicate}
 use Rattle.model.specs.Calls.{Answer}
 use Rattle.model.specs.Cluster.{freshCopy, freshServer, freshCluster, Cluster, Round, Call, Message}
-use Rattle.model.specs.Lines.{Line, cluster, elect, call, deliver, copy, lose, timeout, stop, State, Tally, initialState, Outcome, printed, LineResult, Work, serverAt, messageAt, dropAt, stoppedAt, lostMessage, deliveredTo, delivery, work, firstOf, conditions}
+use Rattle.model.specs.Lines.{Line, cluster, elect, call, deliver, copy, lose, timeout, stop, State, initialState, Outcome, printed, LineResult, Work, serverAt, messageAt, dropAt, stoppedAt, lostMessage, deliveredTo, delivery, work, firstOf, conditions}
 use Rattle.model.specs.Leader.{handle}
 use Rattle.model.specs.Parse.{parse}
 use Rattle.model.specs.Run.{step, stateAfter, outcomes}
@@ -292,10 +292,10 @@ Goes ls =
     → Measured (s .cluster) (s .tally) → RunOk now (s .cluster) count b log → Match bs es log
     → Leaves log now s ls (beginsFrom (now + 1) count b ls (outcomes s ls) ++ bs) (endsFrom (now + 1) (outcomes s ls) ++ es)
 
-ran-none : (now count b : ℕ) (o : Option Cluster) (t : Tally) (log : Log) (bs : List Begin) (es : List End) → Measured o t → RunOk now o count b log → Match bs es log → Ran o log bs es
-ran-none now count b none t log bs es m (e, f) same =
+ran-at : (now count b : ℕ) (o : Option Cluster) (log : Log) (bs : List Begin) (es : List End) → RunOk now o count b log → Match bs es log → Ran o log bs es
+ran-at now count b none log bs es (e, f) same =
     record { servers = 0; size = λ c e. let z : _≡_ {A = ℕ} 0 1 = cc in absurd (omega arith); now = 0; taken = 0; facts = rw e (empty-log-ok 0 0); same = same }
-ran-none now count b (some c) t log bs es m g same =
+ran-at now count b (some c) log bs es g same =
     record {
       servers = length (c .servers);
       size = λ d e. let f : c ≡ d = cc in ap (λ x. length (x .servers)) f;
@@ -306,7 +306,7 @@ ran-none now count b (some c) t log bs es m g same =
     }
 
 pub ran-of : {from : Log} {line : ℕ} {s : State} {ls : List (List ℕ)} {bs : List Begin} {es : List End} (h : Leaves from line s ls bs es) → Ran (stateAfter s ls .cluster) (h .log) bs es
-ran-of {s = s} {ls} h = ran-none (h .now) (h .count) (h .buckets) (stateAfter s ls .cluster) (stateAfter s ls .tally) (h .log) _ _ (h .measured) (h .agrees) (h .same)
+ran-of {s = s} {ls} h = ran-at (h .now) (h .count) (h .buckets) (stateAfter s ls .cluster) (h .log) _ _ (h .agrees) (h .same)
 
 -- a line later nothing has changed
 later-good : {now : ℕ} {c : Cluster} {log : Log} → Good now c log → Good (now + 1) c log

@@ -10,7 +10,6 @@ use lib.ListN.{length, getD, take, drop}
 use Rattle.model.specs.Calls.{Words, bucketFor}
 use Rattle.model.specs.Cluster.{Role, follower, candidate, leading, Message, Cluster, Call, callAt}
 use Rattle.model.specs.Leader.{Reaction, handle}
-use Rattle.model.specs.Leader
 use Rattle.model.specs.Lines.{Line, cluster, elect, call, deliver, copy, lose, timeout, stop, Tally, conditions, serverAt, messageAt, dropAt, stoppedAt, isLeading, present, byLine, lostMessage, deliveredTo, delivery, halted, work}
 use Rattle.history.specs.Members.{_∈_, none-in, each-append}
 use Rattle.limits.specs.Lists.{All, nil, cons, all-at}

@@ -1,4 +1,4 @@
--- What a majority is for, shown for every number of servers: any two of them share a server, and no smaller number of servers would do.
+-- Laws of majorities, for every number of servers. By the first any two majorities share a server (crates/history/specs/Quorum.antt).
 use Prim.Native.Nat.{ℕ, _*_, _≤_, _<_}
 use native.Mathlib.Omega.{arith}
 use Rattle.model.specs.Measures.{majority}

@@ -41,6 +41,12 @@ half-is-no-majority : run (bytes "cluster 4 1\nelect 0\ndeliver 0\ndeliver 2\nel
 unfolding computing
 half-is-no-majority = refl
 
+-- of four servers one refusal leaves a majority, and the round stays open; two do not, and the call ends
+refusals-that-leave-a-majority : run (bytes "cluster 4 1\nelect 0\ndeliver 0\ndeliver 0\ndeliver 1\ndeliver 1\nelect 3\nelect 3\ndeliver 5\ndeliver 5\nget 0 61\ndeliver 7\ndeliver 7\ndeliver 8\nget 0 61\ndeliver 8\n")
+    ≡ bytes "line 15 refused 9\n1 notdone 1\nmessages 18 0 10 0 8\n"
+unfolding computing
+refusals-that-leave-a-majority = refl
+
 -- of five servers two accepted the own write of call 1, one of them acknowledged it twice: no majority, and after the timeout the
 -- result is `unknown`, since the write was sent
 replies-of-one-server : run (bytes "cluster 5 1\nelect 0\ndeliver 0\ndeliver 0\ndeliver 2\ndeliver 2\nset 0 61 01\ndeliver 2\ndeliver 2\ndeliver 4\ndeliver 4\ndeliver 4\ndeliver 4\ndeliver 6\ndeliver 6\ndeliver 6\ndeliver 6\ndeliver 8\ndeliver 8\ndeliver 8\ncopy 11\ndeliver 11\ntimeout 0 0\n")

@@ -15,7 +15,7 @@ fn sizes() -> impl Iterator<Item = (u8, u8)> {
     (1..).zip(MAJORITIES)
 }
 
-/// A cluster of this size whose server 0 has its own vote and so many others.
+/// A cluster of this size whose server 0 has its own vote and that many others.
 fn voted(size: u8, others: u8) -> Bench {
     let mut bench = Bench::new(&format!("cluster {size} 1"));
     let voters: Vec<u8> = (1..=others).collect();
@@ -53,6 +53,7 @@ fn a_candidate_leads_from_a_majority_of_votes_on() {
 
 #[test]
 fn a_round_closes_with_a_majority_of_acknowledgements() {
+    // A server alone closes its rounds in the call's own line.
     for (size, least) in sizes().skip(1) {
         let mut bench = voted(size, least - 1);
         bench.quiet(&["get 0 61"]);
@@ -68,10 +69,11 @@ fn a_round_closes_with_a_majority_of_acknowledgements() {
 fn a_round_fails_when_refusals_leave_fewer_than_a_majority() {
     for (size, least) in sizes().skip(1) {
         let mut bench = voted(size, least - 1);
+        // Its second number is above the leader's: who votes under it refuses the leader's round.
         let rival = size - 1;
         bench.quiet(&[&format!("elect {rival}"), &format!("elect {rival}")]);
         for peer in 1..rival {
-            bench.deliver(PLEASEVOTE, rival, peer);
+            assert_eq!(bench.deliver(PLEASEVOTE, rival, peer), "");
         }
         bench.lose_all();
         bench.quiet(&["get 0 61"]);
