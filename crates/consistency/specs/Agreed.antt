@@ -36,6 +36,16 @@ leader-facts now count b (some c) log h p e = go (decLt p (length (c .servers)))
         (r .0, r .1)
     go (no l) = no-leader (ap (λ s. s .volatile .role) (beyond c p (omega arith))) e
 
+-- a number is never above its server's vote
+pub number-voted : (now count b : ℕ) (o : Option Cluster) (log : Log) → RunOk now o count b log → (p : ℕ) → serverOf o p .stored .number ≤ serverOf o p .stored .vote
+unfolding freshServer
+number-voted now count b none log h p = omega arith
+number-voted now count b (some c) log h p = go (decLt p (length (c .servers)))
+  where
+    go : Dec (p < length (c .servers)) → serverAt c p .stored .number ≤ serverAt c p .stored .vote
+    go (yes l) = h .0 .servers p l .stored .number
+    go (no l) = rw (beyond c p (omega arith)) (omega arith)
+
 -- what is stored is what the log says that was written
 pub copy-held : (now count b : ℕ) (o : Option Cluster) (log : Log) → RunOk now o count b log → (p k : ℕ)
     → Holds log k (copyAt (serverOf o p .stored) k .version) (copyAt (serverOf o p .stored) k .table)

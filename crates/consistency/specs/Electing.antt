@@ -4,16 +4,17 @@ use mathlib.Core.Logic.{_⊎_, inl, inr}
 use mathlib.Core.List.{List, [], _∷_, List·Memᴰ·tail}
 use mathlib.Core.Bool.{Bool, true, false}
 use mathlib.Core.Option.{Option, none}
-use Prim.Native.Nat.{ℕ, zero, suc, _+_, _≤_, _<_}
+use Prim.Native.Nat.{ℕ, zero, suc, _≤_, _<_}
 use native.Mathlib.Omega.{arith}
-use lib.Dec.{ltb, leb, eqb}
+use lib.Dec.{leb, eqb}
 use lib.ListN.{length, getD, set, length-set, List·getD-map}
-use borrow.Author.Tests.{ltb-true, ltb-false, leb-true, eqb-true}
+use borrow.Author.Tests.{leb-true, eqb-true}
 use Rattle.entries.specs.Entries.{Entry}
 use Rattle.model.specs.Measures.{majority}
 use Rattle.model.specs.Cluster.{Version, Copy, Stored, copyAt, Role, follower, candidate, leading, Round, Call, Volatile, Server, pleaseVote, ackVote, Message}
-use Rattle.model.specs.Replica.{voting, grants, afterVote}
-use Rattle.model.specs.Leader.{reaction, noReaction, withStored, withVolatile, broadcast, ceased, cease, votesFor, standing, standForElection, raised, elect, onAckVote}
+use Rattle.model.specs.Replica.{voting}
+use Rattle.model.specs.Leader.{noReaction, withStored, withVolatile, broadcast, ceased, cease, votesFor, standing, nextNumber, raisedTo, elect, onAckVote}
+use Rattle.model.proofs.Elections.{above-the-number, above-the-vote, stood, always-stands}
 use Rattle.history.specs.Members.{_∈_, first-in, none-in, each-cons}
 use Rattle.history.specs.Quorum.{count, marked, quorum-of, quorum-marked}
 use Rattle.consistency.specs.Log.{Win, Write, Opened, Log}
@@ -27,7 +28,7 @@ use Rattle.consistency.specs.Added.{adds-vote, adds-win}
 use Rattle.consistency.specs.Extend.{win-added}
 use Rattle.consistency.specs.Chaining.{unmoved, sending, grown-before, followed}
 use Rattle.consistency.specs.Ceasing.{as-unsettled, ceased-idle, cease-kept}
-use Rattle.consistency.specs.Voting.{vote-cases, freshVote, vote-stored, vote-fact}
+use Rattle.consistency.specs.Voting.{freshVote, vote-stored, vote-fact}
 
 -- ---- votes had
 
@@ -198,90 +199,47 @@ module _ (n buckets now taken p : ℕ) (log : Log) (ok : LogOk n now taken log) 
 
 -- ---- an election
 
--- a server that neither leads nor stands: its number rises by one, and it stands unless that is below its vote
+-- a server that neither leads nor stands takes a number e above its own and above its vote, votes for itself, and stands
 module _ (n buckets now taken p : ℕ) (log : Log) (ok : LogOk n now taken log) (s : Server) (agrees : ServerOk n buckets log p s)
-    (follows : s .volatile .role ≡ follower) (idle : Idle (s .volatile)) (unset : (q : ℕ) → getD (s .volatile .votes) q false ≡ true → ⊥) where
+    (idle : Idle (s .volatile)) (unset : (q : ℕ) → getD (s .volatile .votes) q false ≡ true → ⊥)
+    (e : ℕ) (over : s .stored .number < e) (fresh : s .stored .vote < e) where
   -- the server has won nothing above its number, and so opened no round above it
-  not-above : (x : Win) → x ∈ log .wins → x .election ≡ s .stored .number + 1 → x .leader ≡ p → ⊥
-  not-above x m e f = omega (arith, agrees .stored .wins x m f)
+  not-above : (x : Win) → x ∈ log .wins → x .election ≡ e → x .leader ≡ p → ⊥
+  not-above x m i f = omega (arith, agrees .stored .wins x m f)
 
-  no-round : (o : Opened) → o ∈ log .rounds → o .leader ≡ p → o .election ≡ s .stored .number + 1 → o .number ≤ s .volatile .lastRound
-  no-round o m e f = let w = ok .rounds .won o m in absurd (not-above (w .win) (w .had) (w .election ∙ f) (w .leader ∙ e))
+  no-round : (o : Opened) → o ∈ log .rounds → o .leader ≡ p → o .election ≡ e → o .number ≤ s .volatile .lastRound
+  no-round o m i f = let w = ok .rounds .won o m in absurd (not-above (w .win) (w .had) (w .election ∙ f) (w .leader ∙ i))
 
-  raised-stored : s .stored .number + 1 ≤ s .stored .vote → StoredOk log p (raised (s .stored))
-  raised-stored l =
-      let h = agrees .stored in
+  abbrev votedLog : Log
+  votedLog = addVote (freshVote p e p) log
+
+  abbrev voted : Stored
+  voted = voting e p (raisedTo e (s .stored))
+
+  may-stand : MayStand n buckets votedLog p (withStored s voted) (set (s .volatile .votes) p true)
+  may-stand =
       record {
-        number = l;
-        votes = h .votes;
-        voted = h .voted;
-        wins = λ x m e. omega (arith, h .wins x m e);
-        copies = h .copies;
-        accepts = h .accepts;
-        reports = h .reports;
-      }
-
-  raise-kept : s .stored .number + 1 < s .stored .vote → Kept n buckets now taken p log (noReaction (withStored s (raised (s .stored))))
-  raise-kept l =
-      unmoved ok (record {
         shape = record { copies = agrees .shape .copies; votes = agrees .shape .votes; rounds = agrees .shape .rounds; calls = agrees .shape .calls };
-        stored = raised-stored (omega arith);
+        stored = vote-stored p e p log (agrees .stored) e (omega arith) (omega arith) fresh;
         numbered = no-round;
-        role = rw follows idle;
-      }) [] (λ m k. none-in k)
-
-  -- it stands with its own vote alone, if it has that
-  own-vote : (next : Log) (st : Stored) (g : Bool) → StoredOk next p st → st .number ≡ s .stored .number + 1 → st .vote ≡ st .number → length (st .copies) ≡ buckets
-      → next .wins ≡ log .wins → next .rounds ≡ log .rounds
-      → (g ≡ true → record { server = p; election = st .number; leader = p } ∈ next .votes)
-      → MayStand n buckets next p (withStored s st) (set (s .volatile .votes) p g)
-  own-vote next st g h e v l w r own =
-      record {
-        shape = record { copies = l; votes = agrees .shape .votes; rounds = agrees .shape .rounds; calls = agrees .shape .calls };
-        stored = h;
-        numbered = λ o m i j. no-round o (rw r at m) i (j ∙ e);
         idle = idle;
-        vote = v;
+        vote = refl;
         positive = omega arith;
-        unwon = λ x m i j. not-above x (rw w at m) (i ∙ e) j;
-        each = length-set (s .volatile .votes) p g ∙ agrees .shape .votes;
-        had = λ q i. elim (vote-noted (s .volatile .votes) p g q i) [ inl k ↦ rw (k .0) (own (k .1)) | inr k ↦ absurd (unset q k) ];
+        unwon = not-above;
+        each = length-set (s .volatile .votes) p true ∙ agrees .shape .votes;
+        had = λ q i. elim (vote-noted (s .volatile .votes) p true q i) [ inl k ↦ rw (k .0) first-in | inr k ↦ absurd (unset q k) ];
       }
 
-  -- a vote that it gave itself before under its next number is in the log, since it has not won that number
-  voted-before : s .stored .number + 1 ≡ s .stored .vote → p ≡ s .stored .leader → record { server = p; election = s .stored .number + 1; leader = p } ∈ log .votes
-  voted-before e f = elim (agrees .stored .voted (omega arith)) [
-    | inl v ↦ rw (← e, ← f) at v
-    | inr w ↦ absurd (not-above (w .win) (w .had) (w .election ∙ sym e) (w .leader ∙ sym f))
-  ]
+  requests-ok : (next : Log) (m : Message) → m ∈ broadcast n p 0 e 0 pleaseVote → MessageOk buckets next m
+  requests-ok next = each-of-broadcast (MessageOk buckets next) n p 0 e 0 pleaseVote
+      (λ q d. record { apart = λ i. d (sym i); positive = omega arith; claim = tt })
 
-  requests-ok : (next : Log) (m : Message) → m ∈ broadcast n p 0 (s .stored .number + 1) 0 pleaseVote → MessageOk buckets next m
-  requests-ok next = each-of-broadcast (MessageOk buckets next) n p 0 (s .stored .number + 1) 0 pleaseVote
-      (λ q d. record { apart = λ e. d (sym e); positive = omega arith; claim = tt })
-
-  stand-kept : s .stored .vote ≤ s .stored .number + 1 → Kept n buckets now taken p log (standForElection n p (s .stored .number + 1) (withStored s (raised (s .stored))))
-  unfolding standForElection
-  stand-kept l = sending votes-for-itself _ (requests-ok _)
-    where
-      e : ℕ
-      e = s .stored .number + 1
-
-      votes-for-itself : Kept n buckets now taken p log (noReaction (record {
-        stored = afterVote e p (raised (s .stored));
-        volatile = standing n (set (s .volatile .votes) p (grants e p (raised (s .stored)))) (s .volatile);
-        stopped = s .stopped;
-      }))
-      votes-for-itself =
-          vote-cases e p (raised (s .stored))
-          (λ st g. Kept n buckets now taken p log (noReaction (record { stored = st; volatile = standing n (set (s .volatile .votes) p g) (s .volatile); stopped = s .stopped })))
-          (λ k.
-          let next = addVote (freshVote p e p) log in
-          grown-before (adds-vote log (freshVote p e p)) refl refl
-          (stands-kept n buckets now taken p next (vote-fact p e p log ok (agrees .stored) k) (withStored s (voting e p (raised (s .stored)))) _
-          (own-vote next _ true (vote-stored p e p log (agrees .stored) e (omega arith) (omega arith) k) refl refl (agrees .shape .copies) refl refl (λ i. first-in))))
-          (λ k g again.
-          stands-kept n buckets now taken p log ok (withStored s (raised (s .stored))) _
-          (own-vote log _ g (raised-stored k) refl (omega arith) (agrees .shape .copies) refl refl (λ i. voted-before (again i .0) (again i .1))))
+  stand-kept : Kept n buckets now taken p log (stood n p e (withStored s voted))
+  stand-kept =
+      sending
+      (grown-before (adds-vote log (freshVote p e p)) refl refl
+      (stands-kept n buckets now taken p votedLog (vote-fact p e p log ok (agrees .stored) fresh) (withStored s voted) _ may-stand))
+      _ (requests-ok _)
 
 ceased-unset : (w : Volatile) (q : ℕ) → getD (ceased w .votes) q false ≡ true → ⊥
 unfolding ceased
@@ -290,24 +248,10 @@ ceased-unset w q e = let z : _≡_ {A = ℕ} 0 1 = cc (List·getD-map (λ x. fal
 module _ (n buckets now taken p : ℕ) (log : Log) (ok : LogOk n now taken log) (s : Server) (agrees : ServerOk n buckets log p s) where
   -- the server ceases to lead or to stand, and then does the above
   pub elect-kept : Kept n buckets now taken p log (elect n p s)
-  unfolding elect cease ceased standForElection
-  elect-kept = go (ltb (s .stored .number + 1) (s .stored .vote)) refl
-    where
-      k : Kept n buckets now taken p log (cease s)
-      k = cease-kept n buckets now taken p log ok s (as-unsettled agrees)
-
-      idle : Idle (cease s .server .volatile)
-      idle = ceased-idle (s .volatile)
-
-      unset : (q : ℕ) → getD (cease s .server .volatile .votes) q false ≡ true → ⊥
-      unset = ceased-unset (s .volatile)
-
-      go : (t : Bool) → ltb (s .stored .number + 1) (s .stored .vote) ≡ t → Kept n buckets now taken p log (
-          let f = cease s in
-          let r = withStored (f .server) (raised (s .stored)) in
-          elim t [
-            | true ↦ reaction r [] (f .answers)
-            | false ↦ let g = standForElection n p (s .stored .number + 1) r in reaction (g .server) (g .sends) (f .answers)
-          ])
-      go true e = followed k (raise-kept n buckets now taken p (k .next) (k .facts) (cease s .server) (k .server) refl idle unset (ltb-true _ _ e))
-      go false e = followed k (stand-kept n buckets now taken p (k .next) (k .facts) (cease s .server) (k .server) refl idle unset (ltb-false _ _ e))
+  unfolding cease ceased
+  elect-kept =
+      let k : Kept n buckets now taken p log (cease s) = cease-kept n buckets now taken p log ok s (as-unsettled agrees) in
+      rw (always-stands n p s)
+      (followed k
+      (stand-kept n buckets now taken p (k .next) (k .facts) (cease s .server) (k .server) (ceased-idle (s .volatile)) (ceased-unset (s .volatile))
+      (nextNumber (s .stored)) (above-the-number (s .stored)) (above-the-vote (s .stored))))

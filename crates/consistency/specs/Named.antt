@@ -5,12 +5,12 @@ use mathlib.Core.Path.{_≡_, refl, sym, _∙_, ap, subst, subst⁻¹}
 use mathlib.Core.List.{List, [], _∷_, _++_, map, append-nil, Memᴰ·map, Memᴰ·of-map}
 use mathlib.Core.Bool.{true, false}
 use lib.Dec.{ltb}
-use Prim.Native.Nat.{ℕ, _≤_}
+use Prim.Native.Nat.{ℕ, _+_, _≤_}
 use native.Mathlib.Omega.{arith}
 use Rattle.entries.specs.Entries.{Entry}
 use Rattle.model.specs.Cluster.{Version, Stored, copyAt, Role, follower, candidate, leading, Server, Message, ackWrite}
 use Rattle.model.specs.Replica.{voting, writing, mayAccept, storing, accepting, acknowledging}
-use Rattle.model.specs.Leader.{Reaction, noReaction, cease, withStored, replyTo, stepDown, onRequest}
+use Rattle.model.specs.Leader.{Reaction, noReaction, cease, withStored, nextNumber, replyTo, stepDown, onRequest}
 use Rattle.model.specs.Lines.{initialState}
 use Rattle.model.specs.Run.{stateAfter}
 use Rattle.history.specs.Version.{_≼_, lt-not-le}
@@ -21,7 +21,7 @@ use Rattle.consistency.specs.Storing.{storing-cases}
 use Rattle.consistency.specs.OneTable.{one-table}
 use Rattle.consistency.specs.Onward.{Onward}
 use Rattle.consistency.specs.Reached.{serverIn, LeadsIn, lines-onward, after-both}
-use Rattle.consistency.specs.Agreed.{leader-facts, copy-held, reached, goes-on}
+use Rattle.consistency.specs.Agreed.{leader-facts, number-voted, copy-held, reached, goes-on}
 use Rattle.consistency.specs.Runs.{beginOf, endOf, ran-of, script-leaves}
 
 -- ---- at most one leader under an election number
@@ -40,6 +40,16 @@ one-leader-ever ls ms p q e (r, i) then =
 -- in one state
 pub one-leader : (ls : List (List ℕ)) (p q e : ℕ) → LeadsIn (stateAfter initialState ls) p e → LeadsIn (stateAfter initialState ls) q e → p ≡ q
 one-leader ls p q e a b = one-leader-ever ls [] p q e a (rw (append-nil ls) b)
+
+-- ---- election numbers
+
+-- a server that stands votes for itself, so its number is never above its vote, and its next election is one above the vote
+pub elected-above-the-vote : (ls : List (List ℕ)) (p : ℕ) → let st = serverIn (stateAfter initialState ls) p .stored in nextNumber st ≡ st .vote + 1
+unfolding nextNumber
+elected-above-the-vote ls p =
+    let h = script-leaves ls in
+    let l = number-voted (h .now) (h .count) (h .buckets) (reached ls .cluster) (h .log) (h .agrees) p in
+    omega arith
 
 -- ---- a server that ceased to lead under a number never leads under it again
 

@@ -6,7 +6,7 @@ use mathlib.Core.Logic.{_⊎_, inl, inr}
 use mathlib.Core.List.{List, [], _∷_}
 use mathlib.Core.Bool.{Bool, true, false}
 use mathlib.Core.Option.{Option, none, some}
-use Prim.Native.Nat.{ℕ, zero, suc, _+_, _≤_}
+use Prim.Native.Nat.{ℕ, zero, suc, _≤_}
 use native.Mathlib.Omega.{arith}
 use lib.Dec.{ltb, eqb}
 use lib.ListN.{length, getD, set}
@@ -14,8 +14,9 @@ use Rattle.entries.specs.Entries.{Entry}
 use Rattle.model.specs.Calls.{Words, Result, done, Effect, answers, writes, effect}
 use Rattle.model.specs.Cluster.{Version, version, Copy, freshCopy, Stored, copyAt, Role, follower, candidate, leading, Purpose, recoveryRead, recoveryWrite, check, ownWrite, Mark, acknowledged, refused, Round, Volatile, roundAt, callAt, Server, Body, pleaseVote, ackVote, nackVote, replicaWrite, ackWrite, nackWrite, replicaRead, ackRead, nackRead, Message}
 use Rattle.model.specs.Replica.{afterVote, Request, reading, writing, mayAccept, storing, accepting, acknowledging, refusing}
-use Rattle.model.specs.Leader.{Reaction, reaction, noReaction, after, withStored, withRound, endings, cease, stepDown, standing, standForElection, elect, onAckVote, closes, fails, newRound, opening, openRound, answerOf, finish, applying, afterRead, checking, recovering, startRead, beginCall, closed, counted, counting, onReply, onPleaseVote, onRequest, handle}
+use Rattle.model.specs.Leader.{Reaction, reaction, noReaction, after, withStored, withRound, endings, cease, stepDown, standing, elect, onAckVote, closes, fails, newRound, opening, openRound, answerOf, finish, applying, afterRead, checking, recovering, startRead, beginCall, closed, counted, counting, onReply, onPleaseVote, onRequest, handle}
 use Rattle.model.specs.Leader
+use Rattle.model.proofs.Elections.{above-the-number, always-stands}
 use Rattle.history.specs.Version.{_≼_, le-refl, le-trans, le-of-lt}
 use Rattle.consistency.specs.Storing.{storing-cases}
 
@@ -188,19 +189,10 @@ step-down-goes s st h ms =
     ]
 
 pub elect-goes : (n me : ℕ) (s : Server) → Goes s (elect n me s)
-unfolding elect standForElection cease
-elect-goes n me s = go (ltb (s .stored .number + 1) (s .stored .vote))
-  where
-    go : (t : Bool) → Goes s (elim t [
-      | true ↦ reaction (withStored (cease s .server) (Leader.raised (s .stored))) [] (endings (s .volatile .calls))
-      | false ↦
-          reaction (standForElection n me (s .stored .number + 1) (withStored (cease s .server) (Leader.raised (s .stored))) .server)
-          (standForElection n me (s .stored .number + 1) (withStored (cease s .server) (Leader.raised (s .stored))) .sends) (endings (s .volatile .calls))
-    ])
-    go true = record { onward = record { number = omega arith; role = λ e. absurd (omega arith); copies = λ k. le-refl _ }; answers = inr refl }
-    go false =
-        let h = vote-renews (s .stored .number + 1) me (Leader.raised (s .stored)) in
-        record { onward = record { number = omega (arith, h .number); role = λ e. absurd (omega (arith, h .number)); copies = h .copies }; answers = inr refl }
+unfolding cease
+elect-goes n me s =
+    let up = above-the-number (s .stored) in
+    rw (always-stands n me s) (record { onward = record { number = omega arith; role = λ e. absurd (omega arith); copies = λ k. le-refl _ }; answers = inr refl })
 
 ackvote-goes : (n q e : ℕ) (s : Server) → Goes s (onAckVote n q e s)
 unfolding onAckVote

@@ -11,7 +11,7 @@ use Rattle.model.specs.Cluster.{Copy, freshCopy, copyAt, leading, Server, Messa
 use Rattle.model.specs.Leader.{handle}
 use Rattle.model.specs.Lines.{Line, cluster, elect, call, deliver, copy, lose, timeout, stop, State, LineResult, Work, serverAt, messageAt, dropAt, stoppedAt, lostMessage, deliveredTo, delivery, work}
 use Rattle.model.specs.Parse.{parse}
-use Rattle.model.specs.Run.{step, stateAfter}
+use Rattle.model.specs.Run.{step, stateAfter, stateAfterUpTo}
 use Rattle.history.specs.Version.{_≼_, le-refl}
 use Rattle.limits.specs.Refusals.{ComesOut, refused-by, founded, took, comes-out}
 use Rattle.consistency.specs.Onward.{Onward, onward-refl, onward-trans, set-either, beginCall-moves, cease-goes, elect-goes, handle-goes}
@@ -77,11 +77,11 @@ line-onward s o x (took c l i e f room) p = subst⁻¹ (λ k. Onward (serverOf k
 -- ---- lists of lines
 
 pub lines-onward : (s : State) (ls : List (List ℕ)) (p : ℕ) → Onward (serverIn s p) (serverIn (stateAfter s ls) p)
-unfolding stateAfter
+unfolding stateAfterUpTo
 lines-onward s [] p = onward-refl _
 lines-onward s (l ∷ ls) p = onward-trans (line-onward s (parse l) (step s l) (comes-out s l) p) (lines-onward (step s l .state) ls p)
 
 pub after-both : (s : State) (ls ms : List (List ℕ)) → stateAfter s (ls ++ ms) ≡ stateAfter (stateAfter s ls) ms
-unfolding stateAfter
+unfolding stateAfterUpTo
 after-both s [] ms = refl
 after-both s (l ∷ ls) ms = after-both (step s l .state) ls ms

@@ -9,10 +9,10 @@ use native.Mathlib.Numerals.{add-one}
 use lib.ListN.{length, getD, take, replicate, length-replicate}
 use Rattle.model.specs.Calls.{Answer}
 use Rattle.model.specs.Cluster.{freshCopy, freshServer, freshCluster, Cluster, Round, Call, Message}
-use Rattle.model.specs.Lines.{Line, cluster, elect, call, deliver, copy, lose, timeout, stop, State, initialState, Outcome, printed, LineResult, Work, serverAt, messageAt, dropAt, stoppedAt, lostMessage, deliveredTo, delivery, work, firstOf, conditions}
+use Rattle.model.specs.Lines.{Line, cluster, elect, call, deliver, copy, lose, timeout, stop, State, initialState, Outcome, printed, LineResult, Work, serverAt, messageAt, dropAt, stoppedAt, lostMessage, deliveredTo, delivery, work, firstOf, conditions, conditionsUpTo}
 use Rattle.model.specs.Leader.{handle}
 use Rattle.model.specs.Parse.{parse}
-use Rattle.model.specs.Run.{step, stateAfter, outcomes}
+use Rattle.model.specs.Run.{step, stateAfter, stateAfterUpTo, outcomes, outcomesUpTo}
 use Rattle.history.specs.Members.{_∈_, none-in, each-append}
 use Rattle.limits.specs.Tally.{none-applies}
 use Rattle.limits.specs.Refusals.{ComesOut, refused-by, founded, took, comes-out}
@@ -235,7 +235,7 @@ line-read : (now : ℕ) (c : Cluster) (l : List ℕ) (x : Line) (ls : List (List
     → parse l ≡ some x → firstOf (conditions c x) ≡ none
     → beginsFrom now (c .calls) (c .buckets) (l ∷ ls) (printed out ∷ os)
     ≡ map beginOf (begunBy now c x) ++ beginsFrom (now + 1) (work c x .cluster .calls) (work c x .cluster .buckets) ls os
-unfolding beginsFrom begunBy work meaning conditions firstOf
+unfolding beginsFrom begunBy work meaning conditionsUpTo firstOf
 line-read now c l (cluster n b) ls out os e f = let z : _≡_ {A = ℕ} 0 1 = cc in absurd (omega arith)
 line-read now c l (elect s) ls out os e f = rw (beginsFrom, e)
 line-read now c l (call s w) ls out os e f = rw (beginsFrom, e)
@@ -341,7 +341,7 @@ passed-later e h = record { log = h .log; grows = h .grows; now = h .now; count 
 -- one line before the others
 leaves-cons : {from : Log} {line : ℕ} (count b : ℕ) {s : State} {l : List ℕ} {ls : List (List ℕ)} {bs : List Begin} {es : List End} → RunOk line (s .cluster) count b from
     → Leaves from (line + 1) (step s l .state) ls bs es → Leaves from line s (l ∷ ls) bs es
-unfolding stateAfter
+unfolding stateAfterUpTo
 leaves-cons {line = line} count b {s} {l} {ls} h r =
     record {
       log = r .log;
@@ -398,7 +398,7 @@ module _ (ls : List (List ℕ)) (goes : Goes ls) (l : List ℕ) (now count b : �
   line-goes x (took c y p e f room) w = took-goes c y p e f _ refl w
 
 pub run-goes : (ls : List (List ℕ)) → Goes ls
-unfolding beginsFrom endsFrom outcomes stateAfter
+unfolding beginsFrom endsFrom outcomesUpTo stateAfterUpTo
 run-goes [] now count b s log bs es m h same =
     record { log = log; grows = grows-refl log; now = now; count = count; buckets = b; measured = m; agrees = h; same = same; passed = go }
   where

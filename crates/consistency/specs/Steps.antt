@@ -10,7 +10,7 @@ use lib.ListN.{length, getD, take, drop}
 use Rattle.model.specs.Calls.{Words, bucketFor}
 use Rattle.model.specs.Cluster.{Role, follower, candidate, leading, Message, Cluster, Call, callAt}
 use Rattle.model.specs.Leader.{Reaction, handle}
-use Rattle.model.specs.Lines.{Line, cluster, elect, call, deliver, copy, lose, timeout, stop, Tally, conditions, serverAt, messageAt, dropAt, stoppedAt, isLeading, present, byLine, lostMessage, deliveredTo, delivery, halted, work}
+use Rattle.model.specs.Lines.{Line, cluster, elect, call, deliver, copy, lose, timeout, stop, Tally, conditions, conditionsUpTo, serverAt, messageAt, dropAt, stoppedAt, isLeading, present, byLine, lostMessage, deliveredTo, delivery, halted, work}
 use Rattle.history.specs.Members.{_∈_, none-in, each-append}
 use Rattle.limits.specs.Lists.{All, nil, cons, all-at}
 use Rattle.limits.specs.Tally.{message-there}
@@ -182,7 +182,7 @@ module _ {now : ℕ} {c : Cluster} {log : Log} {t : Tally} (stands : Stands c t)
       (message-in (c .messages) i _ h, omega (arith, w .size))
 
   pub line-good : (l : Line) → All (λ x. x .applies ≡ false) (conditions c l) → LineGood now c log l
-  unfolding conditions work begunBy
+  unfolding conditionsUpTo work begunBy
   line-good (cluster x y) (cons p nil) = let z : _≡_ {A = ℕ} 0 1 = cc in absurd (omega arith)
   line-good (elect s) (cons e h) = elect-good s (server-there c s e)
   line-good (call s w) (cons e (cons f (cons g (cons h (cons i (cons j nil)))))) =

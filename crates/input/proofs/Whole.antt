@@ -11,7 +11,7 @@ use borrow.Author.Tests.{lt-ltb, le-ltb, lt-leb}
 use Rattle.model.specs.Measures.{maxLines, maxLineBytes}
 use Rattle.model.specs.Lines.{State, initialState, LineResult, refusal}
 use Rattle.model.specs.Parse.{parse}
-use Rattle.model.specs.Run.{step, stateAfter, lastLine, linesFrom, linesOf, printedFrom, run}
+use Rattle.model.specs.Run.{step, stepUpTo, stateAfter, stateAfterUpTo, lastLine, linesFrom, linesOf, printedFrom, run}
 use Rattle.input.specs.Reading.{Reading, reading, start, kept, keptAll, ended, endedText, byteRead, byteText, fed, fedText}
 use Rattle.input.specs.Reading.{fedParts, fedPartsText, lastRead, lastText, finished, finishedText}
 use Rattle.input.proofs.Parts.{fed-append, fedText-append, kept-more, kept-no-more, keptAll-append, past-kept, past-silent}
@@ -46,8 +46,8 @@ kept-some l h = go (decLe (length l) 121)
 -- ---- so a line and what is kept of it do the same
 
 step-long : (s : State) (l : List ℕ) → 120 < length l → step s l ≡ record { state = s; outcome = refusal 1 }
-unfolding step parse
-step-long s l h = rw (step, parse, lt-leb (length l) maxLineBytes h)
+unfolding stepUpTo parse
+step-long s l h = rw (stepUpTo, parse, lt-leb (length l) maxLineBytes h)
 
 pub step-kept : (s : State) (l : List ℕ) → step s (keptAll [] l) ≡ step s l
 step-kept s l = go (decLe (length l) 120)
@@ -86,7 +86,7 @@ record Agrees (r : Reading) (left : ℕ) (w input : List ℕ) : Type 0 where
   reached : finished (fed r input) .state ≡ stateAfter (r .state) (take left (linesFrom w input))
 
 agrees-past : (r : Reading) (w input : List ℕ) → maxLines ≤ r .lines → Agrees r 0 w input
-unfolding finished finishedText printedFrom stateAfter
+unfolding finished finishedText printedFrom stateAfterUpTo
 agrees-past r w input h =
     record {
       printed = rw (past-silent r input h, past-kept r input h, last-none r (r .line) h .1, last-none r (r .line) h .0);
@@ -98,7 +98,7 @@ take-none zero = refl
 take-none (suc n) = refl
 
 agrees-end : (r : Reading) (n : ℕ) (w : List ℕ) → r .lines < maxLines → r .line ≡ keptAll [] (reverse w) → Agrees r (suc n) w []
-unfolding fed fedText finished finishedText linesFrom lastLine printedFrom stateAfter keptAll
+unfolding fed fedText finished finishedText linesFrom lastLine printedFrom stateAfterUpTo keptAll
 agrees-end r n [] h k =
     record {
       printed = rw (last-empty r (r .line) k .1, last-empty r (r .line) k .0);
@@ -118,7 +118,7 @@ agrees-end r n (c ∷ w) h k =
 
 -- a line feed, and any other byte
 agrees-ended : (r : Reading) (n : ℕ) (w : List ℕ) (b : ℕ) (l : List ℕ) → r .lines < maxLines → eqb b 10 ≡ true → r .line ≡ keptAll [] (reverse w) → Agrees (ended r) n [] l → Agrees r (suc n) w (b ∷ l)
-unfolding fed fedText linesFrom printedFrom stateAfter
+unfolding fed fedText linesFrom printedFrom stateAfterUpTo
 agrees-ended r n w b l h e k a =
     record {
       printed =

@@ -1,5 +1,5 @@
 -- Every line keeps the measures, so every run does: `within-always`.
-use mathlib.Core.Path.{_≡_, refl, sym, ap, subst}
+use mathlib.Core.Path.{_≡_, refl, sym, ap, subst, _∙_}
 use mathlib.Core.List.{List, [], _∷_}
 use mathlib.Core.Bool.{Bool, true, false, not}
 use mathlib.Core.Option.{Option, none, some}
@@ -15,14 +15,15 @@ use Rattle.table.proofs.Fitting.{within-parts}
 use Rattle.model.specs.Measures.{maxServers, maxBuckets, maxMessages, maxAccepted, maxElection}
 use Rattle.model.specs.Calls.{Words, get, set, setif, del, keys, bucketFor}
 use Rattle.model.specs.Cluster.{Role, follower, Round, Call, Message, Cluster, freshServer, freshCluster, freshCopy}
-use Rattle.model.specs.Leader.{Reaction, ceased}
-use Rattle.model.specs.Lines.{Line, cluster, elect, call, deliver, copy, lose, timeout, stop, State, initialState, Tally, firstOf, conditions, either, noServer, noBucket, noBucketFor, badKey, badValue, badWords, limitReached, stoppedAt, isLeading, lastNumber, serverAt, dropAt, Work, afterStep, byLine, lostMessage, delivery, work, tallied, LineResult}
+use Rattle.model.specs.Leader.{Reaction, ceased, largerNumber, nextNumber}
+use Rattle.model.proofs.Elections.{eleven-above-the-top}
+use Rattle.model.specs.Lines.{Line, cluster, elect, call, deliver, copy, lose, timeout, stop, State, initialState, Tally, firstOf, conditions, conditionsUpTo, either, noServer, noBucket, noBucketFor, badKey, badValue, badWords, limitReached, stoppedAt, isLeading, lastNumber, serverAt, dropAt, Work, afterStep, byLine, lostMessage, delivery, work, tallied, LineResult}
 use Rattle.model.specs.Parse.{parse}
-use Rattle.model.specs.Run.{step, stateAfter}
+use Rattle.model.specs.Run.{step, stateAfter, stateAfterUpTo}
 use Rattle.limits.specs.Lists.{All, nil, cons, all-head, all-tail, all-imply, all-append, all-take, all-drop, all-set, all-at, all-replicate, map-replicate}
 use Rattle.limits.specs.Refusals.{ComesOut, refused-by, founded, took, comes-out}
 use Rattle.limits.specs.Tally.{none-applies, message-there, work-counts}
-use Rattle.limits.specs.Measures.{limitsAfter, KeySized, WordsSized, idle, ServerWithin, MessageWithin, AnswersWithin, endings, ReactionWithin, ClusterWithin, Grows, next-line, server-grows, message-grows}
+use Rattle.limits.specs.Measures.{limitsAfter, one-above-within, KeySized, WordsSized, idle, ServerWithin, MessageWithin, AnswersWithin, endings, ReactionWithin, ClusterWithin, Grows, next-line, server-grows, message-grows}
 use Rattle.limits.specs.Tables.{fresh-copy-within}
 use Rattle.limits.specs.Rules.{role-elected, cease-within, elect-within, beginCall-within, handle-within}
 
@@ -164,14 +165,16 @@ module _ (n b k : ℕ) (c : Cluster) (bLow : 1 ≤ b) (w : ClusterWithin n b k c
   named : (s : ℕ) → noServer c s ≡ false → s < n
   named s e = omega (arith, server-there c s e, w .size)
 
-  elect-taken : (s : ℕ) → noServer c s ≡ false → lastNumber c s ≡ false → Taken n b k (work c (elect s))
-  unfolding work lastNumber
+  elect-taken : (s : ℕ) → noServer c s ≡ false → lastNumber maxElection c s ≡ false → Taken n b k (work c (elect s))
+  unfolding work nextNumber
   elect-taken s e f =
+      let st = serverAt c s .stored in
       let old = server-before s (named s e) .stored in
-      let below-last = leb-false maxElection (serverAt c s .stored .number) f in
+      let larger : largerNumber st ≤ limitsAfter k (c .calls) .elections = omega (arith, old .number, old .vote) in
+      let low = ltb-false maxElection (nextNumber st) (sym (eleven-above-the-top maxElection c s) ∙ f) in
       rw (w .size)
       (byLine-taken s _ same-calls
-      (elect-within n b (limitsAfter (k + 1) (c .calls)) s _ (named s e) bLow (omega arith) (omega arith) (server-at s same-calls (named s e))))
+      (elect-within n b (limitsAfter (k + 1) (c .calls)) s _ (named s e) bLow (one-above-within k (c .calls) (largerNumber st) (w .calls) larger low) (server-at s same-calls (named s e))))
 
   call-taken : (s : ℕ) (x : Words) → noServer c s ≡ false → noBucketFor c x ≡ false → badWords x ≡ false →
       not (isLeading (serverAt c s .volatile .role)) ≡ false → Taken n b k (work c (call s x))
@@ -180,7 +183,7 @@ module _ (n b k : ℕ) (c : Cluster) (bLow : 1 ≤ b) (w : ClusterWithin n b k c
       let old = server-before s (named s e) in
       let acting = leader-acts _ h in
       let number = role-elected _ _ acting (old .frame .standing) in
-      let line = old .stored .lines in
+      let low = old .stored .number in
       let more : CallsAfter (c .calls + 1) = record { from = omega arith; to = omega arith; elected = λ y. omega arith } in
       let bucket : bucketFor (c .buckets) x < b = omega (arith, bucket-less c x (omega (arith, w .buckets)) f, w .buckets) in
       let same-bucket = ap (λ z. bucketFor z x) (sym (w .buckets)) in
@@ -200,7 +203,7 @@ module _ (n b k : ℕ) (c : Cluster) (bLow : 1 ≤ b) (w : ClusterWithin n b k c
       (record { server = record { stored = y .stored; frame = y .frame; slots = y .slots; resting = y .resting }; sends = nil; answers = endings {out = []} (omega arith) nil })
 
   work-within : (l : Line) → All (λ x. x .applies ≡ false) (conditions c l) → Taken n b k (work c l)
-  unfolding conditions work
+  unfolding conditionsUpTo work
   work-within (cluster x y) (cons p nil) = let z : _≡_ {A = ℕ} 0 1 = cc in absurd (omega arith)
   work-within (elect s) (cons e (cons f (cons g (cons h nil)))) = elect-taken s e h
   work-within (call s x) (cons e (cons f (cons g (cons h (cons i (cons j nil)))))) =
@@ -213,7 +216,7 @@ module _ (n b k : ℕ) (c : Cluster) (bLow : 1 ≤ b) (w : ClusterWithin n b k c
   work-within (stop s) (cons e (cons f (cons g nil))) = stop-taken s e
 
 not-spent : (c : Cluster) (l : Line) → All (λ x. x .applies ≡ false) (conditions c l) → c .accepted < maxAccepted
-unfolding conditions limitReached
+unfolding conditionsUpTo limitReached
 not-spent c (cluster x y) (cons p nil) = let z : _≡_ {A = ℕ} 0 1 = cc in absurd (omega arith)
 not-spent c (elect s) h = leb-false _ _ (all-head (all-tail h))
 not-spent c (call s x) h = leb-false _ _ (all-head (all-tail (all-tail h)))
@@ -252,7 +255,7 @@ fresh-server-within : (n b : ℕ) → 1 ≤ n → ServerWithin n b (limitsAfter 
 unfolding freshServer ceased
 fresh-server-within n b h =
     record {
-      stored = record { number = omega arith; vote = omega arith; lines = omega arith; leader = omega arith; size = length-replicate b _; copies = all-replicate b freshCopy (fresh-copy-within _) };
+      stored = record { number = omega arith; vote = omega arith; leader = omega arith; size = length-replicate b _; copies = all-replicate b freshCopy (fresh-copy-within _) };
       frame = record { votes = length-replicate n _; rounds = length-replicate b _; calls = length-replicate b _; lastRound = omega arith; standing = tt };
       slots = λ i d. rw (getD-replicate {A = Option Round} b i none none d, getD-replicate {A = Option Call} b i none none d) idle;
       resting = λ e. simp map-replicate;
@@ -316,7 +319,7 @@ line-keeps-measures s o x (took c l i e f room) h = stands-on c (s .tally) l (su
 
 pub measured-on : (s : State) (ls : List (List ℕ)) → Measured (s .cluster) (s .tally) →
     Measured (stateAfter s ls .cluster) (stateAfter s ls .tally)
-unfolding stateAfter
+unfolding stateAfterUpTo
 measured-on s [] h = h
 measured-on s (l ∷ ls) h = measured-on (step s l .state) ls (line-keeps-measures s (parse l) (step s l) (comes-out s l) h)
 

@@ -5,7 +5,7 @@ use mathlib.Core.List.{List, [], _∷_}
 use mathlib.Core.Bool.{true}
 use mathlib.Core.Option.{Option, none, some}
 use mathlib.Core.Logic.{_≢_}
-use Prim.Native.Nat.{ℕ, _+_, _*_, _≤_, _<_, min}
+use Prim.Native.Nat.{ℕ, _+_, _-_, _*_, _≤_, _<_, min}
 use native.Mathlib.Omega.{arith}
 use lib.ListN.{length}
 use Rattle.entries.specs.Entries.{Entry}
@@ -17,17 +17,20 @@ use Rattle.model.specs.Replica.{Request, reading, writing}
 use Rattle.model.specs.Leader.{Reaction, ceased}
 use Rattle.limits.specs.Lists.{All, all-imply}
 
--- the accepted lines, the greatest election number, the greatest round number and counter, and the greatest number of
--- a call
+-- the greatest election number, the greatest round number and counter, and the greatest number of a call
 pub record Limits : Type 0 where
-  pub lines : ℕ
   pub elections : ℕ
   pub rounds : ℕ
   pub calls : ℕ
 
--- after k accepted lines: a line raises a server's number by at most one, and makes at most four rounds
+-- after k accepted lines: a line makes a call, or raises the greatest number in the cluster by at most one; it makes at
+-- most four rounds
 abbrev pub limitsAfter : ℕ → ℕ → Limits
-limitsAfter k calls = record { lines = k; elections = min k maxElection; rounds = 4 * k; calls = calls }
+limitsAfter k calls = record { elections = min (k - calls) maxElection; rounds = 4 * k; calls = calls }
+
+-- one above a number within the limits is within them after a line that makes no call, unless it is above the greatest
+pub one-above-within : (k calls e : ℕ) → calls ≤ k → e ≤ limitsAfter k calls .elections → e + 1 ≤ maxElection → e + 1 ≤ limitsAfter (k + 1) calls .elections
+one-above-within k calls e h l top = omega arith
 
 -- ---- copies. `q` is the number of rounds that may still be made in the same line: at rest it is 0
 
@@ -43,11 +46,9 @@ pub record CopyWithin (l : Limits) (q : ℕ) (c : Copy) : Type 0 where
   pub empty : c .version .election ≡ 0 → c .table ≡ []
   pub fitting : Fits (c .table)
 
--- `lines`: a line that raises a server's number makes no call
 pub record StoredWithin (n b : ℕ) (l : Limits) (q : ℕ) (st : Stored) : Type 0 where
   pub number : st .number ≤ l .elections
   pub vote : st .vote ≤ l .elections
-  pub lines : st .number + l .calls ≤ l .lines
   pub leader : st .leader < n
   pub size : length (st .copies) ≡ b
   pub copies : All (CopyWithin l q) (st .copies)
@@ -208,13 +209,12 @@ pub record ClusterWithin (n b k : ℕ) (c : Cluster) : Type 0 where
 
 -- ---- everything survives greater limits
 
--- m is no less than l, and leaves p rounds where l leaves q; it has one line more for each call more
+-- m is no less than l, and leaves p rounds where l leaves q
 pub record Grows (l : Limits) (q : ℕ) (m : Limits) (p : ℕ) : Type 0 where
   pub elections : l .elections ≤ m .elections
   pub rounds : l .rounds ≤ m .rounds
   pub slack : l .rounds + p ≤ m .rounds + q
   pub calls : l .calls ≤ m .calls
-  pub lines : m .calls + l .lines ≤ m .lines + l .calls
 
 -- fewer rounds left under the same limits
 pub fewer : (l : Limits) (q p : ℕ) → p ≤ q → Grows l q l p
@@ -230,7 +230,7 @@ module _ {l : Limits} {q : ℕ} {m : Limits} {p : ℕ} (g : Grows l q m p) where
   copy-grows c w = record { election = omega arith; counter = omega arith; unwritten = w .unwritten; written = w .written; empty = w .empty; fitting = w .fitting }
 
   pub stored-grows : {n b : ℕ} {st : Stored} → StoredWithin n b l q st → StoredWithin n b m p st
-  stored-grows w = record { number = omega arith; vote = omega arith; lines = omega arith; leader = w .leader; size = w .size; copies = all-imply copy-grows (w .copies) }
+  stored-grows w = record { number = omega arith; vote = omega arith; leader = w .leader; size = w .size; copies = all-imply copy-grows (w .copies) }
 
   pub frame-grows : {n b number : ℕ} {v : Volatile} → FrameWithin n b l q number v → FrameWithin n b m p number v
   frame-grows w = record { votes = w .votes; rounds = w .rounds; calls = w .calls; lastRound = omega arith; standing = w .standing }

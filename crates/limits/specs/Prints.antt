@@ -5,7 +5,7 @@ use mathlib.Core.List.{List, [], _∷_, _++_, append-assoc}
 use Prim.Native.Nat.{ℕ, _+_}
 use Rattle.model.specs.Lines.{State, initialState, Outcome}
 use Rattle.model.specs.Print.{outcomeText, tallyText}
-use Rattle.model.specs.Run.{step, stateAfter, outcomes, linesOf, printedFrom, run}
+use Rattle.model.specs.Run.{step, stateAfter, stateAfterUpTo, outcomes, outcomesUpTo, linesOf, printedFrom, run}
 
 -- the texts of outcomes, of lines numbered from `number` on
 unfoldable pub outcomeTexts : ℕ → List Outcome → List ℕ
@@ -13,7 +13,7 @@ outcomeTexts number [] = []
 outcomeTexts number (o ∷ os) = outcomeText number o ++ outcomeTexts (number + 1) os
 
 printed-outcomes : (number : ℕ) (s : State) (ls : List (List ℕ)) → printedFrom number s ls ≡ outcomeTexts number (outcomes s ls) ++ tallyText (stateAfter s ls .tally)
-unfolding printedFrom outcomeTexts outcomes stateAfter
+unfolding printedFrom outcomeTexts outcomesUpTo stateAfterUpTo
 printed-outcomes number s [] = refl
 printed-outcomes number s (l ∷ ls) =
     rw append-assoc (ap (λ r. outcomeText number (step s l .outcome) ++ r) (printed-outcomes (number + 1) (step s l .state) ls))

@@ -12,9 +12,9 @@ use borrow.Author.Tests.{leb-true}
 use Rattle.table.specs.Form.{within}
 use Rattle.model.specs.Measures.{maxServers, maxBuckets, maxMessages}
 use Rattle.model.specs.Cluster.{Cluster, freshCluster}
-use Rattle.model.specs.Lines.{Line, cluster, elect, call, deliver, copy, lose, timeout, stop, State, refusal, printed, Condition, firstOf, conditions, work, tallied, LineResult, refuse, acceptLine, inCluster, createCluster, perform}
+use Rattle.model.specs.Lines.{Line, cluster, elect, call, deliver, copy, lose, timeout, stop, State, refusal, printed, Condition, firstOf, conditions, conditionsUpTo, work, tallied, LineResult, refuse, acceptLine, inCluster, inClusterUpTo, createCluster, perform, performUpTo}
 use Rattle.model.specs.Parse.{parse}
-use Rattle.model.specs.Run.{step}
+use Rattle.model.specs.Run.{step, stepUpTo}
 use Rattle.limits.specs.Lists.{All, nil, cons}
 
 -- ---- the lowest number wins
@@ -25,7 +25,7 @@ Rises low [] = low ≤ 12
 Rises low (x ∷ l) = (low ≤ x .number) × Rises (x .number) l
 
 conditions-rise : (c : Cluster) (l : Line) → Rises 2 (conditions c l)
-unfolding conditions
+unfolding conditionsUpTo
 conditions-rise c (cluster n b) = omega arith
 conditions-rise c (elect s) = omega arith
 conditions-rise c (call s w) = omega arith
@@ -101,14 +101,14 @@ taking-comes-out s c l e f = go (leb (length (work c l .cluster .messages)) maxM
     go false p = rw (acceptLine, p) (refused-by 12 (omega arith) (omega arith))
 
 in-cluster-comes-out : (s : State) (c : Cluster) (l : Line) → s .cluster ≡ some c → ComesOut s (some l) (inCluster s c l)
-unfolding inCluster
+unfolding inClusterUpTo
 in-cluster-comes-out s c l e = go (firstOf (conditions c l)) refl
   where
     go : (o : Option ℕ) → firstOf (conditions c l) ≡ o → ComesOut s (some l) (inCluster s c l)
-    go none f = rw (inCluster, f) (taking-comes-out s c l e f)
+    go none f = rw (inClusterUpTo, f) (taking-comes-out s c l e f)
     go (some r) f =
         let w = lowest-wins c l r f in
-        rw (inCluster, f) (refused-by r (omega arith) (w .to))
+        rw (inClusterUpTo, f) (refused-by r (omega arith) (w .to))
 
 -- as `perform` decides, with the cluster as a value of its own
 perform-comes-out-at : (s : State) (l : Line) (o : Option Cluster) → s .cluster ≡ o →
@@ -117,16 +117,16 @@ perform-comes-out-at s l none e = creation-comes-out s l e
 perform-comes-out-at s l (some c) e = in-cluster-comes-out s c l e
 
 pub perform-comes-out : (s : State) (l : Line) → ComesOut s (some l) (perform s l)
-unfolding perform
+unfolding performUpTo
 perform-comes-out s l = perform-comes-out-at s l (s .cluster) refl
 
 pub comes-out : (s : State) (l : List ℕ) → ComesOut s (parse l) (step s l)
-unfolding step
+unfolding stepUpTo
 comes-out s l = go (parse l) refl
   where
     go : (o : Option Line) → parse l ≡ o → ComesOut s o (step s l)
-    go none e = rw (step, e) (refused-by 1 (omega arith) (omega arith))
-    go (some x) e = rw (step, e) (perform-comes-out s x)
+    go none e = rw (stepUpTo, e) (refused-by 1 (omega arith) (omega arith))
+    go (some x) e = rw (stepUpTo, e) (perform-comes-out s x)
 
 -- ---- what a refusal leaves, and its number
 

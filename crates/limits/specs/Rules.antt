@@ -17,8 +17,9 @@ use Rattle.model.specs.Measures.{majority}
 use Rattle.model.specs.Calls.{Words, bucketFor, Result, done, Effect, answers, writes}
 use Rattle.model.specs.Cluster.{Version, version, above, Copy, freshCopy, Stored, copyAt, Role, follower, candidate, leading, Purpose, recoveryRead, recoveryWrite, check, ownWrite, Mark, silent, acknowledged, refused, Round, Call, Volatile, Server, Body, pleaseVote, ackVote, nackVote, replicaWrite, ackWrite, nackWrite, replicaRead, ackRead, nackRead, Message, roundAt, callAt}
 use Rattle.model.specs.Replica.{voting, grants, afterVote, Request, reading, writing, requestBody, mayAccept, storing, accepting, acknowledging, refusing}
-use Rattle.model.specs.Leader.{Reaction, noReaction, withStored, withVolatile, below, without, broadcast, ended, ceased, cease, stepDown, votesFor, standing, standForElection, raised, elect, onAckVote, closes, fails, oneMore, isOwn, reportTo, newRound, opening, openRound, answerOf, finish, nextVersion, applying, afterRead, checking, recovering, startRead, beginCall, closed, better, markedBy, counted, withRound, counting, onReply, replyTo, onPleaseVote, onRequest, handle}
+use Rattle.model.specs.Leader.{Reaction, noReaction, withStored, withVolatile, below, without, broadcast, ended, ceased, cease, stepDown, votesFor, standing, standForElection, nextNumber, raisedTo, elect, onAckVote, closes, fails, oneMore, isOwn, reportTo, newRound, opening, openRound, answerOf, finish, nextVersion, applying, afterRead, checking, recovering, startRead, beginCall, closed, better, markedBy, counted, withRound, counting, onReply, replyTo, onPleaseVote, onRequest, handle}
 use Rattle.model.specs.Leader
+use Rattle.model.proofs.Elections.{above-the-number}
 use Rattle.limits.specs.Lists.{All, nil, cons, all-imply, all-append, all-set, all-at, all-map}
 use Rattle.limits.specs.Tables.{EffectWithin, effect-within, fresh-copy-within}
 use Rattle.limits.specs.Measures.{Limits, Fits, CopyWithin, StoredWithin, WordsSized, CallWithin, left, RoundWithin, SlotWithin, idle, busy, RoleWithin, FrameWithin, ServerWithin, RequestWithin, OfVote, OfRound, BodyWithin, MessageWithin, ResultWithin, AnswerWithin, Ending, AnswersWithin, single, endings, ReactionWithin, fewer, copy-grows, stored-grows, frame-grows, server-grows}
@@ -67,7 +68,7 @@ module _ (n b : ℕ) (l : Limits) where
 
   voting-within : {q : ℕ} {st : Stored} (e p : ℕ) → e ≤ l .elections → p < n → StoredWithin n b l q st →
       StoredWithin n b l q (voting e p st)
-  voting-within e p h k w = record { number = w .number; vote = h; lines = w .lines; leader = k; size = w .size; copies = w .copies }
+  voting-within e p h k w = record { number = w .number; vote = h; leader = k; size = w .size; copies = w .copies }
 
   afterVote-kept : {q : ℕ} (e p : ℕ) (st : Stored) → e ≤ l .elections → p < n → StoredWithin n b l q st →
       Kept q (st .number) (afterVote e p st)
@@ -88,7 +89,7 @@ module _ (n b : ℕ) (l : Limits) where
           rw (storing, d)
           (record {
             within =
-                record { number = w .number; vote = w .vote; lines = w .lines; leader = w .leader; size = rw length-set (w .size); copies = all-set i (w .copies) new };
+                record { number = w .number; vote = w .vote; leader = w .leader; size = rw length-set (w .size); copies = all-set i (w .copies) new };
             same = refl;
           })
       go false d = rw (storing, d) (record { within = w; same = refl })
@@ -224,17 +225,14 @@ module _ (n b : ℕ) (l : Limits) where
         answers = no-answers;
       }
 
-  pub elect-within : {q : ℕ} (me : ℕ) (s : Server) → me < n → 1 ≤ b → s .stored .number + 1 ≤ l .elections →
-      s .stored .number + 1 + l .calls ≤ l .lines → ServerWithin n b l q s → ReactionWithin n b l (elect n me s)
+  pub elect-within : {q : ℕ} (me : ℕ) (s : Server) → me < n → 1 ≤ b → nextNumber (s .stored) ≤ l .elections → ServerWithin n b l q s → ReactionWithin n b l (elect n me s)
   unfolding elect cease
-  elect-within {q} me s h j top line w =
+  elect-within {q} me s h j top w =
+      let e = nextNumber (s .stored) in
       let k = stored-grows (fewer l q 0 (omega arith)) (w .stored) in
-      let new : StoredWithin n b l 0 (raised (s .stored)) = record { number = top; vote = k .vote; lines = line; leader = k .leader; size = k .size; copies = k .copies } in
-      let r = ceased-within (raised (s .stored)) new w in
-      let g = stands-within me _ h j (omega arith) r in
-      chosen (ltb (s .stored .number + 1) (s .stored .vote))
-      (record { server = r; sends = nil; answers = endings-of w })
-      (record { server = g .server; sends = g .sends; answers = endings-of w })
+      let new : StoredWithin n b l 0 (raisedTo e (s .stored)) = record { number = top; vote = k .vote; leader = k .leader; size = k .size; copies = k .copies } in
+      let g = stands-within me _ h j (omega (arith, above-the-number (s .stored))) (ceased-within (raisedTo e (s .stored)) new w) in
+      record { server = g .server; sends = g .sends; answers = endings-of w }
 
   ack-within : {q : ℕ} (p e : ℕ) (s : Server) → ServerWithin n b l q s → (r : Role) → RoleWithin r (s .stored .number) →
       ReactionWithin n b l (elim r [ follower ↦ noReaction s | leading ↦ noReaction s | candidate ↦ elim (eqb e (s .stored .number)) [ false ↦ noReaction s | true ↦ noReaction (withVolatile s (standing n (ListN.set (s .volatile .votes) p true) (s .volatile))) ] ])

@@ -11,9 +11,9 @@ use borrow.Author.Tests.{leb-false}
 use Rattle.model.specs.Measures.{maxMessages}
 use Rattle.model.specs.Cluster.{Cluster, Message, freshCluster}
 use Rattle.model.specs.Leader.{Reaction}
-use Rattle.model.specs.Lines.{Line, cluster, elect, call, deliver, copy, lose, timeout, stop, State, initialState, Condition, when, firstOf, conditions, noMessage, limitReached, dropAt, stoppedAt, Work, byLine, delivery, work, LineResult}
+use Rattle.model.specs.Lines.{Line, cluster, elect, call, deliver, copy, lose, timeout, stop, State, initialState, Condition, when, firstOf, conditions, conditionsUpTo, noMessage, limitReached, dropAt, stoppedAt, Work, byLine, delivery, work, LineResult}
 use Rattle.model.specs.Parse.{parse}
-use Rattle.model.specs.Run.{step, stateAfter}
+use Rattle.model.specs.Run.{step, stateAfter, stateAfterUpTo}
 use Rattle.limits.specs.Lists.{All, nil, cons, all-head, all-tail}
 use Rattle.limits.specs.Refusals.{ComesOut, refused-by, founded, took, comes-out}
 
@@ -54,7 +54,7 @@ handing-balances c m kept copied h = go (stoppedAt c (m .receiver)) refl
     go false p = rw (delivery, p) (simp length-append (omega arith))
 
 work-balances : (c : Cluster) (l : Line) → firstOf (conditions c l) ≡ none → Balances c (work c l)
-unfolding work conditions
+unfolding work conditionsUpTo
 work-balances c (cluster n b) e = simp length-append (omega arith)
 work-balances c (elect s) e = simp length-append (omega arith)
 work-balances c (call s w) e = simp length-append (omega arith)
@@ -118,7 +118,7 @@ line-keeps-tally s o x (took c l i e f room) t =
     record { balance = omega (arith, t .balance, t .flight, work-balances c l f); flight = refl; room = room }
 
 pub tallied-always : (s : State) (ls : List (List ℕ)) → Tallied s → Tallied (stateAfter s ls)
-unfolding stateAfter
+unfolding stateAfterUpTo
 tallied-always s [] t = t
 tallied-always s (l ∷ ls) t = tallied-always (step s l .state) ls (line-keeps-tally s (parse l) (step s l) (comes-out s l) t)
 

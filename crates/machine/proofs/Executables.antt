@@ -10,6 +10,7 @@ use Rattle.model.specs.Measures.{maxElection}
 use Rattle.server.specs.declared.Message.{Message}
 use Rattle.server.specs.declared.Words.{Words}
 use Rattle.server.specs.declared.Effect.{Effect}
+use Rattle.server.specs.Heads.{largerNumberOf}
 use Rattle.server.specs.Views.{flagIn, among}
 use Rattle.memory.specs.declared.Counts.{Counts}
 use Rattle.refusals.specs.Refusals.{placesLeft, inside}
@@ -84,7 +85,7 @@ module _ (c : Counts) where
   unfolding electPlan
   elects s l f m h =
       accepted _ f _
-      (λ z. either (leb maxElection (l .head .number)) _ _ (λ e. refused 11 f (λ y. omega (arith, y))) (λ e. carries _ refl m (placed (lineStep c s 0) refl refl m h)))
+      (λ z. either (leb maxElection (largerNumberOf (l .head))) _ _ (λ e. refused 11 f (λ y. omega (arith, y))) (λ e. carries _ refl m (placed (lineStep c s 0) refl refl m h)))
 
   times-out : (s b : ℕ) (l : Local) (f : Effect) → Measured c → inside c s b ≡ true → Executable c (timeoutPlan c s b l f)
   unfolding timeoutPlan

@@ -1,8 +1,10 @@
 -- Document 01's example script, its edges, and a run of three servers, computed by the definitions.
 use mathlib.Core.Path.{_≡_, refl}
+use mathlib.Core.List.{[], _∷_}
 use Rattle.model.specs.Compute.{computing}
 use Rattle.model.specs.Text.{bytes}
-use Rattle.model.specs.Run.{run}
+use Rattle.model.specs.Lines.{initialState, refusal, printed}
+use Rattle.model.specs.Run.{outcomesUpTo, linesOf, run}
 
 example : run (bytes "cluster 1 4\nelect 0\nset 0 61 6869\nget 0 61\nget 0 65\nkeys 0 0\nelect 1\n")
     ≡ bytes "1 done 4\n2 value 1 6869\n3 value 1 -\n4 keys 1 61\nline 7 refused 3\nmessages 0 0 0 0 0\n"
@@ -68,8 +70,8 @@ late-votes = refl
 
 -- server 0 still leads under 1 and stores 01 when server 1 leads under 2 and has written 02: its checking round is refused, so it
 -- does not answer from its copy
-old-leader-does-not-answer : run (bytes "cluster 3 1\nelect 0\ndeliver 0\ndeliver 1\nset 0 61 01\ndeliver 2\ndeliver 2\ndeliver 3\ndeliver 3\ndeliver 4\ndeliver 4\ndeliver 5\ndeliver 5\nelect 1\nelect 1\ndeliver 8\ndeliver 8\nset 1 61 02\ndeliver 9\ndeliver 9\ndeliver 10\ndeliver 10\ndeliver 11\ndeliver 11\ndeliver 12\ndeliver 12\nget 0 61\ndeliver 12\ndeliver 12\ndeliver 12\ndeliver 12\n")
-    ≡ bytes "1 done 4\n2 done 4\n3 notdone 1\nmessages 36 0 24 0 12\n"
+old-leader-does-not-answer : run (bytes "cluster 3 1\nelect 0\ndeliver 0\ndeliver 1\nset 0 61 01\ndeliver 2\ndeliver 2\ndeliver 3\ndeliver 3\ndeliver 4\ndeliver 4\ndeliver 5\ndeliver 5\nelect 1\ndeliver 6\ndeliver 6\nset 1 61 02\ndeliver 7\ndeliver 7\ndeliver 8\ndeliver 8\ndeliver 9\ndeliver 9\ndeliver 10\ndeliver 10\nget 0 61\ndeliver 10\ndeliver 10\ndeliver 10\ndeliver 10\n")
+    ≡ bytes "1 done 4\n2 done 4\n3 notdone 1\nmessages 34 0 24 0 10\n"
 unfolding computing
 old-leader-does-not-answer = refl
 
@@ -79,3 +81,17 @@ read-raises-the-vote : run (bytes "cluster 5 1\nelect 0\ndeliver 0\ndeliver 0\nd
     ≡ bytes "1 done 4\n3 value 3 01\n2 unknown 2\nmessages 70 0 44 0 26\n"
 unfolding computing
 read-raises-the-vote = refl
+
+-- ---- elections (document 02, Change 3)
+
+-- server 2 voted under 3 and was cut off: its first election is under 4, server 1 votes for it, and it leads
+cut-off : run (bytes "cluster 3 1\nelect 0\nelect 0\nelect 0\ndeliver 5\nelect 2\ndeliver 7\ndeliver 7\nget 2 61\n")
+    ≡ bytes "messages 12 0 3 0 9\n"
+unfolding computing
+cut-off = refl
+
+-- where 2 is the greatest election number: server 1, whose own number is 0, has voted under 2, and so it and server 0 may stand no more
+eleven-by-the-vote : outcomesUpTo 2 initialState (linesOf (bytes "cluster 3 1\nelect 0\nelect 0\ndeliver 2\nelect 1\nelect 0\nelect 2\n"))
+    ≡ printed [] ∷ printed [] ∷ printed [] ∷ printed [] ∷ refusal 11 ∷ refusal 11 ∷ printed [] ∷ []
+unfolding computing
+eleven-by-the-vote = refl

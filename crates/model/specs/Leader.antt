@@ -3,7 +3,7 @@
 use mathlib.Core.List.{List, [], _∷_, _++_, map}
 use mathlib.Core.Bool.{Bool, true, false}
 use mathlib.Core.Option.{Option, none, some}
-use Prim.Native.Nat.{ℕ, zero, suc, _+_, _-_}
+use Prim.Native.Nat.{ℕ, zero, suc, _+_, _-_, max}
 use lib.Dec.{ltb, leb, eqb}
 use lib.ListN.{replicate, getD, set}
 use Rattle.entries.specs.Entries.{Entry}
@@ -103,20 +103,24 @@ standForElection n me e s =
     (broadcast n me 0 e 0 pleaseVote)
     []
 
-abbrev pub raised : Stored → Stored
-raised st = record { number = st .number + 1; vote = st .vote; leader = st .leader; copies = st .copies }
+-- the larger of a server's number and its own vote
+abbrev pub largerNumber : Stored → ℕ
+largerNumber st = max (st .number) (st .vote)
 
--- leadership and candidacy end, the number is raised by one, and the server stands unless that is below its own vote
+-- the number of its next election is one above that
+unfoldable pub nextNumber : Stored → ℕ
+nextNumber st = largerNumber st + 1
+
+abbrev pub raisedTo : ℕ → Stored → Stored
+raisedTo e st = record { number = e; vote = st .vote; leader = st .leader; copies = st .copies }
+
+-- leadership and candidacy end, and the server stands under its next number
 unfoldable pub elect : ℕ → ℕ → Server → Reaction
 elect n me s =
     let f = cease s in
-    let r = withStored (f .server) (raised (s .stored)) in
-    elim (ltb (s .stored .number + 1) (s .stored .vote)) [
-      | true ↦ reaction r [] (f .answers)
-      | false ↦
-          let g = standForElection n me (s .stored .number + 1) r in
-          reaction (g .server) (g .sends) (f .answers)
-    ]
+    let e = nextNumber (s .stored) in
+    let g = standForElection n me e (withStored (f .server) (raisedTo e (s .stored))) in
+    reaction (g .server) (g .sends) (f .answers)
 
 -- ACKVOTE of q under e: counts only for a candidate, for its present number, once per server
 unfoldable pub onAckVote : ℕ → ℕ → ℕ → Server → Reaction

@@ -11,7 +11,7 @@ use Rattle.model.specs.Measures.{maxServers, maxBuckets, maxKeyBytes, ma
 use Rattle.model.specs.Calls.{Words, bucketFor, Answer}
 use Rattle.model.specs.Calls
 use Rattle.model.specs.Cluster.{Role, follower, candidate, leading, Server, nackVote, Message, Cluster, freshServer, freshCluster, roundAt, callAt}
-use Rattle.model.specs.Leader.{Reaction, reaction, cease, beginCall, handle}
+use Rattle.model.specs.Leader.{Reaction, reaction, cease, largerNumber, beginCall, handle}
 use Rattle.model.specs.Leader
 
 pub data Line : Type 0 where
@@ -125,15 +125,15 @@ unfoldable pub present : {A : Type 0} → Option A → Bool
 present none = false
 present (some a) = true
 
--- 11
-unfoldable pub lastNumber : Cluster → ℕ → Bool
-lastNumber c s = leb maxElection (serverAt c s .stored .number)
+-- 11: `top` is the greatest election number, here and in all names that end in `UpTo`
+unfoldable pub lastNumber : ℕ → Cluster → ℕ → Bool
+lastNumber top c s = leb top (largerNumber (serverAt c s .stored))
 
-unfoldable pub conditions : Cluster → Line → List Condition
-conditions c (cluster n b) = when 2 true ∷ []
-conditions c (elect s) =
-    when 3 (noServer c s) ∷ when 5 (limitReached c) ∷ when 6 (stoppedAt c s) ∷ when 11 (lastNumber c s) ∷ []
-conditions c (call s w) =
+unfoldable pub conditionsUpTo : ℕ → Cluster → Line → List Condition
+conditionsUpTo top c (cluster n b) = when 2 true ∷ []
+conditionsUpTo top c (elect s) =
+    when 3 (noServer c s) ∷ when 5 (limitReached c) ∷ when 6 (stoppedAt c s) ∷ when 11 (lastNumber top c s) ∷ []
+conditionsUpTo top c (call s w) =
     when 3 (either (noServer c s) (noBucketFor c w)) ∷
     when 4 (badWords w) ∷
     when 5 (limitReached c) ∷
@@ -141,16 +141,19 @@ conditions c (call s w) =
     when 8 (not (isLeading (serverAt c s .volatile .role))) ∷
     when 9 (present (callAt (serverAt c s .volatile) (bucketFor (c .buckets) w))) ∷
     []
-conditions c (deliver i) = when 5 (limitReached c) ∷ when 7 (noMessage c i) ∷ []
-conditions c (copy i) = when 5 (limitReached c) ∷ when 7 (noMessage c i) ∷ []
-conditions c (lose i) = when 5 (limitReached c) ∷ when 7 (noMessage c i) ∷ []
-conditions c (timeout s b) =
+conditionsUpTo top c (deliver i) = when 5 (limitReached c) ∷ when 7 (noMessage c i) ∷ []
+conditionsUpTo top c (copy i) = when 5 (limitReached c) ∷ when 7 (noMessage c i) ∷ []
+conditionsUpTo top c (lose i) = when 5 (limitReached c) ∷ when 7 (noMessage c i) ∷ []
+conditionsUpTo top c (timeout s b) =
     when 3 (either (noServer c s) (noBucket c b)) ∷
     when 5 (limitReached c) ∷
     when 6 (stoppedAt c s) ∷
     when 10 (not (present (roundAt (serverAt c s .volatile) b))) ∷
     []
-conditions c (stop s) = when 3 (noServer c s) ∷ when 5 (limitReached c) ∷ when 6 (stoppedAt c s) ∷ []
+conditionsUpTo top c (stop s) = when 3 (noServer c s) ∷ when 5 (limitReached c) ∷ when 6 (stoppedAt c s) ∷ []
+
+abbrev pub conditions : Cluster → Line → List Condition
+conditions = conditionsUpTo maxElection
 
 -- ---- what an accepted line does
 
@@ -261,8 +264,11 @@ acceptLine s w =
           record { state = record { cluster = some (w .cluster); tally = tallied (s .tally) w }; outcome = printed (w .answers) }
     ]
 
-unfoldable pub inCluster : State → Cluster → Line → LineResult
-inCluster s c l = elim (firstOf (conditions c l)) [ some r ↦ refuse s r | none ↦ acceptLine s (work c l) ]
+unfoldable pub inClusterUpTo : ℕ → State → Cluster → Line → LineResult
+inClusterUpTo top s c l = elim (firstOf (conditionsUpTo top c l)) [ some r ↦ refuse s r | none ↦ acceptLine s (work c l) ]
+
+abbrev pub inCluster : State → Cluster → Line → LineResult
+inCluster = inClusterUpTo maxElection
 
 -- 2: the first cluster line makes the cluster, if its numbers are in range; nothing else is taken before it
 unfoldable pub createCluster : State → Line → LineResult
@@ -284,5 +290,8 @@ createCluster s (lose i) = refuse s 2
 createCluster s (timeout x b) = refuse s 2
 createCluster s (stop x) = refuse s 2
 
-unfoldable pub perform : State → Line → LineResult
-perform s l = elim (s .cluster) [ none ↦ createCluster s l | some c ↦ inCluster s c l ]
+unfoldable pub performUpTo : ℕ → State → Line → LineResult
+performUpTo top s l = elim (s .cluster) [ none ↦ createCluster s l | some c ↦ inClusterUpTo top s c l ]
+
+abbrev pub perform : State → Line → LineResult
+perform = performUpTo maxElection

@@ -5,23 +5,33 @@ use mathlib.Core.Option.{none, some}
 use Prim.Native.Nat.{ℕ, _+_}
 use lib.Dec.{eqb}
 use lib.ListN.{take}
-use Rattle.model.specs.Measures.{maxLines}
-use Rattle.model.specs.Lines.{State, initialState, Outcome, LineResult, refusal, perform}
+use Rattle.model.specs.Measures.{maxLines, maxElection}
+use Rattle.model.specs.Lines.{State, initialState, Outcome, LineResult, refusal, performUpTo}
 use Rattle.model.specs.Parse.{parse}
 use Rattle.model.specs.Print.{outcomeText, tallyText}
 
--- one line
-unfoldable pub step : State → List ℕ → LineResult
-step s l = elim (parse l) [ none ↦ record { state = s; outcome = refusal 1 } | some x ↦ perform s x ]
+-- one line, where no election number is above `top`
+unfoldable pub stepUpTo : ℕ → State → List ℕ → LineResult
+stepUpTo top s l = elim (parse l) [ none ↦ record { state = s; outcome = refusal 1 } | some x ↦ performUpTo top s x ]
 
 -- a list of lines: the state that they leave, and what each of them gives
-unfoldable pub stateAfter : State → List (List ℕ) → State
-stateAfter s [] = s
-stateAfter s (l ∷ ls) = stateAfter (step s l .state) ls
+unfoldable pub stateAfterUpTo : ℕ → State → List (List ℕ) → State
+stateAfterUpTo top s [] = s
+stateAfterUpTo top s (l ∷ ls) = stateAfterUpTo top (stepUpTo top s l .state) ls
 
-unfoldable pub outcomes : State → List (List ℕ) → List Outcome
-outcomes s [] = []
-outcomes s (l ∷ ls) = step s l .outcome ∷ outcomes (step s l .state) ls
+unfoldable pub outcomesUpTo : ℕ → State → List (List ℕ) → List Outcome
+outcomesUpTo top s [] = []
+outcomesUpTo top s (l ∷ ls) = stepUpTo top s l .outcome ∷ outcomesUpTo top (stepUpTo top s l .state) ls
+
+-- the bench's own greatest election number
+abbrev pub step : State → List ℕ → LineResult
+step = stepUpTo maxElection
+
+abbrev pub stateAfter : State → List (List ℕ) → State
+stateAfter = stateAfterUpTo maxElection
+
+abbrev pub outcomes : State → List (List ℕ) → List Outcome
+outcomes = outcomesUpTo maxElection
 
 -- ---- an input of bytes
 

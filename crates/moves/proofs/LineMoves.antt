@@ -1,23 +1,20 @@
 -- Votes counted, elections, timeouts and stops as moves.
 use mathlib.Core.Path.{_≡_, refl, sym, ap, ap₂, _∙_}
-use mathlib.Core.Bool.{Bool, true, false}
+use mathlib.Core.Bool.{true, false}
 use mathlib.Core.List.{List, []}
 use Prim.Native.Nat.{ℕ, _+_, _<_, _^_}
 use native.Mathlib.Nat.{mod-eq-of-lt}
-use lib.Dec.{eqb, ltb}
+use lib.Dec.{eqb}
 use lib.ListN.{set}
 use Rattle.entries.specs.Entries.{Entry}
 use Rattle.model.specs.Calls as calls
 use Rattle.model.specs.Cluster as cluster
-use Rattle.model.specs.Leader.{Reaction, reaction, noReaction, withStored, withVolatile, endings, cease, broadcast, standing, standForElection, raised, elect, onAckVote}
-use Rattle.server.specs.declared.Head.{Head}
-use Rattle.server.specs.Views.{besideIn, flagIn, chosen}
-use Rattle.server.specs.Heads.{afterVoteHead, raisedHead, stoodHead, electedHead, onAckVoteHead}
+use Rattle.model.specs.Leader.{Reaction, reaction, noReaction, withVolatile, endings, cease, broadcast, standing, standForElection, nextNumber, elect, onAckVote}
+use Rattle.server.specs.Views.{besideIn, flagIn}
+use Rattle.server.specs.Heads.{largerNumberOf, electedHead, onAckVoteHead}
 use Rattle.server.proofs.HeadLaws as heads
-use Rattle.rounds.specs.Rounds.{noVersion}
 use Rattle.moves.specs.declared.Local.{Local}
-use Rattle.moves.specs.declared.Move.{Move}
-use Rattle.moves.specs.Moves.{noAnswer, withHead, quiet, electedMove, timedOutMove, stoppedMove}
+use Rattle.moves.specs.Moves.{withHead, quiet, electedMove, timedOutMove, stoppedMove}
 use Rattle.moves.specs.Reactions.{Seen, Tables, workAfter, copyAfter, Asked, sendsIn, answersIn, serverAfter, answersAfter, reactionIn}
 use Rattle.moves.proofs.Ceasing.{placed, seen-itself, calls-kept, ceasing-means}
 
@@ -44,21 +41,11 @@ ack-vote-is-quiet : (n q e : ℕ) (s : cluster.Server) → onAckVote n q e s ≡
 unfolding onAckVote
 ack-vote-is-quiet n q e s = acked-is-quiet n q e s (s .volatile .role)
 
--- what an election sends and answers: PLEASEVOTE under the raised number k unless that is below the vote, and the ends of all calls
-abbrev asking : ℕ → ℕ → ℕ → Bool → List cluster.Message
-asking n me k z = elim z [ true ↦ [] | false ↦ broadcast n me 0 k 0 cluster.pleaseVote ]
-
+-- an election sends PLEASEVOTE under the next number, and ends all calls
 elected-so : (n me : ℕ) (s : cluster.Server)
-    → elect n me s ≡ reaction (elect n me s .server) (asking n me (s .stored .number + 1) (ltb (s .stored .number + 1) (s .stored .vote))) (endings (s .volatile .calls))
+    → elect n me s ≡ reaction (elect n me s .server) (broadcast n me 0 (nextNumber (s .stored)) 0 cluster.pleaseVote) (endings (s .volatile .calls))
 unfolding elect cease standForElection
-elected-so n me s =
-    let out = endings (s .volatile .calls) in
-    let k = s .stored .number + 1 in
-    let r = withStored (cease s .server) (raised (s .stored)) in
-    let g = standForElection n me k r in
-    elim (ltb k (s .stored .vote)) as
-    (λ z. let x : Reaction = elim z [ true ↦ reaction r [] out | false ↦ reaction (g .server) (g .sends) out ] in x ≡ reaction (x .server) (asking n me k z) out)
-    [ true ↦ refl | false ↦ refl ]
+elected-so n me s = refl
 
 module _ (n me b : ℕ) (a : Asked) (s : cluster.Server) (l : Local) (t : Tables) (words : calls.Words) (v : List ℕ) (u : List Entry)
     (seen : Seen n b s l (t .copy) (t .work) words) where
@@ -69,20 +56,13 @@ module _ (n me b : ℕ) (a : Asked) (s : cluster.Server) (l : Local) (t : Tables
       ap (onAckVote n q e) (seen-itself n b s l t words seen)
       ∙ (ack-vote-is-quiet n q e s1 ∙ ap noReaction (sym (heads.on-ack-vote-means n q e (besideIn s1) (l .head))))
 
-  elected-sends : l .head .number + 1 < 2 ^ 32
-      → asking n me (l .head .number + 1) (ltb (l .head .number + 1) (l .head .vote)) ≡ sendsIn n me b a (electedMove n me l) t
-  unfolding electedHead stoodHead afterVoteHead sendsIn chosen electedMove
-  elected-sends low =
-      let k = raisedHead (l .head) .number in
-      ap (λ i. asking n me i (ltb i (l .head .vote))) (sym (mod-eq-of-lt low))
-      ∙ elim (ltb k (l .head .vote)) as
-      (λ z. let h : Head = elim z [ true ↦ raisedHead (l .head) | false ↦ stoodHead n me (raisedHead (l .head)) ] in
-      let m : Move = record { local = withHead h l; sends = chosen z 0 1; written = noVersion; fills = 0; keeps = 0; answer = noAnswer; ceases = true } in
-      asking n me k z ≡ sendsIn n me b a m t)
-      [ true ↦ refl | false ↦ refl ]
+  elected-sends : largerNumberOf (l .head) + 1 < 2 ^ 32
+      → broadcast n me 0 (largerNumberOf (l .head) + 1) 0 cluster.pleaseVote ≡ sendsIn n me b a (electedMove n me l) t
+  unfolding electedHead sendsIn electedMove
+  elected-sends low = ap (λ i. broadcast n me 0 i 0 cluster.pleaseVote) (sym (mod-eq-of-lt low))
 
-  pub elected-means : l .head .number + 1 < 2 ^ 32 → elect n me s ≡ reactionIn n me b a (electedMove n me l) t words v u s
-  unfolding serverAfter answersAfter workAfter copyAfter electedMove
+  pub elected-means : largerNumberOf (l .head) + 1 < 2 ^ 32 → elect n me s ≡ reactionIn n me b a (electedMove n me l) t words v u s
+  unfolding serverAfter answersAfter workAfter copyAfter electedMove nextNumber
   elected-means low =
       let s1 = placed n b l t words s in
       let server : elect n me s1 .server ≡ serverAfter n b (electedMove n me l) t words s =

@@ -18,7 +18,7 @@ use Rattle.server.specs.declared.Message.{Message}
 use Rattle.server.specs.declared.Handling.{Handling}
 use Rattle.server.specs.declared.Handling.the-variants.{Vote, Request, Reply, Other}
 use Rattle.server.specs.Views.{versionIn, storedIn, openIn, roundIn, chosen}
-use Rattle.server.specs.Heads.{votingHead, afterVoteHead, ceasedHead, raisedHead, electedHead, onAckVoteHead}
+use Rattle.server.specs.Heads.{votingHead, afterVoteHead, ceasedHead, electedHead, onAckVoteHead}
 use Rattle.rounds.specs.Rounds.{pickVersion, noVersion, roundWith, newRoundOf, openedHead, countedOf, matching}
 use Rattle.open_calls.specs.Calls.{oneMoreOf, answerWith, versionOf, nextVersionOf}
 use Rattle.rounds.specs.Kinds.{handlingIn}
@@ -296,12 +296,12 @@ readsTable n m l = readsBy n m l (handlingIn (m .kind))
 
 -- ---- lines that name a server
 
--- leadership and candidacy end, and PLEASEVOTE is sent unless the raised number is below the server's own vote
+-- leadership and candidacy end, and PLEASEVOTE is sent
 unfoldable pub electedMove : ℕ → ℕ → Local → Move
 electedMove n me l =
     record {
       local = withHead (electedHead n me (l .head)) l;
-      sends = chosen (ltb (raisedHead (l .head) .number) (l .head .vote)) 0 1;
+      sends = 1;
       written = noVersion;
       fills = 0;
       keeps = 0;

@@ -4,20 +4,15 @@ use crate::Move;
 use crate::parts::ceasing;
 use crate::parts::headed;
 use crate::parts::quiet;
-use server::numbers::chosen;
 use server::votes::elected;
-use server::votes::must_step_down;
-use server::votes::raised;
 ghost use mathlib.Core.Path.{_≡_};
 ghost use Rattle.moves.specs.Moves.{electedMove, timedOutMove, stoppedMove};
 
-// An election: PLEASEVOTE is sent unless the raised number is below the server's own vote.
+// An election: PLEASEVOTE is sent under the server's next number.
 pub fn elected_move(n: u32, me: u32, l: Local) -> Move
     ensures { λ r. ⌜ r ≡ electedMove n me l ⌝ }
 {
-    let h = l.head;
-    let kind = chosen(must_step_down(raised(h)), 0, 1);
-    let mut m = headed(kind, elected(n, me, h), l);
+    let mut m = headed(1, elected(n, me, l.head), l);
     m.ceases = true;
     m
 }

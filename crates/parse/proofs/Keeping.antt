@@ -10,7 +10,7 @@ use lib.Seq.{take-all}
 use borrow.Author.Tests.{ltb-false}
 use Rattle.model.specs.Calls.{Words, get, set, setif, del, keys}
 use Rattle.model.specs.Cluster.{Cluster}
-use Rattle.model.specs.Lines.{Line, cluster, elect, call, deliver, copy, lose, timeout, stop, State, either, noServer, noBucketFor, badKey, badValue, badWords, firstOf, conditions, inCluster, createCluster, perform}
+use Rattle.model.specs.Lines.{Line, cluster, elect, call, deliver, copy, lose, timeout, stop, State, either, noServer, noBucketFor, badKey, badValue, badWords, firstOf, conditions, conditionsUpTo, inCluster, inClusterUpTo, createCluster, perform, performUpTo}
 use Rattle.parse.specs.Kept.{kept}
 use Rattle.parse.specs.Meaning.{keptWords, keptLine}
 
@@ -82,7 +82,7 @@ same-bucket c (keys b) = refl
 
 -- 3 if that applies, else 4
 pub lengths-refused : (c : Cluster) (x : ℕ) (w : Words) (t : Bool) → either (noServer c x) (noBucketFor c w) ≡ t → badWords w ≡ true → firstOf (conditions c (call x w)) ≡ some (elim t [ true ↦ 3 | false ↦ 4 ])
-unfolding conditions firstOf
+unfolding conditionsUpTo firstOf
 lengths-refused c x w true e h = rw e
 lengths-refused c x w false e h = rw (e, h)
 
@@ -92,8 +92,8 @@ call-alike s c x w = go (badWords w) refl
     go : (t : Bool) → badWords w ≡ t → inCluster s c (call x (keptWords w)) ≡ inCluster s c (call x w)
     go false h = rw (words-whole w h)
     go true h =
-        unfold inCluster in
-        rw (inCluster, lengths-refused c x w _ refl h, lengths-refused c x (keptWords w) _ (ap (either (noServer c x)) (same-bucket c w)) (words-refused w ∙ h))
+        unfold inClusterUpTo in
+        rw (inClusterUpTo, lengths-refused c x w _ refl h, lengths-refused c x (keptWords w) _ (ap (either (noServer c x)) (same-bucket c w)) (words-refused w ∙ h))
 
 in-cluster-alike : (s : State) (c : Cluster) (l : Line) → inCluster s c (keptLine l) ≡ inCluster s c l
 unfolding keptLine
@@ -121,5 +121,5 @@ pub performed : (s : State) (l : Line) → perform s (keptLine l) ≡ perform s 
 performed s l = go (s .cluster) refl
   where
     go : (o : Option Cluster) → s .cluster ≡ o → perform s (keptLine l) ≡ perform s l
-    go none e = unfold perform in rw (perform, e) (founding-alike s l)
-    go (some c) e = unfold perform in rw (perform, e) (in-cluster-alike s c l)
+    go none e = unfold performUpTo in rw (performUpTo, e) (founding-alike s l)
+    go (some c) e = unfold performUpTo in rw (performUpTo, e) (in-cluster-alike s c l)

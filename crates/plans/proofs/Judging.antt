@@ -12,6 +12,7 @@ use Rattle.model.specs.Calls as calls
 use Rattle.server.specs.declared.Message.{Message}
 use Rattle.server.specs.declared.Words.{Words}
 use Rattle.server.specs.declared.Effect.{Effect}
+use Rattle.server.specs.Heads.{largerNumberOf}
 use Rattle.server.specs.Views.{among, effectIn, wordsIn}
 use Rattle.memory.specs.declared.Counts.{Counts}
 use Rattle.refusals.specs.Refusals.{placesLeft, inside, messageRefusal}
@@ -45,7 +46,7 @@ unless-keeps r f p h = either-keeps (eqb r 0) p (refusedPlan r f) f h refl
 
 elect-keeps : (c : Counts) (s : ℕ) (l : Local) (f : Effect) → electPlan c s l f .effect ≡ f
 unfolding electPlan
-elect-keeps c s l f = unless-keeps _ f _ (either-keeps (leb maxElection (l .head .number)) _ _ f refl (roomy-keeps c _))
+elect-keeps c s l f = unless-keeps _ f _ (either-keeps (leb maxElection (largerNumberOf (l .head))) _ _ f refl (roomy-keeps c _))
 
 timeout-keeps : (c : Counts) (s b : ℕ) (l : Local) (f : Effect) → timeoutPlan c s b l f .effect ≡ f
 unfolding timeoutPlan

@@ -14,6 +14,7 @@ use Rattle.server.specs.declared.Head.{Head}
 use Rattle.server.specs.declared.Message.{Message}
 use Rattle.server.specs.declared.Words.{Words}
 use Rattle.server.specs.declared.Effect.{Effect}
+use Rattle.server.specs.Heads.{largerNumberOf}
 use Rattle.server.specs.Views.{flagIn, among, chosen}
 use Rattle.rounds.specs.Rounds.{noVersion}
 use Rattle.memory.specs.declared.Counts.{Counts}
@@ -73,7 +74,7 @@ unless r f p = elim (eqb r 0) [ true ↦ p | false ↦ refusedPlan r f ]
 unfoldable pub electPlan : Counts → ℕ → Local → Effect → Plan
 electPlan c s l f =
     unless (serverRefusal c (l .head)) f
-    (elim (leb maxElection (l .head .number)) [ true ↦ refusedPlan 11 f | false ↦ roomy c (movePlan (lineStep c s 0) (electedMove (c .servers) s l) f) ])
+    (elim (leb maxElection (largerNumberOf (l .head))) [ true ↦ refusedPlan 11 f | false ↦ roomy c (movePlan (lineStep c s 0) (electedMove (c .servers) s l) f) ])
 
 unfoldable pub timeoutPlan : Counts → ℕ → ℕ → Local → Effect → Plan
 timeoutPlan c s b l f =

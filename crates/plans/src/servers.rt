@@ -19,6 +19,7 @@ use refusals::inside;
 use refusals::server_refusal;
 use rounds::replies::is_open;
 use server::Effect;
+use server::votes::last_number;
 ghost use mathlib.Core.Path.{_≡_};
 ghost use Prim.Native.Nat.{_<_};
 ghost use Rattle.memory.specs.Layout.{serverRoom, slotRoom, headAt, versionAt, roundAt, callAt};
@@ -47,7 +48,7 @@ fn elect_plan(c: Counts, s: u32, l: Local, f: Effect) -> Plan
     let h = l.head;
     let r = server_refusal(c, h);
     if r == 0 {
-        if 65535 <= h.number {
+        if last_number(h) {
             return refused_plan(11, f);
         }
         return roomy(

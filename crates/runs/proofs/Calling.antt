@@ -271,7 +271,7 @@ module _ (m : Memory) (l : List ℕ) (t : lines.Tally) (ready : Ready m l t) (s 
         ∙ (ap lines.present (call-there (counts .servers) (counts .buckets) m s part bucket) ∙ call-present (local .call) (callWordsAt m (slotOf s part))))
 
   pub call-runs : lines.perform (stateIn m t) (lines.call s words) ≡ resultOf t (executed m l (countsAt (m .counts)) (callAt m (countsAt (m .counts)) s w f)) f
-  unfolding lines.conditions callAt callPlan
+  unfolding lines.conditionsUpTo callAt callPlan
   call-runs =
       ready-perform ready (lines.call s words)
       ∙ place-judged m l t f _ _ _ s part _ (said .buckets (clusterAt m) counts refl (measured ready .someBuckets)) (λ server bucket.

@@ -54,7 +54,7 @@ insideOnly x f p = elim x [ true ↦ p | false ↦ refusedPlan 3 f ]
 
 pub ready-perform : {m : Memory} {l : List ℕ} {t : lines.Tally} → Ready m l t → (x : lines.Line)
     → lines.perform (stateIn m t) x ≡ judged (stateIn m t) (lines.conditions (clusterAt m) x) (lines.work (clusterAt m) x)
-unfolding lines.perform lines.inCluster
+unfolding lines.performUpTo lines.inClusterUpTo
 ready-perform {m} {l} {t} ready x =
     let s = stateIn m t in
     ap (λ o. elim o [ none ↦ lines.createCluster s x | some c ↦ lines.inCluster s c x ]) (standing-cluster m (ready .standing))

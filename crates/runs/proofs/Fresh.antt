@@ -162,9 +162,9 @@ module _ (m : Memory) (l : List ℕ) (n b : ℕ) (f : Effect) where
 
   pub created-means : Sized m → (t : lines.Tally) → t ≡ lines.initialState .tally → standing (countsAt (m .counts)) ≡ false
       → lines.perform (stateIn m t) (lines.cluster n b) ≡ resultOf t (clusterRun m l n b) f
-  unfolding lines.perform clusterRun
-  created-means sized t fresh none-stands = rw (lines.perform, clusterRun, no-cluster m none-stands, none-stands, fresh) (zero-created sized)
+  unfolding lines.performUpTo clusterRun
+  created-means sized t fresh none-stands = rw (lines.performUpTo, clusterRun, no-cluster m none-stands, none-stands, fresh) (zero-created sized)
 
   pub second-cluster : (t : lines.Tally) → standing (countsAt (m .counts)) ≡ true → lines.perform (stateIn m t) (lines.cluster n b) ≡ resultOf t (clusterRun m l n b) f
-  unfolding lines.perform lines.inCluster lines.conditions lines.firstOf clusterRun resultOf refusedRun
-  second-cluster t stands = rw (lines.perform, clusterRun, standing-cluster m stands, stands)
+  unfolding lines.performUpTo lines.inClusterUpTo lines.conditionsUpTo lines.firstOf clusterRun resultOf refusedRun
+  second-cluster t stands = rw (lines.performUpTo, clusterRun, standing-cluster m stands, stands)

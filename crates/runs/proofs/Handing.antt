@@ -210,7 +210,7 @@ handLine removes i = elim removes [ true ↦ lines.deliver i | false ↦ lines.c
 
 hand-conditions : (c : cluster.Cluster) (i : ℕ) (removes : Bool)
     → lines.conditions c (handLine removes i) ≡ lines.when 5 (lines.limitReached c) ∷ lines.when 7 (lines.noMessage c i) ∷ []
-unfolding lines.conditions
+unfolding lines.conditionsUpTo
 hand-conditions c i true = refl
 hand-conditions c i false = refl
 

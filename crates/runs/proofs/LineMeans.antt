@@ -72,8 +72,8 @@ module _ (m : Memory) (l : List ℕ) (t : lines.Tally) (x : Line) (f : Effect) w
   module _ (none-stands : standing counts ≡ false) (sized : Sized m) (zero-tally : t ≡ lines.initialState .tally) where
     -- 2 for every line but the cluster line
     two : (y : lines.Line) → lines.createCluster (stateIn m t) y ≡ lines.refuse (stateIn m t) 2 → lines.perform (stateIn m t) y ≡ resultOf t (plannedRun m l x f) f
-    unfolding plannedRun resultOf refusedRun lines.perform
-    two y h = rw (lines.perform, no-cluster m none-stands, plannedRun, none-stands) h
+    unfolding plannedRun resultOf refusedRun lines.performUpTo
+    two y h = rw (lines.performUpTo, no-cluster m none-stands, plannedRun, none-stands) h
 
     bare-means : (k : Kind) → Means k
     unfolding runBy performed resultOf refusedRun lineFor lines.createCluster

@@ -10,10 +10,11 @@ use borrow.Author.Tests.{leb-false, lt-leb}
 use Rattle.entries.specs.Entries.{Entry}
 use Rattle.model.specs.Measures.{maxElection}
 use Rattle.model.specs.Cluster as cluster
-use Rattle.model.specs.Leader.{Reaction, reaction, elect, cease}
+use Rattle.model.specs.Leader.{Reaction, reaction, cease, largerNumber, elect}
 use Rattle.model.specs.Lines as lines
 use Rattle.server.specs.declared.Round.{Round}
 use Rattle.server.specs.declared.Effect.{Effect}
+use Rattle.server.specs.Heads.{largerNumberOf}
 use Rattle.server.specs.Views.{among, openIn, roundIn, chosen}
 use Rattle.memory.specs.Layout.{countsAt, headAt, roundAt}
 use Rattle.refusals.specs.Refusals.{inside}
@@ -21,7 +22,7 @@ use Rattle.moves.specs.declared.Move.{Move}
 use Rattle.moves.specs.Moves.{electedMove, timedOutMove, stoppedMove}
 use Rattle.moves.proofs.LineMoves.{elected-means, timed-out-means, stopped-means}
 use Rattle.views.specs.Memory.{Memory, WholeLocal, slotOf, localAt, clusterAt}
-use Rattle.views.proofs.Seen.{length-servers, number-there, round-there, server-seen}
+use Rattle.views.proofs.Seen.{length-servers, larger-there, round-there, server-seen}
 use Rattle.views.proofs.Whole.{whole-at, whole-electedMove, whole-timedOut, whole-stopped}
 use Rattle.plans.specs.declared.Plan.{Plan}
 use Rattle.plans.specs.Plans.{refusedPlan, lineStep, movePlan, roomy, electPlan, timeoutPlan, stopPlan, electAt, timeoutAt, stopAt, loseAt}
@@ -58,9 +59,10 @@ either-none true = refl
 either-none false = refl
 
 module _ (m : Memory) where
-  last-number-seen : (s : ℕ) → s < countsIn m .servers → lines.lastNumber (clusterAt m) s ≡ leb maxElection (headAt (m .heads) s .number)
+  last-number-seen : (s : ℕ) → s < countsIn m .servers → lines.lastNumber maxElection (clusterAt m) s ≡ leb maxElection (largerNumberOf (headAt (m .heads) s))
   unfolding lines.lastNumber
-  last-number-seen s h = ap (leb maxElection) (ap (λ x. x .stored .number) (server-stands m s h) ∙ number-there (countsIn m .servers) (countsIn m .buckets) m s)
+  last-number-seen s h =
+      ap (leb maxElection) (ap (λ x. largerNumber (x .stored)) (server-stands m s h) ∙ larger-there (countsIn m .servers) (countsIn m .buckets) m s)
 
   round-seen : (s b : ℕ) → s < countsIn m .servers → b < countsIn m .buckets
       → lines.present (cluster.roundAt (lines.serverAt (clusterAt m) s .volatile) b) ≡ among 4 (roundAt (m .slots) (slotOf s b) .purpose)
@@ -106,7 +108,7 @@ module _ (m : Memory) (l : List ℕ) (t : lines.Tally) (f : Effect) (ready : Rea
       ap (λ x. lines.acceptLine (stateIn m t) (lines.byLine (clusterAt m) s (countsIn m .calls) x)) means
       ∙ moved-run m l t (countsIn m) (lineStep (countsIn m) s b) v f ready possible
 
-  elect-moves : (s : ℕ) → s < countsIn m .servers → 0 < countsIn m .buckets → headAt (m .heads) s .number < maxElection
+  elect-moves : (s : ℕ) → s < countsIn m .servers → 0 < countsIn m .buckets → largerNumberOf (headAt (m .heads) s) < maxElection
       → judged (stateIn m t) [] (lines.work (clusterAt m) (lines.elect s))
       ≡ planned m l t (countsIn m) f (roomy (countsIn m) (movePlan (lineStep (countsIn m) s 0) (electedMove (countsIn m .servers) s (localAt m s (slotOf s 0))) f))
   unfolding lines.work electedMove
@@ -117,7 +119,7 @@ module _ (m : Memory) (l : List ℕ) (t : lines.Tally) (f : Effect) (ready : Rea
       ∙ elected-means n s 0 _ _ _ _ _ _ _ (server-seen n (countsIn m .buckets) m s 0 k) (omega arith))
 
   pub elect-runs : (s : ℕ) → lines.perform (stateIn m t) (lines.elect s) ≡ resultOf t (executed m l (countsAt (m .counts)) (electAt m (countsAt (m .counts)) s f)) f
-  unfolding lines.conditions electAt electPlan
+  unfolding lines.conditionsUpTo electAt electPlan
   elect-runs s =
       ready-perform ready (lines.elect s)
       ∙ server-named m l t f _ _ s _ (measured ready .someBuckets) (λ h k. server-judged m l t f _ _ _ s h
@@ -133,7 +135,7 @@ module _ (m : Memory) (l : List ℕ) (t : lines.Tally) (f : Effect) (ready : Rea
       (ap cease (server-stands m s h) ∙ timed-out-means n s b _ _ _ _ _ _ _ (server-seen n (countsIn m .buckets) m s b k))
 
   pub timeout-runs : (s b : ℕ) → lines.perform (stateIn m t) (lines.timeout s b) ≡ resultOf t (executed m l (countsAt (m .counts)) (timeoutAt m (countsAt (m .counts)) s b f)) f
-  unfolding lines.conditions lines.noBucket timeoutAt timeoutPlan
+  unfolding lines.conditionsUpTo lines.noBucket timeoutAt timeoutPlan
   timeout-runs s b =
       ready-perform ready (lines.timeout s b)
       ∙ place-judged m l t f _ _ _ s b _ refl (λ h k. server-judged m l t f _ _ _ s h
@@ -149,7 +151,7 @@ module _ (m : Memory) (l : List ℕ) (t : lines.Tally) (f : Effect) (ready : Rea
       (ap (λ x. reaction (lines.halted x) [] []) (server-stands m s h) ∙ stopped-means n s 0 _ _ _ _ _ _ _ (server-seen n (countsIn m .buckets) m s 0 k))
 
   pub stop-runs : (s : ℕ) → lines.perform (stateIn m t) (lines.stop s) ≡ resultOf t (executed m l (countsAt (m .counts)) (stopAt m (countsAt (m .counts)) s f)) f
-  unfolding lines.conditions stopAt stopPlan
+  unfolding lines.conditionsUpTo stopAt stopPlan
   stop-runs s =
       ready-perform ready (lines.stop s)
       ∙ server-named m l t f _ _ s _ (measured ready .someBuckets) (λ h k. server-judged m l t f [] _ _ s h (λ taken. stop-moves s h k))
@@ -158,7 +160,7 @@ module _ (m : Memory) (l : List ℕ) (t : lines.Tally) (f : Effect) (ready : Rea
 
 module _ (m : Memory) (l : List ℕ) (t : lines.Tally) (f : Effect) (ready : Ready m l t) where
   pub lose-runs : (i : ℕ) → lines.perform (stateIn m t) (lines.lose i) ≡ resultOf t (executed m l (countsAt (m .counts)) (loseAt (countsAt (m .counts)) i f)) f
-  unfolding lines.conditions lines.work lines.firstOf loseAt chosen
+  unfolding lines.conditionsUpTo lines.work lines.firstOf loseAt chosen
   lose-runs i =
       ready-perform ready (lines.lose i)
       ∙ message-judged m l t f [] _ _ i (λ taken h. lost-run m l t (countsIn m) i true f ready refl (λ e. h))

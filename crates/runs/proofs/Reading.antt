@@ -5,7 +5,7 @@ use mathlib.Core.Option.{Option, none, some}
 use Prim.Native.Nat.{ℕ}
 use Rattle.model.specs.Lines as lines
 use Rattle.model.specs.Parse.{parse}
-use Rattle.model.specs.Run.{step}
+use Rattle.model.specs.Run.{step, stepUpTo}
 use Rattle.parse.specs.Meaning.{keptOf}
 use Rattle.parse.proofs.Keeping as keeping
 use Rattle.runs.specs.Meaning.{performed}
@@ -16,12 +16,12 @@ kept-performed s none = refl
 kept-performed s (some x) = keeping.performed s x
 
 step-performed : (s : lines.State) (bytes : List ℕ) → step s bytes ≡ performed s (parse bytes)
-unfolding step performed
+unfolding stepUpTo performed
 step-performed s bytes = go (parse bytes) refl
   where
     go : (o : Option lines.Line) → parse bytes ≡ o → step s bytes ≡ performed s (parse bytes)
-    go none e = rw (step, e)
-    go (some x) e = rw (step, e)
+    go none e = rw (stepUpTo, e)
+    go (some x) e = rw (stepUpTo, e)
 
 -- a line that reads as the bytes do
 pub step-read : (s : lines.State) (bytes : List ℕ) (o : Option lines.Line) → o ≡ keptOf (parse bytes) → step s bytes ≡ performed s o

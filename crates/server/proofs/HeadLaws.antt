@@ -1,20 +1,21 @@
 -- What the rules of votes and elections make of a head stands for what document 01's definitions make of the server.
-use mathlib.Core.Path.{_≡_, refl, ap, ap₂, _∙_}
-use mathlib.Core.Bool.{Bool, true, false}
+use mathlib.Core.Path.{_≡_, refl, sym, ap, _∙_}
+use mathlib.Core.Bool.{true, false}
 use mathlib.Core.List.{List, [], _∷_, map}
-use Prim.Native.Nat.{ℕ, zero, suc, _+_, _<_, _%_, _^_}
+use Prim.Native.Nat.{ℕ, zero, suc, _+_, _<_, _^_}
 use native.Mathlib.Nat.{mod-eq-of-lt}
 use native.Mathlib.Omega.{arith}
 use lib.Dec.{ltb, leb, eqb}
 use lib.ListN.{length, take, set, replicate}
 use Rattle.model.specs.Measures.{majority}
-use Rattle.model.specs.Replica.{grants, afterVote, voting}
-use Rattle.model.specs.Leader.{Reaction, reaction, noReaction, withStored, withVolatile, ceased, cease, votesFor, standing, standForElection, raised, elect, onAckVote}
+use Rattle.model.specs.Replica.{afterVote, voting}
+use Rattle.model.specs.Leader.{Reaction, noReaction, withStored, withVolatile, ceased, cease, votesFor, standing, nextNumber, raisedTo, elect, onAckVote}
+use Rattle.model.proofs.Elections.{always-stands}
 use Rattle.model.specs.Cluster as cluster
 use Rattle.server.proofs.Counting.{set-viewed}
 use Rattle.server.specs.declared.Head.{Head}
 use Rattle.server.specs.Views.{Beside, serverIn, storedIn, volatileIn, votesIn, idle, flagIn, roleIn}
-use Rattle.server.specs.Heads.{numbered, votingHead, afterVoteHead, ceasedHead, votedHead, roleBy, standingHead, stoodHead, raisedHead, electedHead, onAckVoteHead}
+use Rattle.server.specs.Heads.{votingHead, afterVoteHead, ceasedHead, votedHead, roleBy, standingHead, withNumber, largerNumberOf, electedHead, onAckVoteHead}
 
 after-vote-stored : (e p : ℕ) (h : Head) (copies : List cluster.Copy) → storedIn (afterVoteHead e p h) copies ≡ afterVote e p (storedIn h copies)
 unfolding afterVoteHead afterVote
@@ -55,44 +56,23 @@ standing-means n x h = rw (role-by n (votesFor (votesIn n h)))
 
 -- ---- elections
 
-flag-numbered : (b : Bool) → flagIn (numbered b) ≡ b
-unfolding flagIn numbered
-flag-numbered true = refl
-flag-numbered false = refl
-
-pub stood-means : (n me : ℕ) (x : Beside) (h : Head) → serverIn n x (stoodHead n me h) ≡ standForElection n me (h .number) (serverIn n x h) .server
-unfolding stoodHead standForElection standing afterVoteHead grants
-stood-means n me x h =
-    let b = grants (h .number) me (storedIn h []) in
-    let v = votedHead me (numbered b) (afterVoteHead (h .number) me h) in
-    ap₂ (λ st w. record { stored = st; volatile = w; stopped = flagIn (h .stopped) }) (after-vote-stored (h .number) me h (x .copies))
-    (standing-means n x v ∙ ap (λ vs. standing n vs (volatileIn n h (x .rounds) (x .calls)))
-    (set-viewed flagIn n (h .votes) me (numbered b) ∙ ap (set (votesIn n h) me) (flag-numbered b)))
-
-raised-means : (n : ℕ) (x : Beside) (h : Head) → length (h .votes) ≡ 7 → h .number + 1 < 2 ^ 32 → serverIn n (idle x) (raisedHead h) ≡ withStored (cease (serverIn n x h) .server) (raised (storedIn h (x .copies)))
-unfolding cease
-raised-means n x h seven low =
-    rw (mod-eq-of-lt low) (ap (λ s. withStored s (raised (storedIn h (x .copies)))) (ceased-means n x h seven))
-
-pub elected-means : (n me : ℕ) (x : Beside) (h : Head) → length (h .votes) ≡ 7 → h .number + 1 < 2 ^ 32 → serverIn n (idle x) (electedHead n me h) ≡ elect n me (serverIn n x h) .server
-unfolding electedHead elect cease
-elected-means n me x h seven low =
-    let f = cease (serverIn n x h) in
-    let r = withStored (f .server) (raised (storedIn h (x .copies))) in
-    let e = raised-means n x h seven low in
-    let w : (h .number + 1) % 2 ^ 32 ≡ h .number + 1 = mod-eq-of-lt low in
-    let t : serverIn n (idle x) (stoodHead n me (raisedHead h)) ≡ standForElection n me (h .number + 1) r .server =
-    stood-means n me (idle x) (raisedHead h) ∙ ap₂ (λ k s. standForElection n me k s .server) w e in
-    ap (λ k. serverIn n (idle x) (elim (ltb k (h .vote)) [ true ↦ raisedHead h | false ↦ stoodHead n me (raisedHead h) ])) w
-    ∙ elim (ltb (h .number + 1) (h .vote)) as
-    (λ b. serverIn n (idle x) (elim b [ true ↦ raisedHead h | false ↦ stoodHead n me (raisedHead h) ]) ≡ (elim b as (λ z. Reaction) [ true ↦ reaction r [] (f .answers) | false ↦ reaction (standForElection n me (h .number + 1) r .server) (standForElection n me (h .number + 1) r .sends) (f .answers) ]) .server)
-    [ true ↦ e | false ↦ t ]
-
 one-more-vote : (n q : ℕ) (x : Beside) (h : Head) → serverIn n x (standingHead n (votedHead q 1 h)) ≡ withVolatile (serverIn n x h) (standing n (set (votesIn n h) q true) (volatileIn n h (x .rounds) (x .calls)))
 unfolding standing flagIn
 one-more-vote n q x h =
     ap (λ w. withVolatile (serverIn n x h) w)
     (standing-means n x (votedHead q 1 h) ∙ ap (λ vs. standing n vs (volatileIn n h (x .rounds) (x .calls))) (set-viewed flagIn n (h .votes) q 1))
+
+pub elected-means : (n me : ℕ) (x : Beside) (h : Head) → length (h .votes) ≡ 7 → largerNumberOf h + 1 < 2 ^ 32 → serverIn n (idle x) (electedHead n me h) ≡ elect n me (serverIn n x h) .server
+unfolding electedHead cease nextNumber
+elected-means n me x h seven low =
+    let s = serverIn n x h in
+    let e = nextNumber (s .stored) in
+    let g = withNumber e (votingHead e me (ceasedHead h)) in
+    let given : serverIn n (idle x) g ≡ withStored (cease s .server) (voting e me (raisedTo e (s .stored))) =
+    ap (λ y. withStored y (voting e me (raisedTo e (s .stored)))) (ceased-means n x h seven) in
+    rw (mod-eq-of-lt low)
+    (one-more-vote n me (idle x) g
+    ∙ (ap (λ y. withVolatile y (standing n (set (y .volatile .votes) me true) (y .volatile))) given ∙ sym (ap (λ r. r .server) (always-stands n me s))))
 
 -- what an ACKVOTE makes of a server, by its role
 abbrev acked : ℕ → ℕ → ℕ → cluster.Server → cluster.Role → Reaction

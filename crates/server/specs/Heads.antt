@@ -1,19 +1,14 @@
 -- What the rules of votes and elections make of a server's head, number by number. The laws in proofs/HeadLaws.antt tie each to
 -- document 01's definition of the same name. A number that is raised wraps at 2 ^ 32.
-use mathlib.Core.Bool.{Bool, true, false}
-use mathlib.Core.List.{List, []}
-use Prim.Native.Nat.{ℕ, _+_, _%_, _^_}
+use mathlib.Core.Bool.{true, false}
+use mathlib.Core.List.{List}
+use Prim.Native.Nat.{ℕ, _+_, _%_, _^_, max}
 use lib.Dec.{ltb, leb, eqb}
 use lib.ListN.{set, replicate}
 use Rattle.model.specs.Measures.{majority}
 use Rattle.server.specs.declared.Head.{Head}
-use Rattle.model.specs.Replica.{grants}
 use Rattle.model.specs.Leader.{votesFor}
-use Rattle.server.specs.Views.{votesIn, storedIn}
-
--- the number of a yes or no
-unfoldable pub numbered : Bool → ℕ
-numbered b = elim b [ true ↦ 1 | false ↦ 0 ]
+use Rattle.server.specs.Views.{votesIn}
 
 abbrev pub votingHead : ℕ → ℕ → Head → Head
 votingHead e p h =
@@ -47,22 +42,22 @@ withRole k h =
 abbrev pub standingHead : ℕ → Head → Head
 standingHead n h = withRole (roleBy n (votesFor (votesIn n h))) h
 
--- the server's own vote first, under its present number
-unfoldable pub stoodHead : ℕ → ℕ → Head → Head
-stoodHead n me h =
-    standingHead n (votedHead me (numbered (grants (h .number) me (storedIn h []))) (afterVoteHead (h .number) me h))
-
 abbrev pub withNumber : ℕ → Head → Head
 withNumber k h =
     record { number = k; vote = h .vote; leader = h .leader; role = h .role; last = h .last; stopped = h .stopped; votes = h .votes }
 
--- leadership and candidacy end, and the number is raised
-abbrev pub raisedHead : Head → Head
-raisedHead h = withNumber ((h .number + 1) % 2 ^ 32) (ceasedHead h)
+-- the larger of number and vote; the number of the next election is one above it
+abbrev pub largerNumberOf : Head → ℕ
+largerNumberOf h = max (h .number) (h .vote)
 
+abbrev pub nextNumberOf : Head → ℕ
+nextNumberOf h = (largerNumberOf h + 1) % 2 ^ 32
+
+-- leadership and candidacy end, and the server stands under its next number with its own vote
 unfoldable pub electedHead : ℕ → ℕ → Head → Head
 electedHead n me h =
-    elim (ltb (raisedHead h .number) (h .vote)) [ true ↦ raisedHead h | false ↦ stoodHead n me (raisedHead h) ]
+    let e = nextNumberOf h in
+    standingHead n (votedHead me 1 (withNumber e (votingHead e me (ceasedHead h))))
 
 unfoldable pub onAckVoteHead : ℕ → ℕ → ℕ → Head → Head
 onAckVoteHead n q e h =

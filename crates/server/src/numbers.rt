@@ -1,7 +1,8 @@
-// Majorities, the order of versions, how often a number stands in seven places, and a choice of a number.
+// Majorities, the larger of two numbers, the order of versions, how often a number stands in seven places, and a choice of a number.
 use crate::Version;
 use entries::keys::at_most;
 ghost use mathlib.Core.Path.{_≡_};
+ghost use Prim.Native.Nat.{max};
 ghost use lib.ListN.{getD, take, set};
 ghost use Rattle.model.specs.Measures.{majority};
 ghost use Rattle.model.specs.Cluster.{above};
@@ -13,6 +14,13 @@ pub fn majority(n: u32) -> u32
     ensures { λ r. ⌜ r ≡ majority n ⌝ }
 {
     n / 2 + 1
+}
+
+// The larger of two numbers.
+pub fn larger(a: u32, b: u32) -> u32
+    ensures { λ r. ⌜ r ≡ max a b ⌝ }
+{
+    if a < b { b } else { a }
 }
 
 // Whether version v is above w.

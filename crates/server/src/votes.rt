@@ -1,17 +1,19 @@
 // Votes and elections on a server's head.
 use crate::Head;
 use crate::numbers::count;
+use crate::numbers::larger;
 use crate::numbers::majority;
 use crate::numbers::placed;
 use std::num::wrapping_add_u32;
 ghost use mathlib.Core.Path.{_≡_};
 ghost use mathlib.Core.List.{[]};
 ghost use Prim.Native.Nat.{ℕ, _+_, _<_, _^_};
-ghost use lib.Dec.{ltb};
+ghost use lib.Dec.{ltb, leb};
+ghost use Rattle.model.specs.Measures.{maxElection};
 ghost use Rattle.model.specs.Replica.{grants, afterVote, voting, mayAccept};
-ghost use Rattle.model.specs.Leader.{withStored, cease, votesFor, standing, standForElection, elect, onAckVote};
+ghost use Rattle.model.specs.Leader.{withStored, cease, votesFor, standing, elect, onAckVote};
 ghost use Rattle.server.specs.Views.{Beside, serverIn, storedIn, volatileIn, votesIn, idle};
-ghost use Rattle.server.specs.Heads.{votingHead, afterVoteHead, ceasedHead, votedHead, roleBy, standingHead, numbered, stoodHead, raisedHead, electedHead, onAckVoteHead};
+ghost use Rattle.server.specs.Heads.{votingHead, afterVoteHead, ceasedHead, votedHead, roleBy, standingHead, largerNumberOf, nextNumberOf, electedHead, onAckVoteHead};
 
 // Whether a vote for p under e is given.
 pub fn grants(e: u32, p: u32, h: Head) -> bool
@@ -109,42 +111,29 @@ fn voted(q: u32, v: u32, h: Head) -> Head
     a
 }
 
-// The number of a yes or no.
-fn numbered(b: bool) -> u32
-    ensures { λ r. ⌜ r ≡ numbered b ⌝ }
+// 11: whether there is no number left to stand under.
+pub fn last_number(h: Head) -> bool
+    ensures { λ r. ⌜ r ≡ leb maxElection (largerNumberOf h) ⌝ }
 {
-    if b { 1 } else { 0 }
+    65535 <= larger(h.number, h.vote)
 }
 
-// The server stands under its present number: its own vote comes first.
-pub fn stood(n: u32, me: u32, h: Head) -> Head
-    ensures is { λ r. ⌜ r ≡ stoodHead n me h ⌝ }
-    ensures means { λ r. ⌜ ((x : Beside) → serverIn n x r ≡ standForElection n me (h .number) (serverIn n x h) .server) ⌝ }
+// The number of the next election: one above the larger of number and vote.
+fn next_number(h: Head) -> u32
+    ensures { λ r. ⌜ r ≡ nextNumberOf h ⌝ }
 {
-    let own = numbered(grants(h.number, me, h));
-    let a = after_vote(h.number, me, h);
-    standing(n, voted(me, own, a))
+    wrapping_add_u32(larger(h.number, h.vote), 1)
 }
 
-// Leadership and candidacy end, and the number is raised by one.
-pub fn raised(h: Head) -> Head
-    ensures { λ r. ⌜ r ≡ raisedHead h ⌝ }
-{
-    let mut a = ceased(h);
-    a.number = wrapping_add_u32(h.number, 1);
-    a
-}
-
-// An election: the number is raised, and the server stands unless that is below its own vote.
+// An election: leadership and candidacy end, and the server stands under its next number with its own vote.
 pub fn elected(n: u32, me: u32, h: Head) -> Head
     ensures is { λ r. ⌜ r ≡ electedHead n me h ⌝ }
-    ensures means { λ r. ⌜ ((x : Beside) → h .number + 1 < 2 ^ 32 → serverIn n (idle x) r ≡ elect n me (serverIn n x h) .server) ⌝ }
+    ensures means { λ r. ⌜ ((x : Beside) → largerNumberOf h + 1 < 2 ^ 32 → serverIn n (idle x) r ≡ elect n me (serverIn n x h) .server) ⌝ }
 {
-    let a = raised(h);
-    if must_step_down(a) {
-        return a;
-    }
-    stood(n, me, a)
+    let e = next_number(h);
+    let mut a = voting(e, me, ceased(h));
+    a.number = e;
+    standing(n, voted(me, 1, a))
 }
 
 // ACKVOTE of q under e: counts only for a candidate, for its present number, once per server.

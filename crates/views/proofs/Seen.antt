@@ -4,6 +4,8 @@ use mathlib.Core.Option.{none}
 use Prim.Native.Nat.{ℕ, _<_}
 use lib.ListN.{length, getD}
 use Rattle.model.specs.Cluster as cluster
+use Rattle.model.specs.Leader.{largerNumber}
+use Rattle.server.specs.Heads.{largerNumberOf}
 use Rattle.server.specs.Views.{flagIn, roleIn, versionIn, roundIn, callIn}
 use Rattle.memory.specs.Layout.{headAt, roundAt, callAt, versionAt}
 use Rattle.cells.specs.Cells.{Cell, Inside}
@@ -33,9 +35,9 @@ module _ (n most : ℕ) (m : Memory) (s : ℕ) where
   unfolding serverAt
   role-there = refl
 
-  pub number-there : serverAt n most m s .stored .number ≡ headAt (m .heads) s .number
+  pub larger-there : largerNumber (serverAt n most m s .stored) ≡ largerNumberOf (headAt (m .heads) s)
   unfolding serverAt
-  number-there = refl
+  larger-there = refl
 
 -- ---- a bucket of a server
 

@@ -15,7 +15,7 @@ use Rattle.server.specs.declared.Message.{Message}
 use Rattle.server.specs.declared.Handling.{Handling}
 use Rattle.server.specs.declared.Handling.the-variants.{Vote, Request, Reply, Other}
 use Rattle.server.specs.Views.{markIn, openIn, roundIn, storedIn}
-use Rattle.server.specs.Heads.{afterVoteHead, raisedHead, stoodHead, electedHead, onAckVoteHead}
+use Rattle.server.specs.Heads.{afterVoteHead, electedHead, onAckVoteHead}
 use Rattle.rounds.specs.Rounds.{isSilent, newRoundOf, countedOf, matching}
 use Rattle.rounds.specs.Kinds.{handlingIn}
 use Rattle.memory.specs.Layout.{serverRoom, headAt, roundAt}
@@ -79,8 +79,8 @@ unfolding afterVoteHead
 whole-afterVote e p h w = w
 
 whole-elected : (n me : ℕ) (h : Head) → WholeHead (electedHead n me h)
-unfolding electedHead stoodHead afterVoteHead
-whole-elected n me h = either WholeHead (ltb (raisedHead h .number) (h .vote)) _ _ refl (length-set (replicate 7 0) me _)
+unfolding electedHead
+whole-elected n me h = length-set (replicate 7 0) me 1
 
 whole-ackVote : (n q e : ℕ) (h : Head) → WholeHead h → WholeHead (onAckVoteHead n q e h)
 unfolding onAckVoteHead

@@ -133,20 +133,13 @@ impl Cluster {
     }
 
     fn elect(&mut self, s: usize, answers: &mut impl Answers) -> Result<(), Refusal> {
-        let server = self.running(s)?;
-        if server.number == u16::MAX {
-            return Err(LAST_ELECTION);
-        }
-        let stands = server.number + 1 >= server.vote;
-        if stands && self.messages.room() < self.others() {
+        let number = self.running(s)?.next_number().ok_or(LAST_ELECTION)?;
+        if self.messages.room() < self.others() {
             return Err(NO_ROOM);
         }
         self.cease(s, answers);
-        let server = &mut self.servers[s];
-        server.number += 1;
-        if stands {
-            self.stand(s);
-        }
+        self.servers[s].number = number;
+        self.stand(s);
         Ok(())
     }
 

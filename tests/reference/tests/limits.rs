@@ -3,6 +3,7 @@
 mod common;
 
 use common::{print, run, run_in_chunks, Bench};
+use reference::datagram::PLEASEVOTE;
 use reference::script::Script;
 
 #[test]
@@ -55,8 +56,11 @@ fn refusal_11_comes_before_12() {
         assert_eq!(bench.refusal("copy 0"), 0);
     }
     assert_eq!(bench.refusal("elect 0"), 11);
-    // Server 1 has voted high, so its election sends nothing.
-    assert_eq!(bench.refusal("elect 1"), 0);
+    // Server 1 has not yet heard of the last election.
+    assert_eq!(bench.refusal("elect 1"), 12);
+    bench.deliver(PLEASEVOTE, 0, 1);
+    assert_eq!(bench.under_way(), 64);
+    assert_eq!(bench.refusal("elect 1"), 11);
     assert_eq!(bench.refusal("elect 2"), 12);
 }
 

@@ -5,7 +5,7 @@ mod common;
 use common::{print, Bench};
 use reference::cluster::server::Role;
 use reference::cluster::Tally;
-use reference::datagram::{Version, ACKREAD, ACKVOTE, ACKWRITE, NACKREAD, NACKVOTE, NACKWRITE};
+use reference::datagram::{Version, ACKREAD, ACKVOTE, ACKWRITE, NACKREAD, NACKWRITE};
 use reference::datagram::{PLEASEVOTE, REPLICAREAD, REPLICAWRITE};
 
 /// Rounds of a call up to and with the checking round on a new leader's
@@ -192,24 +192,6 @@ fn recovery_takes_the_greatest_version_of_its_majority() {
 }
 
 #[test]
-fn a_vote_given_to_another_leaves_the_candidate_without_its_own_mark() {
-    let mut bench = Bench::new("cluster 3 1");
-    bench.quiet(&["elect 0"]);
-    bench.deliver(PLEASEVOTE, 0, 1);
-    bench.quiet(&["elect 1"]);
-    let server = bench.cluster().server(1);
-    assert_eq!(
-        (server.role, server.number, server.vote),
-        (Role::Candidate, 1, 1)
-    );
-    assert_eq!((server.leader, server.votes), (0, 0));
-    bench.deliver(PLEASEVOTE, 1, 0);
-    assert_eq!(bench.deliver(NACKVOTE, 0, 1), "");
-    bench.exchange(PLEASEVOTE, 1, 2);
-    assert_eq!(bench.cluster().server(1).role, Role::Candidate);
-}
-
-#[test]
 fn a_repeated_vote_request_is_acknowledged_again() {
     let mut bench = Bench::new("cluster 3 1");
     bench.quiet(&["elect 0", "copy 0", "copy 0"]);
@@ -218,21 +200,6 @@ fn a_repeated_vote_request_is_acknowledged_again() {
         .map(|place| messages.header(messages.slot(place).unwrap()).kind)
         .collect();
     assert_eq!(kinds, [PLEASEVOTE, PLEASEVOTE, ACKVOTE, ACKVOTE]);
-}
-
-#[test]
-fn an_election_below_the_own_vote_sends_nothing() {
-    let mut bench = Bench::new("cluster 3 1");
-    bench.quiet(&["elect 0", "elect 0", "elect 0"]);
-    bench.deliver(PLEASEVOTE, 0, 1);
-    assert_eq!(bench.cluster().server(1).vote, 3);
-    let sent = bench.cluster().tally().sent;
-    bench.quiet(&["elect 1", "elect 1"]);
-    assert_eq!(bench.cluster().server(1).role, Role::Idle);
-    assert_eq!(bench.cluster().tally().sent, sent);
-    bench.quiet(&["elect 1"]);
-    assert_eq!(bench.cluster().server(1).role, Role::Candidate);
-    assert_eq!(bench.cluster().tally().sent, sent + 2);
 }
 
 #[test]

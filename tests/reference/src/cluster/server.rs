@@ -124,6 +124,13 @@ impl Server {
         true
     }
 
+    /// The number of its next election, one above the larger of its number and
+    /// its vote; there is none above 65,535.
+    #[inline]
+    pub fn next_number(&self) -> Option<u16> {
+        self.number.max(self.vote).checked_add(1)
+    }
+
     /// Whether it leads or stands under a number below its vote, which ends it.
     #[inline]
     pub fn is_superseded(&self) -> bool {

@@ -92,7 +92,7 @@ impl Maker {
         match choice {
             0 => format!("copy {place}"),
             1 => format!("lose {place}"),
-            2 => format!("elect {}", self.heard_server()),
+            2 => format!("elect {}", self.running_server()),
             3 => self.timeout(),
             _ => format!("stop {}", self.random.below(self.cluster().size())),
         }
@@ -117,12 +117,11 @@ impl Maker {
         }
     }
 
-    /// A running server whose next number is not below its vote.
-    fn heard_server(&mut self) -> usize {
-        let heard = self.servers(|server| server.number.saturating_add(1) >= server.vote);
-        match heard.is_empty() {
-            true => self.likely_winner().unwrap_or(0),
-            false => *self.random.pick(&heard),
+    fn running_server(&mut self) -> usize {
+        let running = self.servers(|_| true);
+        match running.is_empty() {
+            true => 0,
+            false => *self.random.pick(&running),
         }
     }
 

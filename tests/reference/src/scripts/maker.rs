@@ -146,7 +146,7 @@ impl Maker {
     /// A running server whose next election is likely to be heard.
     pub fn likely_winner(&mut self) -> Option<usize> {
         let running = self.servers(|_| true);
-        let number = |s: &usize| self.cluster().server(*s).number;
+        let number = |s: &usize| self.cluster().server(*s).next_number();
         let highest = running.iter().map(number).max()?;
         let near: Vec<usize> = running
             .iter()

@@ -4,15 +4,6 @@ use Rattle.moves.specs.Moves.{electedMove}
 use Rattle.moves.proofs.lines.elected_move.Statement.{statement}
 use Rattle.moves.proofs.lines.elected_move.Tie as tie
 
-raised-requires : tie.Need-raised-requires
-raised-requires c κs = search needs
-
-must-step-down-requires : tie.Need-must-step-down-requires
-must-step-down-requires c κs = search needs
-
-chosen-requires : tie.Need-chosen-requires
-chosen-requires c κs = search needs
-
 elected-requires : tie.Need-elected-requires
 elected-requires c κs = search needs
 
@@ -21,17 +12,7 @@ headed-requires c κs = search needs
 
 returns : tie.Need-returns
 unfolding electedMove
-returns c =
-    let k = c .before .before in
-    rw (c .headed .ensures, c .before .elected .ensures .0, k .chosen .ensures, k .before .must-step-down .ensures, k .before .before .raised .ensures)
+returns c = rw (c .headed .ensures, c .before .elected .ensures .0)
 
 pub elected-move-spec : {M : Type 1} → statement M
-elected-move-spec =
-    tie.close
-    (tie.spec
-    raised-requires
-    must-step-down-requires
-    chosen-requires
-    elected-requires
-    headed-requires
-    returns)
+elected-move-spec = tie.close (tie.spec elected-requires headed-requires returns)
