@@ -43,7 +43,7 @@ stood n me e s =
     reaction (withVolatile s (standing n (set (s .volatile .votes) me true) (s .volatile))) (broadcast n me 0 e 0 pleaseVote) []
 
 -- under a number above its vote a server votes for itself
-pub fresh-vote : (n me e : ℕ) (s : Server) → s .stored .vote < e → standForElection n me e s ≡ stood n me e (withStored s (voting e me (s .stored)))
+fresh-vote : (n me e : ℕ) (s : Server) → s .stored .vote < e → standForElection n me e s ≡ stood n me e (withStored s (voting e me (s .stored)))
 unfolding standForElection grants afterVote
 fresh-vote n me e s h = rw (standForElection, grants, afterVote, lt-ltb _ _ h)
 

@@ -90,7 +90,8 @@ cut-off : run (bytes "cluster 3 1\nelect 0\nelect 0\nelect 0\ndeliver 5\nelect 2
 unfolding computing
 cut-off = refl
 
--- where 2 is the greatest election number: server 1, whose own number is 0, has voted under 2, and so it and server 0 may stand no more
+-- with 2 as the greatest election number: server 1, whose own number is 0, has voted under 2, so neither it nor server 0 may stand again;
+-- server 2, which has heard nothing, may
 eleven-by-the-vote : outcomesUpTo 2 initialState (linesOf (bytes "cluster 3 1\nelect 0\nelect 0\ndeliver 2\nelect 1\nelect 0\nelect 2\n"))
     ≡ printed [] ∷ printed [] ∷ printed [] ∷ printed [] ∷ refusal 11 ∷ refusal 11 ∷ printed [] ∷ []
 unfolding computing
