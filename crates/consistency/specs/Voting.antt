@@ -30,7 +30,7 @@ granted-again e q st = go (eqb e (st .vote)) refl
     go true h k = (eqb-true _ _ h, eqb-true _ _ k)
     go false h k = let z : _≡_ {A = ℕ} 0 1 = cc in absurd (omega arith)
 
-pub vote-cases : (e q : ℕ) (st : Stored) (P : Stored → Bool → Type 0) → (st .vote < e → P (voting e q st) true)
+vote-cases : (e q : ℕ) (st : Stored) (P : Stored → Bool → Type 0) → (st .vote < e → P (voting e q st) true)
     → (e ≤ st .vote → (g : Bool) → (g ≡ true → (e ≡ st .vote) × (q ≡ st .leader)) → P st g)
     → P (afterVote e q st) (grants e q st)
 unfolding afterVote grants

@@ -1,4 +1,4 @@
--- Document 01's example script, its edges, and a run of three servers, computed by the definitions.
+-- Document 01's example script, its edges, and runs of several servers, computed by the definitions as document 02 amends them.
 use mathlib.Core.Path.{_≡_, refl}
 use mathlib.Core.List.{[], _∷_}
 use Rattle.model.specs.Compute.{computing}
@@ -90,8 +90,15 @@ cut-off : run (bytes "cluster 3 1\nelect 0\nelect 0\nelect 0\ndeliver 5\nelect 2
 unfolding computing
 cut-off = refl
 
--- with 2 as the greatest election number: server 1, whose own number is 0, has voted under 2, so neither it nor server 0 may stand again;
--- server 2, which has heard nothing, may
+-- an election starts anew: the leader's call ends, it leads no more, a late vote of its last election does not count, and a vote of the
+-- new one does
+elect-again : run (bytes "cluster 3 1\nelect 0\ndeliver 0\ndeliver 0\ndeliver 0\nget 0 61\nelect 0\nget 0 61\ndeliver 0\nget 0 61\ndeliver 2\ndeliver 3\nget 0 61\n")
+    ≡ bytes "1 notdone 1\nline 8 refused 8\nline 10 refused 8\nmessages 11 0 6 0 5\n"
+unfolding computing
+elect-again = refl
+
+-- with 2 as the greatest election number: server 1, whose own number is 0, has voted under 2, so neither it nor server 0 may stand; server 2,
+-- which has heard nothing, may
 eleven-by-the-vote : outcomesUpTo 2 initialState (linesOf (bytes "cluster 3 1\nelect 0\nelect 0\ndeliver 2\nelect 1\nelect 0\nelect 2\n"))
     ≡ printed [] ∷ printed [] ∷ printed [] ∷ printed [] ∷ refusal 11 ∷ refusal 11 ∷ printed [] ∷ []
 unfolding computing

@@ -56,11 +56,11 @@ standing-means n x h = rw (role-by n (votesFor (votesIn n h)))
 
 -- ---- elections
 
-one-more-vote : (n q : ℕ) (x : Beside) (h : Head) → serverIn n x (standingHead n (votedHead q 1 h)) ≡ withVolatile (serverIn n x h) (standing n (set (votesIn n h) q true) (volatileIn n h (x .rounds) (x .calls)))
+one-more-vote : (n q : ℕ) (x : Beside) (h : Head) → serverIn n x (standingHead n (votedHead q h)) ≡ withVolatile (serverIn n x h) (standing n (set (votesIn n h) q true) (volatileIn n h (x .rounds) (x .calls)))
 unfolding standing flagIn
 one-more-vote n q x h =
     ap (λ w. withVolatile (serverIn n x h) w)
-    (standing-means n x (votedHead q 1 h) ∙ ap (λ vs. standing n vs (volatileIn n h (x .rounds) (x .calls))) (set-viewed flagIn n (h .votes) q 1))
+    (standing-means n x (votedHead q h) ∙ ap (λ vs. standing n vs (volatileIn n h (x .rounds) (x .calls))) (set-viewed flagIn n (h .votes) q 1))
 
 pub elected-means : (n me : ℕ) (x : Beside) (h : Head) → length (h .votes) ≡ 7 → largerNumberOf h + 1 < 2 ^ 32 → serverIn n (idle x) (electedHead n me h) ≡ elect n me (serverIn n x h) .server
 unfolding electedHead cease nextNumber
@@ -88,7 +88,7 @@ pub on-ack-vote-means : (n q e : ℕ) (x : Beside) (h : Head) → serverIn n x (
 unfolding onAckVoteHead onAckVote roleIn
 on-ack-vote-means n q e x h =
     let s = serverIn n x h in
-    let t = standingHead n (votedHead q 1 h) in
+    let t = standingHead n (votedHead q h) in
     elim (eqb (h .role) 1) as
     (λ b. serverIn n x (elim b [ false ↦ h | true ↦ elim (eqb e (h .number)) [ false ↦ h | true ↦ t ] ]) ≡ acked n q e s (elim b [ true ↦ cluster.candidate | false ↦ elim (eqb (h .role) 2) [ true ↦ cluster.leading | false ↦ cluster.follower ] ]) .server) [
       | false ↦ elim (eqb (h .role) 2) as (λ b. s ≡ acked n q e s (elim b [ true ↦ cluster.leading | false ↦ cluster.follower ]) .server) [ true ↦ refl | false ↦ refl ]

@@ -27,9 +27,9 @@ abbrev pub withVotes : List ℕ → Head → Head
 withVotes l h =
     record { number = h .number; vote = h .vote; leader = h .leader; role = h .role; last = h .last; stopped = h .stopped; votes = l }
 
--- the vote of server q is v
-abbrev pub votedHead : ℕ → ℕ → Head → Head
-votedHead q v h = withVotes (set (h .votes) q v) h
+-- the vote of server q is had
+abbrev pub votedHead : ℕ → Head → Head
+votedHead q h = withVotes (set (h .votes) q 1) h
 
 -- leader with a majority of votes, candidate with fewer
 unfoldable pub roleBy : ℕ → ℕ → ℕ
@@ -57,12 +57,12 @@ nextNumberOf h = (largerNumberOf h + 1) % 2 ^ 32
 unfoldable pub electedHead : ℕ → ℕ → Head → Head
 electedHead n me h =
     let e = nextNumberOf h in
-    standingHead n (votedHead me 1 (withNumber e (votingHead e me (ceasedHead h))))
+    standingHead n (votedHead me (withNumber e (votingHead e me (ceasedHead h))))
 
 unfoldable pub onAckVoteHead : ℕ → ℕ → ℕ → Head → Head
 onAckVoteHead n q e h =
     elim (eqb (h .role) 1) [
       | false ↦ h
       | true ↦
-          elim (eqb e (h .number)) [ false ↦ h | true ↦ standingHead n (votedHead q 1 h) ]
+          elim (eqb e (h .number)) [ false ↦ h | true ↦ standingHead n (votedHead q h) ]
     ]

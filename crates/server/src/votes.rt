@@ -100,12 +100,12 @@ pub fn standing(n: u32, h: Head) -> Head
     a
 }
 
-// The vote of server q is v.
-fn voted(q: u32, v: u32, h: Head) -> Head
-    ensures { λ r. ⌜ r ≡ votedHead q v h ⌝ }
+// The vote of server q is had.
+fn voted(q: u32, h: Head) -> Head
+    ensures { λ r. ⌜ r ≡ votedHead q h ⌝ }
 {
     let old = h.votes;
-    let votes = placed(old, q, v);
+    let votes = placed(old, q, 1);
     let mut a = h;
     a.votes = votes;
     a
@@ -133,7 +133,7 @@ pub fn elected(n: u32, me: u32, h: Head) -> Head
     let e = next_number(h);
     let mut a = voting(e, me, ceased(h));
     a.number = e;
-    standing(n, voted(me, 1, a))
+    standing(n, voted(me, a))
 }
 
 // ACKVOTE of q under e: counts only for a candidate, for its present number, once per server.
@@ -143,7 +143,7 @@ pub fn on_ack_vote(n: u32, q: u32, e: u32, h: Head) -> Head
 {
     if h.role == 1 {
         if e == h.number {
-            return standing(n, voted(q, 1, h));
+            return standing(n, voted(q, h));
         }
     }
     h

@@ -22,7 +22,7 @@ pub const NOT_LEADER: Refusal = 8;
 pub const CALL_OPEN: Refusal = 9;
 /// Timeout with no round open.
 pub const NO_ROUND: Refusal = 10;
-/// Election at number 65,535.
+/// Election of a server whose number or vote is 65,535.
 pub const LAST_ELECTION: Refusal = 11;
 /// More to send than places left.
 pub const NO_ROOM: Refusal = 12;

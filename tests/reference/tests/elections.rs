@@ -86,7 +86,27 @@ fn a_candidate_has_its_own_vote_and_needs_one_fewer() {
             assert_eq!(bench.cluster().server(1).role == Role::Leader, leads);
             assert_eq!(bench.exchange(PLEASEVOTE, 1, voter), "");
         }
+        assert_eq!(standing(&bench, 1), (4, 4, 1, Role::Leader));
     }
+}
+
+#[test]
+fn an_election_starts_anew() {
+    let mut bench = Bench::new("cluster 5 1");
+    bench.elect(0, &[1, 2]);
+    bench.deliver(PLEASEVOTE, 0, 3);
+    bench.quiet(&["get 0 61"]);
+    // Leadership, call and votes of the first election end with the second.
+    assert_eq!(bench.line("elect 0"), "1 notdone 1");
+    assert_eq!(standing(&bench, 0), (2, 2, 0, Role::Candidate));
+    assert_eq!(bench.cluster().server(0).votes, 1);
+    // A vote of the first counts for nothing now.
+    bench.deliver(ACKVOTE, 3, 0);
+    assert_eq!(bench.cluster().server(0).votes, 1);
+    bench.exchange(PLEASEVOTE, 0, 1);
+    assert_eq!(standing(&bench, 0).3, Role::Candidate);
+    bench.exchange(PLEASEVOTE, 0, 4);
+    assert_eq!(standing(&bench, 0).3, Role::Leader);
 }
 
 #[test]
@@ -135,6 +155,9 @@ fn a_vote_of_65_535_is_the_last() {
     assert_eq!(bench.refusal("elect 0"), 11);
     assert_eq!(standing(&bench, 0), (65_535, 65_535, 0, Role::Candidate));
     assert_eq!(bench.refusal("elect 2"), 0);
+    // A stopped server is refused for that first.
+    bench.quiet(&["stop 1"]);
+    assert_eq!(bench.refusal("elect 1"), 6);
     // One below the last is still a number to stand above.
     let mut bench = heard(3, 1, 65_534);
     assert_eq!(bench.refusal("elect 1"), 0);

@@ -44,6 +44,24 @@ fn elections_end_at_65_535() {
 }
 
 #[test]
+fn refusal_5_comes_before_11() {
+    let mut text = b"cluster 1 1\n".to_vec();
+    for _ in 0..65_536 {
+        text.extend_from_slice(b"elect 0\n");
+    }
+    for _ in 65_535..1_000_000 {
+        text.extend_from_slice(b"get 0 61\n");
+    }
+    text.extend_from_slice(b"elect 0\n");
+    let out = String::from_utf8(run(&text)).unwrap();
+    let refused: Vec<&str> = out
+        .lines()
+        .filter(|line| line.contains("refused"))
+        .collect();
+    assert_eq!(refused, ["line 65537 refused 11", "line 1000003 refused 5"]);
+}
+
+#[test]
 fn refusal_11_comes_before_12() {
     let mut bench = Bench::new("cluster 7 1");
     for _ in 0..65_535 {

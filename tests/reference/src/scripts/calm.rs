@@ -117,6 +117,7 @@ impl Maker {
         }
     }
 
+    /// A running server, if there is one.
     fn running_server(&mut self) -> usize {
         let running = self.servers(|_| true);
         match running.is_empty() {

@@ -30,7 +30,7 @@ returns c =
     let a = s .args in
     let e = c .before .before .before .before .next-number .ensures in
     let given = c .before .before .voting .ensures .0 ∙ ap₂ (λ k h. votingHead k (a .me) h) e (c .before .before .before .ceased .ensures .0) in
-    let voted = c .before .voted .ensures ∙ ap₂ (λ k h. votedHead (a .me) 1 (withNumber k h)) e given in
+    let voted = c .before .voted .ensures ∙ ap₂ (λ k h. votedHead (a .me) (withNumber k h)) e given in
     let is : c .standing .result ≡ electedHead (a .n) (a .me) (a .h) = c .standing .ensures .0 ∙ ap (standingHead (a .n)) voted in
     let seven : length (a .h .votes) ≡ 7 = simp length-map at (s .good .1 .1 .0 .1 .1 .1 .1 .1 .1 .1 .1 .0 .1 .0 .1) in
     (is, λ x low. ap (λ h. serverIn (a .n) (idle x) h) is ∙ elected-means (a .n) (a .me) x (a .h) seven low)
