@@ -1,5 +1,5 @@
 -- The model's rules for a call are those of a front and a cell.
-use mathlib.Core.Path.{_≡_, refl}
+use mathlib.Core.Path.{_≡_, refl, ap}
 use mathlib.Core.List.{List}
 use mathlib.Core.Bool.{Bool, true, false}
 use mathlib.Core.Option.{Option, none, some}
@@ -8,12 +8,12 @@ use lib.Dec.{eqb}
 use lib.ListN.{set}
 use lib.Seq.{getD-set-same, set-set, set-getD}
 use Rattle.entries.specs.Entries.{Entry}
-use Rattle.model.specs.Calls.{Words, Result, done, Effect, answers, writes, effect}
+use Rattle.model.specs.Calls.{Words, Result, done, Effect, answers, writes, effectWrites, effect}
 use Rattle.model.specs.Cluster.{version, above, Copy, freshCopy, copyAt, Purpose, recoveryRead, recoveryWrite, check, ownWrite, Round, Call, roundAt, callAt, Server, Message}
 use Rattle.model.specs.Replica.{Request, reading, writing, requestBody, accepting, storing, voting}
-use Rattle.model.specs.Leader.{Reaction, broadcast, isOwn, oneMore, closes, newRound, opening, openRound, finish, nextVersion, applying, afterRead, checking, recovering, startRead, closed, beginCall, withRound, fails, counting}
+use Rattle.model.specs.Leader.{Reaction, broadcast, isOwn, oneMore, closes, newRound, opening, openRound, finish, nextVersion, applying, afterRead, checking, recovering, startRead, straight, startCall, closed, beginCall, withRound, fails, counting}
 use Rattle.cells.specs.Cells.{Front, Cell, front, cell, putCell, Inside, Move, lift}
-use Rattle.cells.specs.Moves.{finishing, keeping, roundFor, frontAfter, cellAfter, openingRound, doing, afterReading, checkingRound, recoveryOf, readingBucket, closing, beginning, countingReply, reactionTo}
+use Rattle.cells.specs.Moves.{finishing, keeping, roundFor, frontAfter, cellAfter, openingRound, doing, afterReading, checkingRound, recoveryOf, readingBucket, straightTo, startingCall, closing, beginning, countingReply, reactionTo}
 
 module _ (s : Server) (b : ℕ) (h : Inside s b) where
   -- a server is its front and its cells
@@ -120,11 +120,24 @@ module _ (s : Server) (b : ℕ) (h : Inside s b) where
       go check e = rw (closed, closing, e) (after-read-is n me f c)
       go ownWrite e = rw (closed, closing, e) (finish-is done f c)
 
+  straight-is : (w : Words) (f : Front) (c : Cell) → straight b w (putCell s b f c) ≡ straightTo w f c
+  unfolding straight straightTo
+  straight-is w f c =
+      ap (λ k. elim (eqb (k .version .election) (f .number)) as (λ _. Option (List Entry)) [ true ↦ effectWrites (effect w (k .table)) | false ↦ none ]) (copy-there f c)
+
+  start-is : (n me : ℕ) (w : Words) → Same (startCall n me b w) (startingCall n me b w)
+  unfolding startCall startingCall
+  start-is n me w f c = go (straightTo w f c) refl
+    where
+      go : (o : Option (List Entry)) → straightTo w f c ≡ o → startCall n me b w (putCell s b f c) ≡ lift s b (startingCall n me b w f c)
+      go none e = rw (startCall, startingCall, straight-is w f c, e) (read-is n me f c)
+      go (some t) e = rw (startCall, startingCall, straight-is w f c, e) (applying-is n me (writes t) f c)
+
   pub begin-is : (n me i : ℕ) (w : Words) → Same (beginCall n me b i w) (beginning n me b i w)
   unfolding beginCall beginning
   begin-is n me i w f c =
       let k : Call = record { number = i; words = w; rounds = 0; sent = false } in
-      rw (set-set (s .volatile .calls) b (c .call) (some k)) (read-is n me f (record { copy = c .copy; round = c .round; call = some k }))
+      rw (set-set (s .volatile .calls) b (c .call) (some k)) (start-is n me w f (record { copy = c .copy; round = c .round; call = some k }))
 
   -- a reply counted: the round closes, fails or stays open
   pub counting-is : (n me : ℕ) (r : Round) (f : Front) (c : Cell)

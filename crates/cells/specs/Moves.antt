@@ -1,12 +1,12 @@
 -- The rules of a leader for a call, at one bucket: the model's definitions (crates/model/specs/Leader.antt) on a front and a cell.
 use mathlib.Core.List.{List, [], _++_}
 use mathlib.Core.Bool.{true, false}
-use mathlib.Core.Option.{none, some}
+use mathlib.Core.Option.{Option, none, some}
 use Prim.Native.Nat.{ℕ, _+_}
 use lib.Dec.{eqb}
 use lib.ListN.{set, replicate}
 use Rattle.entries.specs.Entries.{Entry}
-use Rattle.model.specs.Calls.{Words, Result, done, Effect, answers, writes, effect}
+use Rattle.model.specs.Calls.{Words, Result, done, Effect, answers, writes, effectWrites, effect}
 use Rattle.model.specs.Cluster.{version, above, Copy, Purpose, recoveryRead, recoveryWrite, check, ownWrite, silent, acknowledged, Round, Server, Message}
 use Rattle.model.specs.Replica.{Request, reading, writing, requestBody}
 use Rattle.model.specs.Leader.{Reaction, cease, fails, broadcast, isOwn, reportTo, oneMore, closes, answerOf}
@@ -89,10 +89,19 @@ closing n me b r f c =
       | ownWrite ↦ finishing done f c
     ]
 
+-- what a call writes without READ
+unfoldable pub straightTo : Words → Front → Cell → Option (List Entry)
+straightTo w f c =
+    elim (eqb (c .copy .version .election) (f .number)) [ true ↦ effectWrites (effect w (c .copy .table)) | false ↦ none ]
+
+-- the first round of a call
+unfoldable pub startingCall : ℕ → ℕ → ℕ → Words → Front → Cell → Move
+startingCall n me b w f c = elim (straightTo w f c) [ some t ↦ doing n me b (writes t) f c | none ↦ readingBucket n me b f c ]
+
 -- a call is taken
 unfoldable pub beginning : ℕ → ℕ → ℕ → ℕ → Words → Front → Cell → Move
 beginning n me b i w f c =
-    readingBucket n me b f (record { copy = c .copy; round = c .round; call = some (record { number = i; words = w; rounds = 0; sent = false }) })
+    startingCall n me b w f (record { copy = c .copy; round = c .round; call = some (record { number = i; words = w; rounds = 0; sent = false }) })
 
 -- what becomes of a round with a reply counted: the call goes on at this bucket, or the round failed and the server ceases to lead
 pub data Counting : Type 0 where

@@ -21,7 +21,7 @@ use Rattle.consistency.specs.Acts.{addBegun, Kept}
 use Rattle.consistency.specs.Added.{adds-begun}
 use Rattle.consistency.specs.Extend.{begun-added}
 use Rattle.consistency.specs.Ready.{Leads, leads-carried, Ready, leader-of}
-use Rattle.consistency.specs.Chain.{read-kept}
+use Rattle.consistency.specs.Chain.{start-kept}
 
 -- where no call is open no round is, and what is written under the leader's number is chosen
 rest-of : (n : ℕ) (log : Log) (p e b : ℕ) (copy : Copy) (r : Option Round) (c : Option Call) → c ≡ none → BucketOk n log p e b copy r c → copy .version .election ≡ e → Chosen n log b (copy .version)
@@ -103,7 +103,7 @@ module _ (n buckets now taken p b : ℕ) {log : Log} (ok : LogOk n now taken log
   unfolding beginCall
   begin-kept =
       let w = s .volatile in
-      read-kept n buckets now i p b (subst (λ k. LogOk n now k takenLog) (sym next) (begun-added ok taking next refl)) taken-ready
+      start-kept n buckets now i p b (subst (λ k. LogOk n now k takenLog) (sym next) (begun-added ok taking next refl)) taken-ready
       (λ e. chosen-grows (adds-begun log p taking .grows)
       (rest-of n log p (s .stored .number) b (copyAt (s .stored) b) (roundAt w b) (callAt w b) free (leader-of agrees leads .1 b) e))
       refl fresh-unwritten

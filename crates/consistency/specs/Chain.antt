@@ -16,7 +16,8 @@ use Rattle.model.specs.Measures.{majority}
 use Rattle.model.specs.Calls.{Result, done, Effect, answers, writes, effect}
 use Rattle.model.specs.Cluster.{Version, version, above, Copy, copyAt, Purpose, recoveryRead, recoveryWrite, check, ownWrite, Round, Call, roundAt, callAt, Server}
 use Rattle.model.specs.Replica.{reading, writing, requestBody, accepting}
-use Rattle.model.specs.Leader.{Reaction, isOwn, reportTo, newRound, closes, opening, openRound, broadcast, finish, nextVersion, applying, afterRead, checking, recovering, startRead, closed}
+use Rattle.model.specs.Leader.{Reaction, isOwn, reportTo, newRound, closes, opening, openRound, broadcast, finish, nextVersion, applying, afterRead, checking, recovering, startRead, startCall, closed}
+use Rattle.model.proofs.FirstRound.{first-round}
 use Rattle.history.specs.Members.{_∈_, first-in, none-in, each-cons}
 use Rattle.history.specs.Version.{_≼_, _≺_, lt-of-le-lt}
 use Rattle.history.specs.Quorum.{Majority}
@@ -433,7 +434,7 @@ module _ (n buckets now taken p b : ℕ) where
         (read-round ok (h .ready) recoveryRead (version 0 0)) recovery-read-rests)
         recovery-read-recovers
 
-  pub read-kept : {log : Log} → LogOk n now taken log → {c : Call} {s : Server} → Ready n buckets log p b c s
+  read-kept : {log : Log} → LogOk n now taken log → {c : Call} {s : Server} → Ready n buckets log p b c s
       → (copyAt (s .stored) b .version .election ≡ s .stored .number → Chosen n log b (copyAt (s .stored) b .version))
       → c .sent ≡ false → Unwritten log (c .number)
       → Kept n buckets now taken p log (startRead n p b s)
@@ -450,6 +451,19 @@ module _ (n buckets now taken p b : ℕ) where
           let i = eqb-true _ _ e in
           checking-kept ok (record { ready = h; recovered = i; chosen = rest i; unsent = unsent; unwritten = unwritten })
       go false e = recovery-read-kept ok (record { ready = h; old = eqb-false _ _ e; unsent = unsent; unwritten = unwritten })
+
+  -- a call's own write on a recovered bucket goes out at once; every other call reads first
+  pub start-kept : {log : Log} → LogOk n now taken log → {c : Call} {s : Server} → Ready n buckets log p b c s
+      → (copyAt (s .stored) b .version .election ≡ s .stored .number → Chosen n log b (copyAt (s .stored) b .version))
+      → c .sent ≡ false → Unwritten log (c .number)
+      → Kept n buckets now taken p log (startCall n p b (c .words) s)
+  unfolding applying
+  start-kept {log} ok {c} {s} h rest unsent unwritten =
+      first-round n p b (c .words) s (Kept n buckets now taken p log)
+      (λ t e made.
+      let i = eqb-true _ _ e in
+      own-write-kept ok (record { ready = h; recovered = i; chosen = rest i; unsent = unsent; unwritten = unwritten }) t made)
+      (read-kept ok h rest unsent unwritten)
 
   -- ---- a round that closes
 

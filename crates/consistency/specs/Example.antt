@@ -21,30 +21,30 @@ use Rattle.consistency.specs.Reached.{serverIn, LeadsIn}
 use Rattle.consistency.specs.Theorem.{one-order-for-every-script}
 
 abbrev input : List ℕ
-input = bytes "cluster 3 1\nelect 0\ndeliver 0\ndeliver 1\nset 0 61 01\ndeliver 2\ndeliver 2\ndeliver 3\ndeliver 3\ndeliver 4\ndeliver 4\ncopy 5\ndeliver 6\nset 0 61 02\ndeliver 7\ndeliver 7\ndeliver 8\ndeliver 5\nelect 1\ndeliver 10\ndeliver 10\nget 1 61\ndeliver 11\ndeliver 11\ndeliver 12\ndeliver 12\ndeliver 13\ndeliver 13\ntimeout 0 0\n"
+input = bytes "cluster 3 1\nelect 0\ndeliver 0\ndeliver 1\nset 0 61 01\ndeliver 2\ndeliver 2\ndeliver 3\ndeliver 3\ndeliver 4\ndeliver 4\ncopy 5\ndeliver 6\nset 0 61 02\ndeliver 7\ndeliver 5\nelect 1\ndeliver 9\ndeliver 9\nget 1 61\ndeliver 10\ndeliver 10\ndeliver 11\ndeliver 11\ndeliver 12\ndeliver 12\ntimeout 0 0\n"
 
 abbrev script : List (List ℕ)
 script = linesOf input
 
-prints : run input ≡ bytes "1 done 4\n3 value 3 02\n2 unknown 2\nmessages 34 1 22 0 13\n"
+prints : run input ≡ bytes "1 done 4\n3 value 3 02\n2 unknown 1\nmessages 31 1 20 0 12\n"
 unfolding computing
 prints = refl
 
--- after line 12 server 2 has stored call 1's write, and after line 17 that of call 2; line 18 hands it the former again
+-- after line 12 server 2 has stored call 1's write, and after line 15 that of call 2; line 16 hands it the former again
 first-write : copyAt (serverIn (stateAfter initialState (take 12 script)) 2 .stored) 0 .version ≡ version 1 2
 unfolding computing
 first-write = refl
 
-second-write : copyAt (serverIn (stateAfter initialState (take 17 script)) 2 .stored) 0 .version ≡ version 1 3
+second-write : copyAt (serverIn (stateAfter initialState (take 15 script)) 2 .stored) 0 .version ≡ version 1 3
 unfolding computing
 second-write = refl
 
-late-copy-replaces-nothing : copyAt (serverIn (stateAfter initialState (take 18 script)) 2 .stored) 0 .version ≡ version 1 3
+late-copy-replaces-nothing : copyAt (serverIn (stateAfter initialState (take 16 script)) 2 .stored) 0 .version ≡ version 1 3
 unfolding computing
 late-copy-replaces-nothing = refl
 
 -- two leaders at once, under two numbers
-two-leaders : LeadsIn (stateAfter initialState (take 21 script)) 0 1 × LeadsIn (stateAfter initialState (take 21 script)) 1 2
+two-leaders : LeadsIn (stateAfter initialState (take 19 script)) 0 1 × LeadsIn (stateAfter initialState (take 19 script)) 1 2
 unfolding computing
 two-leaders = ((refl, refl), (refl, refl))
 
@@ -60,16 +60,16 @@ abbrev b2 : Begin
 b2 = record { number = 2; words = set key (2 ∷ []); bucket = 0; line = 14 }
 
 abbrev b3 : Begin
-b3 = record { number = 3; words = get key; bucket = 0; line = 22 }
+b3 = record { number = 3; words = get key; bucket = 0; line = 20 }
 
 abbrev e1 : End
 e1 = record { number = 1; result = done; line = 13 }
 
 abbrev e2 : End
-e2 = record { number = 2; result = unknown; line = 29 }
+e2 = record { number = 2; result = unknown; line = 27 }
 
 abbrev e3 : End
-e3 = record { number = 3; result = value (2 ∷ []); line = 28 }
+e3 = record { number = 3; result = value (2 ∷ []); line = 26 }
 
 begun : begins script ≡ b1 ∷ b2 ∷ b3 ∷ []
 unfolding computing beginsFrom meaning

@@ -14,9 +14,10 @@ use Rattle.entries.specs.Entries.{Entry}
 use Rattle.model.specs.Calls.{Words, Result, done, Effect, answers, writes, effect}
 use Rattle.model.specs.Cluster.{Version, version, Copy, freshCopy, Stored, copyAt, Role, follower, candidate, leading, Purpose, recoveryRead, recoveryWrite, check, ownWrite, Mark, acknowledged, refused, Round, Volatile, roundAt, callAt, Server, Body, pleaseVote, ackVote, nackVote, replicaWrite, ackWrite, nackWrite, replicaRead, ackRead, nackRead, Message}
 use Rattle.model.specs.Replica.{afterVote, Request, reading, writing, mayAccept, storing, accepting, acknowledging, refusing}
-use Rattle.model.specs.Leader.{Reaction, reaction, noReaction, after, withStored, withRound, endings, cease, stepDown, standing, elect, onAckVote, closes, fails, newRound, opening, openRound, answerOf, finish, applying, afterRead, checking, recovering, startRead, beginCall, closed, counted, counting, onReply, onPleaseVote, onRequest, handle}
+use Rattle.model.specs.Leader.{Reaction, reaction, noReaction, after, withStored, withRound, endings, cease, stepDown, standing, elect, onAckVote, closes, fails, newRound, opening, openRound, answerOf, finish, applying, afterRead, checking, recovering, startRead, startCall, beginCall, closed, counted, counting, onReply, onPleaseVote, onRequest, handle}
 use Rattle.model.specs.Leader
 use Rattle.model.proofs.Elections.{above-the-number, always-stands}
+use Rattle.model.proofs.FirstRound.{first-round}
 use Rattle.history.specs.Version.{_≼_, le-refl, le-trans, le-of-lt}
 use Rattle.consistency.specs.Storing.{storing-cases}
 
@@ -139,13 +140,16 @@ module _ (n me b : ℕ) where
         | false ↦ open-moves recoveryRead reading (recovering n me b (copyAt (s .stored) b .table)) (recovering-moves _) s
       ]
 
+  start-call-moves : (words : Words) (s : Server) → Moves s (startCall n me b words s)
+  start-call-moves words s = first-round n me b words s (Moves s) (λ t e made. applying-moves (writes t) s) (start-read-moves s)
+
   pub beginCall-moves : (i : ℕ) (words : Words) (s : Server) → Moves s (beginCall n me b i words s)
   unfolding beginCall
   beginCall-moves i words s =
       let w = s .volatile in
       let t : Server = record { stored = s .stored; volatile = record { role = w .role; votes = w .votes; lastRound = w .lastRound; rounds = w .rounds; calls = set (w .calls) b (some (record { number = i; words = words; rounds = 0; sent = false })) }; stopped = s .stopped } in
       let on : Onward s t = record { number = omega arith; role = λ e. omega arith; copies = λ k. le-refl _ } in
-      let g = start-read-moves t in
+      let g = start-call-moves words t in
       record { onward = onward-trans on (g .onward); one = g .one }
 
   closed-moves : (r : Round) (s : Server) → Moves s (closed n me b r s)

@@ -1,5 +1,5 @@
 -- The rules of a server keep its measures: one lemma for each rule.
-use mathlib.Core.Path.{_≡_, refl, sym, ap, _∙_}
+use mathlib.Core.Path.{_≡_, refl, sym, ap, _∙_, subst}
 use mathlib.Core.List.{List, [], _∷_, map-map}
 use mathlib.Core.Bool.{Bool, true, false}
 use mathlib.Core.Option.{Option, none, some}
@@ -17,9 +17,10 @@ use Rattle.model.specs.Measures.{majority}
 use Rattle.model.specs.Calls.{Words, bucketFor, Result, done, Effect, answers, writes}
 use Rattle.model.specs.Cluster.{Version, version, above, Copy, freshCopy, Stored, copyAt, Role, follower, candidate, leading, Purpose, recoveryRead, recoveryWrite, check, ownWrite, Mark, silent, acknowledged, refused, Round, Call, Volatile, Server, Body, pleaseVote, ackVote, nackVote, replicaWrite, ackWrite, nackWrite, replicaRead, ackRead, nackRead, Message, roundAt, callAt}
 use Rattle.model.specs.Replica.{voting, grants, afterVote, Request, reading, writing, requestBody, mayAccept, storing, accepting, acknowledging, refusing}
-use Rattle.model.specs.Leader.{Reaction, noReaction, withStored, withVolatile, below, without, broadcast, ended, ceased, cease, stepDown, votesFor, standing, standForElection, nextNumber, raisedTo, elect, onAckVote, closes, fails, oneMore, isOwn, reportTo, newRound, opening, openRound, answerOf, finish, nextVersion, applying, afterRead, checking, recovering, startRead, beginCall, closed, better, markedBy, counted, withRound, counting, onReply, replyTo, onPleaseVote, onRequest, handle}
+use Rattle.model.specs.Leader.{Reaction, noReaction, withStored, withVolatile, below, without, broadcast, ended, ceased, cease, stepDown, votesFor, standing, standForElection, nextNumber, raisedTo, elect, onAckVote, closes, fails, oneMore, isOwn, reportTo, newRound, opening, openRound, answerOf, finish, nextVersion, applying, afterRead, checking, recovering, startRead, startCall, beginCall, closed, better, markedBy, counted, withRound, counting, onReply, replyTo, onPleaseVote, onRequest, handle}
 use Rattle.model.specs.Leader
 use Rattle.model.proofs.Elections.{above-the-number}
+use Rattle.model.proofs.FirstRound.{first-round}
 use Rattle.limits.specs.Lists.{All, nil, cons, all-imply, all-append, all-set, all-at, all-map}
 use Rattle.limits.specs.Tables.{EffectWithin, effect-within, fresh-copy-within}
 use Rattle.limits.specs.Measures.{Limits, Fits, CopyWithin, StoredWithin, WordsSized, CallWithin, left, RoundWithin, SlotWithin, idle, busy, RoleWithin, FrameWithin, ServerWithin, RequestWithin, OfVote, OfRound, BodyWithin, MessageWithin, ResultWithin, AnswerWithin, Ending, AnswersWithin, single, endings, ReactionWithin, fewer, copy-grows, stored-grows, frame-grows, server-grows}
@@ -471,6 +472,13 @@ module _ (n b : ℕ) (l : Limits) where
         (checking-within (amidst-fewer 2 (omega arith) a))
         (openRound-within recoveryRead reading tt a _ refl (λ u m. recovering-within _ (copy-within i d (a .stored) .fitting) m))
 
+    startCall-within : {c : Call} {s : Server} → Amidst i 4 c s → ReactionWithin n b l (startCall n me i (c .words) s)
+    startCall-within {c} {s} a =
+        let written = effect-within (c .words) _ (a .call .sizes) (copy-within i d (a .stored) .fitting) in
+        first-round n me i (c .words) s (ReactionWithin n b l)
+        (λ t e made. applying-within (writes t) (subst EffectWithin made written) (amidst-fewer 1 (omega arith) a))
+        (readBucket-within a)
+
     pub beginCall-within : {s : Server} (number : ℕ) (words : Words) → 1 ≤ number → number ≤ l .calls → WordsSized words →
         bucketFor b words ≡ i → s .volatile .role ≢ follower → ServerWithin n b l 4 s →
         ReactionWithin n b l (beginCall n me i number words s)
@@ -479,7 +487,7 @@ module _ (n b : ℕ) (l : Limits) where
         let f = w .frame in
         let v = s .volatile in
         let new : Call = record { number = number; words = words; rounds = 0; sent = false } in
-        readBucket-within
+        startCall-within {c = new}
         (record {
           stored = w .stored;
           frame = record { votes = f .votes; rounds = f .rounds; calls = rw length-set (f .calls); lastRound = f .lastRound; standing = f .standing };

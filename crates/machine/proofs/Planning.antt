@@ -57,31 +57,31 @@ module _ (heads slots copies texts queue : List ℕ) (c : Counts) (x : Line) (p 
   unfolding linePlan callAt
   get-planned w e q g =
       let h : CallPlanned heads slots copies c (x .first) (wordsOf K.Get x) p = subst (λ v. CallPlanned heads slots copies c (x .first) v p) (q ∙ ap (λ k. wordsOf k x) e) g in
-      simply K.Get e (h .is) (λ n z. h .effect n (ap (λ r. r .refusal) (h .is) ∙ z))
+      simply K.Get e (h .is) (h .effect)
 
   pub set-planned : (w : Words) → x .kind ≡ K.Set → w ≡ wordsOf (x .kind) x → CallPlanned heads slots copies c (x .first) w p → LinePlanned heads slots copies texts queue c x p
   unfolding linePlan callAt
   set-planned w e q g =
       let h : CallPlanned heads slots copies c (x .first) (wordsOf K.Set x) p = subst (λ v. CallPlanned heads slots copies c (x .first) v p) (q ∙ ap (λ k. wordsOf k x) e) g in
-      simply K.Set e (h .is) (λ n z. h .effect n (ap (λ r. r .refusal) (h .is) ∙ z))
+      simply K.Set e (h .is) (h .effect)
 
   pub setif-planned : (w : Words) → x .kind ≡ K.SetIf → w ≡ wordsOf (x .kind) x → CallPlanned heads slots copies c (x .first) w p → LinePlanned heads slots copies texts queue c x p
   unfolding linePlan callAt
   setif-planned w e q g =
       let h : CallPlanned heads slots copies c (x .first) (wordsOf K.SetIf x) p = subst (λ v. CallPlanned heads slots copies c (x .first) v p) (q ∙ ap (λ k. wordsOf k x) e) g in
-      simply K.SetIf e (h .is) (λ n z. h .effect n (ap (λ r. r .refusal) (h .is) ∙ z))
+      simply K.SetIf e (h .is) (h .effect)
 
   pub del-planned : (w : Words) → x .kind ≡ K.Del → w ≡ wordsOf (x .kind) x → CallPlanned heads slots copies c (x .first) w p → LinePlanned heads slots copies texts queue c x p
   unfolding linePlan callAt
   del-planned w e q g =
       let h : CallPlanned heads slots copies c (x .first) (wordsOf K.Del x) p = subst (λ v. CallPlanned heads slots copies c (x .first) v p) (q ∙ ap (λ k. wordsOf k x) e) g in
-      simply K.Del e (h .is) (λ n z. h .effect n (ap (λ r. r .refusal) (h .is) ∙ z))
+      simply K.Del e (h .is) (h .effect)
 
   pub keys-planned : (w : Words) → x .kind ≡ K.Keys → w ≡ wordsOf (x .kind) x → CallPlanned heads slots copies c (x .first) w p → LinePlanned heads slots copies texts queue c x p
   unfolding linePlan callAt
   keys-planned w e q g =
       let h : CallPlanned heads slots copies c (x .first) (wordsOf K.Keys x) p = subst (λ v. CallPlanned heads slots copies c (x .first) v p) (q ∙ ap (λ k. wordsOf k x) e) g in
-      simply K.Keys e (h .is) (λ n z. h .effect n (ap (λ r. r .refusal) (h .is) ∙ z))
+      simply K.Keys e (h .is) (h .effect)
 
   -- messages that are handed over have no plan
   pub deliver-unplanned : x .kind ≡ K.Deliver → sortOf (x .kind) ≡ 2 → LinePlanned heads slots copies texts queue c x p

@@ -1,3 +1,4 @@
 -- Laws that belong to no one function.
 pub mod Elections
+pub mod FirstRound
 pub mod Majorities

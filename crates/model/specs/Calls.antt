@@ -1,7 +1,7 @@
 -- The calls: their words, their results, and what a call does to its bucket's table.
 use mathlib.Core.List.{List, []}
 use mathlib.Core.Bool.{true, false}
-use mathlib.Core.Option.{none, some}
+use mathlib.Core.Option.{Option, none, some}
 use Prim.Native.Nat.{ℕ}
 use Rattle.hash.specs.Fnv.{bucketOf}
 use Rattle.entries.specs.Entries.{Entry, valueOf, stored, keysOf}
@@ -38,6 +38,11 @@ pub data Result : Type 0 where
 pub data Effect : Type 0 where
   answers : Result → Effect
   writes : List Entry → Effect
+
+-- the new table, if there is one to write
+unfoldable pub effectWrites : Effect → Option (List Entry)
+effectWrites (answers r) = none
+effectWrites (writes t) = some t
 
 -- `set K V`
 unfoldable pub setting : List ℕ → List ℕ → List Entry → Effect

@@ -13,7 +13,7 @@ example = refl
 
 -- a fourth key is stored, a fifth is `full`
 fourth-and-fifth-key : run (bytes "cluster 1 1\nelect 0\nset 0 61 01\nset 0 62 01\nset 0 63 01\nset 0 64 01\nset 0 65 01\nset 0 64 02\nkeys 0 0\n")
-    ≡ bytes "1 done 4\n2 done 2\n3 done 2\n4 done 2\n5 full 1\n6 done 2\n7 keys 1 61 62 63 64\nmessages 0 0 0 0 0\n"
+    ≡ bytes "1 done 4\n2 done 1\n3 done 1\n4 done 1\n5 full 1\n6 done 1\n7 keys 1 61 62 63 64\nmessages 0 0 0 0 0\n"
 unfolding computing
 fourth-and-fifth-key = refl
 
@@ -57,8 +57,8 @@ unfolding computing
 replies-of-one-server = refl
 
 -- server 1 has stored (1, 3) when a copy of the write of (1, 2) reaches it; server 2, elected by it, reads what (1, 3) wrote
-late-write : run (bytes "cluster 3 1\nelect 0\ndeliver 0\ndeliver 1\nset 0 61 01\ndeliver 1\ndeliver 2\ndeliver 2\ndeliver 3\ndeliver 3\ndeliver 4\ncopy 4\ndeliver 6\nset 0 61 02\ndeliver 6\ndeliver 7\ndeliver 7\ndeliver 8\ndeliver 4\nelect 2\nelect 2\ndeliver 11\ndeliver 11\nget 2 61\ndeliver 12\ndeliver 12\ndeliver 13\ndeliver 13\ndeliver 14\ndeliver 14\n")
-    ≡ bytes "1 done 4\n2 done 2\n3 value 3 02\nmessages 36 1 23 0 14\n"
+late-write : run (bytes "cluster 3 1\nelect 0\ndeliver 0\ndeliver 1\nset 0 61 01\ndeliver 1\ndeliver 2\ndeliver 2\ndeliver 3\ndeliver 3\ndeliver 4\ncopy 4\ndeliver 6\nset 0 61 02\ndeliver 6\ndeliver 7\ndeliver 4\nelect 2\nelect 2\ndeliver 10\ndeliver 10\nget 2 61\ndeliver 11\ndeliver 11\ndeliver 12\ndeliver 12\ndeliver 13\ndeliver 13\n")
+    ≡ bytes "1 done 4\n2 done 1\n3 value 3 02\nmessages 33 1 21 0 13\n"
 unfolding computing
 late-write = refl
 
@@ -77,10 +77,26 @@ old-leader-does-not-answer = refl
 
 -- servers 0 and 2 accepted the own write of call 2 before server 4 was elected under 2; server 1 reported to server 4 and then
 -- refuses that write, so call 2 is not `done` though server 4, which did not see its write, answers with the old value
-read-raises-the-vote : run (bytes "cluster 5 1\nelect 0\ndeliver 0\ndeliver 0\ndeliver 2\ndeliver 2\nset 0 61 01\ndeliver 2\ndeliver 2\ndeliver 4\ndeliver 4\ndeliver 4\ndeliver 4\ndeliver 6\ndeliver 6\ndeliver 6\ndeliver 6\ndeliver 8\ndeliver 8\ndeliver 8\ndeliver 8\ndeliver 10\ndeliver 10\nset 0 61 02\ndeliver 10\ndeliver 10\ndeliver 12\ndeliver 12\ndeliver 13\ndeliver 15\nelect 4\nelect 4\ndeliver 21\ndeliver 21\ndeliver 21\ndeliver 21\nget 4 61\ndeliver 22\ndeliver 23\ndeliver 23\ndeliver 23\ndeliver 12\ndeliver 26\ndeliver 24\ndeliver 24\ndeliver 24\ndeliver 24\ndeliver 26\ndeliver 26\ndeliver 26\ndeliver 26\ntimeout 0 0\n")
-    ≡ bytes "1 done 4\n3 value 3 01\n2 unknown 2\nmessages 70 0 44 0 26\n"
+read-raises-the-vote : run (bytes "cluster 5 1\nelect 0\ndeliver 0\ndeliver 0\ndeliver 2\ndeliver 2\nset 0 61 01\ndeliver 2\ndeliver 2\ndeliver 4\ndeliver 4\ndeliver 4\ndeliver 4\ndeliver 6\ndeliver 6\ndeliver 6\ndeliver 6\ndeliver 8\ndeliver 8\ndeliver 8\ndeliver 8\ndeliver 10\ndeliver 10\nset 0 61 02\ndeliver 11\ndeliver 13\nelect 4\nelect 4\ndeliver 19\ndeliver 19\ndeliver 19\ndeliver 19\nget 4 61\ndeliver 20\ndeliver 21\ndeliver 21\ndeliver 21\ndeliver 10\ndeliver 24\ndeliver 22\ndeliver 22\ndeliver 22\ndeliver 22\ndeliver 24\ndeliver 24\ndeliver 24\ndeliver 24\ntimeout 0 0\n")
+    ≡ bytes "1 done 4\n3 value 3 01\n2 unknown 1\nmessages 64 0 40 0 24\n"
 unfolding computing
 read-raises-the-vote = refl
+
+-- ---- fewer rounds for writes (document 02, Change 1)
+
+-- on an unrecovered bucket a `set` makes 4 rounds; on a recovered one every write makes 1, and what ends as `mismatch` or `full` makes the
+-- checking round, where `mismatch` is looked at before `full`; an election leaves the bucket unrecovered
+rounds-of-a-server-alone : run (bytes "cluster 1 1\nelect 0\nset 0 61 01\nset 0 61 02\nsetif 0 61 02 03\nsetif 0 61 02 04\nsetif 0 62 - 01\ndel 0 62\ndel 0 62\nset 0 62 -\nget 0 61\nkeys 0 0\nset 0 62 01\nset 0 63 01\nset 0 64 01\nset 0 65 01\nsetif 0 65 - 01\nsetif 0 65 01 01\nset 0 65 -\nelect 0\nset 0 61 05\nset 0 61 06\n")
+    ≡ bytes "1 done 4\n2 done 1\n3 done 1\n4 mismatch 1\n5 done 1\n6 done 1\n7 done 1\n8 done 1\n9 value 1 03\n10 keys 1 61\n11 done 1\n12 done 1\n13 done 1\n14 full 1\n15 full 1\n16 mismatch 1\n17 done 1\n18 done 4\n19 done 1\nmessages 0 0 0 0 0\n"
+unfolding computing
+rounds-of-a-server-alone = refl
+
+-- of three servers: the second write is `done` with the reply to it, the third call checks before it ends as `mismatch`, and the fourth,
+-- whose write is sent at once, is `unknown` after the timeout
+rounds-of-three-servers : run (bytes "cluster 3 1\nelect 0\ndeliver 0\ndeliver 1\nset 0 61 01\ndeliver 1\ndeliver 2\ndeliver 2\ndeliver 3\ndeliver 3\ndeliver 4\ndeliver 4\ndeliver 5\nset 0 61 02\ndeliver 5\ndeliver 6\nsetif 0 61 01 03\ndeliver 6\ndeliver 7\nsetif 0 61 02 03\ntimeout 0 0\nget 0 61\n")
+    ≡ bytes "1 done 4\n2 done 1\n3 mismatch 1\n4 unknown 1\nline 22 refused 8\nmessages 23 0 14 0 9\n"
+unfolding computing
+rounds-of-three-servers = refl
 
 -- ---- elections (document 02, Change 3)
 

@@ -8,7 +8,7 @@ use lib.Dec.{ltb, leb, eqb}
 use lib.ListN.{replicate, getD, set}
 use Rattle.entries.specs.Entries.{Entry}
 use Rattle.model.specs.Measures.{majority}
-use Rattle.model.specs.Calls.{Words, Result, done, notdone, unknown, Effect, answers, writes, effect, Answer}
+use Rattle.model.specs.Calls.{Words, Result, done, notdone, unknown, Effect, answers, writes, effectWrites, effect, Answer}
 use Rattle.model.specs.Cluster.{Version, version, above, Copy, Stored, follower, candidate, leading, Purpose, recoveryRead, recoveryWrite, check, ownWrite, Mark, silent, acknowledged, refused, Round, Call, Volatile, Server, Body, pleaseVote, ackVote, nackVote, replicaWrite, ackWrite, nackWrite, replicaRead, ackRead, nackRead, Message, freshCopy, copyAt, roundAt, callAt}
 use Rattle.model.specs.Replica.{grants, afterVote, Request, reading, writing, requestBody, mayAccept, accepting, acknowledging, refusing}
 
@@ -237,7 +237,7 @@ finish b r s =
 unfoldable pub nextVersion : ℕ → Server → Version
 nextVersion b s = version (s .stored .number) (copyAt (s .stored) b .version .counter + 1)
 
--- Algorithm 5: what follows READ, from the leader's own copy
+-- Algorithm 5: what is left of a call, from the leader's own copy
 unfoldable pub applying : ℕ → ℕ → ℕ → Effect → Server → Reaction
 applying n me b (answers r) s = finish b r s
 applying n me b (writes t) s = openRound n me b ownWrite (writing (nextVersion b s) t) (finish b done) s
@@ -258,19 +258,36 @@ checking n me b s = openRound n me b check reading (afterRead n me b) s
 unfoldable pub recovering : ℕ → ℕ → ℕ → List Entry → Server → Reaction
 recovering n me b t s = openRound n me b recoveryWrite (writing (version (s .stored .number) 1) t) (checking n me b) s
 
--- READ: recovery where the stored version's number is not the leader's, then the checking round
+-- a bucket is recovered where the version of the leader's copy has the leader's number
+abbrev pub recovered : ℕ → Server → Bool
+recovered b s = eqb (copyAt (s .stored) b .version .election) (s .stored .number)
+
+-- READ: recovery where the bucket is not recovered, then the checking round
 unfoldable pub startRead : ℕ → ℕ → ℕ → Server → Reaction
 startRead n me b s =
-    elim (eqb (copyAt (s .stored) b .version .election) (s .stored .number)) [
+    elim (recovered b s) [
       | true ↦ checking n me b s
       | false ↦
           openRound n me b recoveryRead reading (recovering n me b (copyAt (s .stored) b .table)) s
     ]
 
+-- what a call writes without READ (document 02, Change 1): on a recovered bucket its effect on the leader's copy, if that is a write
+unfoldable pub straight : ℕ → Words → Server → Option (List Entry)
+straight b words s =
+    elim (recovered b s) [
+      | true ↦ effectWrites (effect words (copyAt (s .stored) b .table))
+      | false ↦ none
+    ]
+
+-- the first round of a call: its own write at once, or that of READ
+unfoldable pub startCall : ℕ → ℕ → ℕ → Words → Server → Reaction
+startCall n me b words s =
+    elim (straight b words s) [ some t ↦ applying n me b (writes t) s | none ↦ startRead n me b s ]
+
 -- a call is taken
 unfoldable pub beginCall : ℕ → ℕ → ℕ → ℕ → Words → Server → Reaction
 beginCall n me b i words s =
-    startRead n me b
+    startCall n me b words
     (withVolatile s
     (record {
       role = s .volatile .role;

@@ -17,7 +17,7 @@ use Rattle.model.specs.Replica.{Request, reading, writing}
 use Rattle.model.specs.Leader.{beginCall, acknowledgements, closes, below, without, broadcast}
 use Rattle.cells.specs.Cells.{Front, Cell}
 use Rattle.cells.specs.Cells as cells
-use Rattle.cells.specs.Moves.{still, finishing, frontAfter, cellAfter, openingRound, doing, afterReading, checkingRound, recoveryOf, readingBucket, beginning}
+use Rattle.cells.specs.Moves.{still, finishing, frontAfter, cellAfter, openingRound, doing, afterReading, checkingRound, recoveryOf, readingBucket, straightTo, startingCall, beginning}
 use Rattle.cells.specs.Laws.{begin-is}
 use Rattle.server.specs.declared.Version.{Version}
 use Rattle.server.specs.declared.Call.{Call}
@@ -28,8 +28,8 @@ use Rattle.open_calls.specs.Calls.{versionOf, nextVersionOf}
 use Rattle.moves.specs.declared.Local.{Local}
 use Rattle.moves.specs.declared.Move.{Move}
 use Rattle.moves.specs.Moves.{withCall, readingMove, stores, writingMove, finishedMove, ownWriteMove, afterReadMove}
-use Rattle.moves.specs.Moves.{recoveryMove, recovered, startedMove, recoveredAlone, readAlone, aloneMove, newCall, begunMove}
-use Rattle.moves.specs.Reactions.{frontIn, bestIn, cellIn, Seen, Tables, Asked, workAfter, copyAfter, sendsIn, answersIn, reactionIn}
+use Rattle.moves.specs.Moves.{recoveryMove, recovered, startedMove, recoveredAlone, readAlone, readyAlone, aloneMove, newCall, begunMove}
+use Rattle.moves.specs.Reactions.{frontIn, bestIn, cellIn, Seen, Tables, EffectNeeded, Asked, workAfter, copyAfter, sendsIn, answersIn, reactionIn}
 use Rattle.moves.proofs.Ceasing.{seen-itself}
 use Rattle.moves.proofs.Opening.{cellWith, front-opened, recovery-read-cell, check-cell, recovery-write-cell, own-write-cell, moveIn}
 use Rattle.moves.proofs.Opening.{lifted, either-leads, stored-table, recovery-read-waits, check-waits, own-write-waits, finished}
@@ -78,17 +78,50 @@ module _ (n me b : ℕ) (a : Asked) (l : Local) (t : Tables) (words : calls.Word
       ≡ moveIn n me b a (afterReadMove me (f .result) l) t words (valueBytes (f .value)) (tableIn (f .table))
   after-read-means e = reads n me b l (t .copy) words f o live e ∙ done-by (eqb (f .result) 0) refl
 
--- ---- READ among several servers
+-- ---- the first round among several servers
 
-started-means : (n me b : ℕ) (a : Asked) (l : Local) (t : Tables) (words : calls.Words) (v : List ℕ) (u : List Entry) (o : Option cluster.Round) → 2 ≤ n → n ≤ 7 → me < n
-    → l .head .last + 1 < 2 ^ 32 → l .call .rounds + 1 < 2 ^ 32
-    → readingBucket n me b (frontIn n (l .head)) (cellWith o l (t .copy) words) ≡ moveIn n me b a (startedMove me l) t words v u
-unfolding readingBucket startedMove checkingRound
-started-means n me b a l t words v u o lo hi mine last rounds = go (recovered l) refl
-  where
-    go : (z : Bool) → recovered l ≡ z → readingBucket n me b (frontIn n (l .head)) (cellWith o l (t .copy) words) ≡ moveIn n me b a (startedMove me l) t words v u
-    go true e = rw (readingBucket, startedMove, e) (check-waits n me b a l t words v u o (afterReading n me b) lo hi mine last rounds)
-    go false e = rw (readingBucket, startedMove, e) (recovery-read-waits n me b a l t words v u o (recoveryOf n me b (t .copy)) lo hi mine last rounds)
+-- on a recovered copy a new table is written at once, and what is answered is read first
+starts : (n me b : ℕ) (l : Local) (copy : List Entry) (words : calls.Words) (f : Effect) (o : Option cluster.Round) → recovered l ≡ true
+    → calls.effectWrites (effectIn f) ≡ calls.effectWrites (calls.effect words copy) → (z : Bool) → eqb (f .result) 0 ≡ z
+    → startingCall n me b words (frontIn n (l .head)) (cellWith o l copy words)
+    ≡ elim z [ true ↦ doing n me b (effectIn f) (frontIn n (l .head)) (cellWith o l copy words) | false ↦ readingBucket n me b (frontIn n (l .head)) (cellWith o l copy words) ]
+unfolding startingCall straightTo calls.effectWrites
+starts n me b l copy words f o e made true h = rw (startingCall, straightTo, e, ← made, writes-so f h)
+starts n me b l copy words f o e made false h = rw (startingCall, straightTo, e, ← made, answers-so f h)
+
+-- any other copy is read first
+reads-first : (n me b : ℕ) (l : Local) (copy : List Entry) (words : calls.Words) (o : Option cluster.Round) → recovered l ≡ false
+    → startingCall n me b words (frontIn n (l .head)) (cellWith o l copy words) ≡ readingBucket n me b (frontIn n (l .head)) (cellWith o l copy words)
+unfolding startingCall straightTo
+reads-first n me b l copy words o e = rw (startingCall, straightTo, e)
+
+module _ (n me b : ℕ) (a : Asked) (l : Local) (t : Tables) (words : calls.Words) (f : Effect) (o : Option cluster.Round) (lo : 2 ≤ n) (hi : n ≤ 7) (mine : me < n)
+    (written : recovered l ≡ true → calls.effectWrites (effectIn f) ≡ calls.effectWrites (calls.effect words (t .copy))) (made : t .made ≡ tableIn (f .table))
+    (last : l .head .last + 1 < 2 ^ 32) (rounds : l .call .rounds + 1 < 2 ^ 32) (counter : l .version .counter + 1 < 2 ^ 32) where
+  abbrev Starts : cells.Move → Type 0
+  Starts x = x ≡ moveIn n me b a (startedMove me (f .result) l) t words (valueBytes (f .value)) (tableIn (f .table))
+
+  starts-by : recovered l ≡ true → (z : Bool) → eqb (f .result) 0 ≡ z → Starts (startingCall n me b words (frontIn n (l .head)) (cellWith o l (t .copy) words))
+  unfolding startedMove doing readingBucket checkingRound
+  starts-by e true h =
+      starts n me b l (t .copy) words f o e (written e) true h
+      ∙ rw (writes-so f h, startedMove, e, h, ← made)
+      (own-write-waits n me b a l t words (valueBytes (f .value)) (t .made) o (finishing calls.done) lo hi mine last rounds counter)
+  starts-by e false h =
+      starts n me b l (t .copy) words f o e (written e) false h
+      ∙ rw (readingBucket, startedMove, e, h)
+      (check-waits n me b a l t words (valueBytes (f .value)) (tableIn (f .table)) o (afterReading n me b) lo hi mine last rounds)
+
+  started-means : Starts (startingCall n me b words (frontIn n (l .head)) (cellWith o l (t .copy) words))
+  unfolding startedMove readingBucket
+  started-means = go (recovered l) refl
+    where
+      go : (z : Bool) → recovered l ≡ z → Starts (startingCall n me b words (frontIn n (l .head)) (cellWith o l (t .copy) words))
+      go true e = starts-by e (eqb (f .result) 0) refl
+      go false e =
+          reads-first n me b l (t .copy) words o e
+          ∙ rw (startedMove, readingBucket, e)
+          (recovery-read-waits n me b a l t words (valueBytes (f .value)) (tableIn (f .table)) o (recoveryOf n me b (t .copy)) lo hi mine last rounds)
 
 -- ---- READ of a server alone: its own reply closes each round at once
 
@@ -252,55 +285,77 @@ own-write-alone b a r t words v u o room counter live =
     ∙ (finished 1 0 b a 3 l z words v u (roundIn 1 (l .round) (bestIn (l .round) (t .made))) live refl
     ∙ ap (λ y. doneWith 1 l y words v u) (sym (stored-table (stores w r) t (t .made))))))
 
-alone-means : (b : ℕ) (a : Asked) (l : Local) (t : Tables) (words : calls.Words) (f : Effect) (o : Option cluster.Round)
-    → Room 4 l → l .version .counter + 1 < 2 ^ 32 → among 5 (l .call .kind) ≡ true → effectIn f ≡ calls.effect words (t .copy) → t .made ≡ tableIn (f .table)
-    → readingBucket 1 0 b (frontIn 1 (l .head)) (cellWith o l (t .copy) words) ≡ moveIn 1 0 b a (aloneMove 0 (f .result) l) t words (valueBytes (f .value)) (tableIn (f .table))
-unfolding aloneMove doing
-alone-means b a l t words f o room counter live e made =
-    read-alone b (t .copy) words l o (less 3 4 l (omega arith) room) ∙ (reads 1 0 b r (t .copy) words f p (live-alone l live) e ∙ go (eqb (f .result) 0) refl)
-  where
-    r : Local
-    r = readAlone 0 l
+module _ (b : ℕ) (a : Asked) (l : Local) (t : Tables) (words : calls.Words) (f : Effect) (o : Option cluster.Round)
+    (room : Room 4 l) (counter : l .version .counter + 1 < 2 ^ 32) (live : among 5 (l .call .kind) ≡ true) (effect : effectIn f ≡ calls.effect words (t .copy)) (made : t .made ≡ tableIn (f .table)) where
+  abbrev Alone : cells.Move → Type 0
+  Alone x = x ≡ moveIn 1 0 b a (aloneMove 0 (f .result) l) t words (valueBytes (f .value)) (tableIn (f .table))
 
-    p : Option cluster.Round
-    p = roundIn 1 (r .round) (bestIn (r .round) (t .copy))
+  abbrev r : Local
+  r = readAlone 0 l
 
-    go : (z : Bool) → eqb (f .result) 0 ≡ z
-        → doing 1 0 b (effectIn f) (frontIn 1 (r .head)) (cellWith p r (t .copy) words)
-        ≡ moveIn 1 0 b a (aloneMove 0 (f .result) l) t words (valueBytes (f .value)) (tableIn (f .table))
-    go true h =
-        rw (writes-so f h, aloneMove, h, ← made)
-        (own-write-alone b a r t words (valueBytes (f .value)) (t .made) p (room-alone l room) (counter-alone l counter) (live-alone l live))
-    go false h =
-        rw (answers-so f h, aloneMove, h) (finished 1 0 b a (f .result) r t words (valueBytes (f .value)) (tableIn (f .table)) p (live-alone l live) h)
+  abbrev p : Option cluster.Round
+  p = roundIn 1 (r .round) (bestIn (r .round) (t .copy))
+
+  -- READ, and then the effect
+  read-then : readingBucket 1 0 b (frontIn 1 (l .head)) (cellWith o l (t .copy) words) ≡ doing 1 0 b (effectIn f) (frontIn 1 (r .head)) (cellWith p r (t .copy) words)
+  read-then = read-alone b (t .copy) words l o (less 3 4 l (omega arith) room) ∙ reads 1 0 b r (t .copy) words f p (live-alone l live) effect
+
+  read-answers : eqb (f .result) 0 ≡ false → Alone (doing 1 0 b (effectIn f) (frontIn 1 (r .head)) (cellWith p r (t .copy) words))
+  unfolding aloneMove doing
+  read-answers h =
+      rw (answers-so f h, aloneMove, h) (finished 1 0 b a (f .result) r t words (valueBytes (f .value)) (tableIn (f .table)) p (live-alone l live) h)
+
+  -- the copy is recovered: a write goes out at once
+  starts-alone : recovered l ≡ true → (z : Bool) → eqb (f .result) 0 ≡ z → Alone (startingCall 1 0 b words (frontIn 1 (l .head)) (cellWith o l (t .copy) words))
+  unfolding aloneMove readyAlone doing
+  starts-alone e true h =
+      starts 1 0 b l (t .copy) words f o e (ap calls.effectWrites effect) true h
+      ∙ rw (writes-so f h, aloneMove, h, readyAlone, e, ← made)
+      (own-write-alone b a l t words (valueBytes (f .value)) (t .made) o (less 1 4 l (omega arith) room) counter live)
+  starts-alone e false h = starts 1 0 b l (t .copy) words f o e (ap calls.effectWrites effect) false h ∙ (read-then ∙ read-answers h)
+
+  reads-alone : recovered l ≡ false → (z : Bool) → eqb (f .result) 0 ≡ z → Alone (doing 1 0 b (effectIn f) (frontIn 1 (r .head)) (cellWith p r (t .copy) words))
+  unfolding aloneMove readyAlone doing
+  reads-alone e true h =
+      rw (writes-so f h, aloneMove, h, readyAlone, e, ← made)
+      (own-write-alone b a r t words (valueBytes (f .value)) (t .made) p (room-alone l room) (counter-alone l counter) (live-alone l live))
+  reads-alone e false h = read-answers h
+
+  alone-means : Alone (startingCall 1 0 b words (frontIn 1 (l .head)) (cellWith o l (t .copy) words))
+  alone-means = go (recovered l) refl
+    where
+      go : (z : Bool) → recovered l ≡ z → Alone (startingCall 1 0 b words (frontIn 1 (l .head)) (cellWith o l (t .copy) words))
+      go true e = starts-alone e (eqb (f .result) 0) refl
+      go false e = reads-first 1 0 b l (t .copy) words o e ∙ (read-then ∙ reads-alone e (eqb (f .result) 0) refl)
 
 -- ---- a call that is taken
 
 begun-by : (n me b i kind : ℕ) (a : Asked) (l : Local) (t : Tables) (words : calls.Words) (f : Effect) (o : Option cluster.Round) → 1 ≤ n → n ≤ 7 → me < n
-    → among 5 kind ≡ true → (n ≤ 1 → effectIn f ≡ calls.effect words (t .copy)) → t .made ≡ tableIn (f .table) → l .head .last + 4 < 2 ^ 32 → l .version .counter + 1 < 2 ^ 32
-    → readingBucket n me b (frontIn n (l .head)) (cellWith o (withCall (newCall kind i) l) (t .copy) words)
+    → among 5 kind ≡ true → EffectNeeded n l words (t .copy) f → t .made ≡ tableIn (f .table) → l .head .last + 4 < 2 ^ 32 → l .version .counter + 1 < 2 ^ 32
+    → startingCall n me b words (frontIn n (l .head)) (cellWith o (withCall (newCall kind i) l) (t .copy) words)
     ≡ moveIn n me b a (begunMove n me i kind (f .result) l) t words (valueBytes (f .value)) (tableIn (f .table))
 unfolding begunMove
 begun-by zero me b i kind a l t words f o lo hi mine live e made last counter = absurd (omega arith)
 begun-by (suc zero) zero b i kind a l t words f o lo hi mine live e made last counter =
-    alone-means b a (withCall (newCall kind i) l) t words f o (record { last = last; rounds = omega arith }) counter live (e (omega arith)) made
+    alone-means b a (withCall (newCall kind i) l) t words f o (record { last = last; rounds = omega arith }) counter live (e .alone (omega arith)) made
 begun-by (suc zero) (suc me) b i kind a l t words f o lo hi mine live e made last counter = absurd (omega arith)
 begun-by (suc (suc n)) me b i kind a l t words f o lo hi mine live e made last counter =
     rw (begunMove, lt-leb (suc (suc n)) 1 (omega arith))
-    (started-means (suc (suc n)) me b a (withCall (newCall kind i) l) t words (valueBytes (f .value)) (tableIn (f .table)) o (omega arith) hi mine (omega arith) (omega arith))
+    (started-means (suc (suc n)) me b a (withCall (newCall kind i) l) t words f o (omega arith) hi mine (e .written) made (omega arith) (omega arith) counter)
 
 -- a call that is taken ends no leadership
 begun-leads : (n me i kind result : ℕ) (l : Local) → begunMove n me i kind result l .ceases ≡ false
-unfolding begunMove aloneMove startedMove readingMove finishedMove
+unfolding begunMove aloneMove startedMove readingMove writingMove finishedMove
 begun-leads n me i kind result l =
     let k = withCall (newCall kind i) l in
-    let r = readAlone me k in
-    either-leads (leb n 1) (aloneMove me result k) (startedMove me k)
-    (either-leads (eqb result 0) (ownAlone me r) (finishedMove result r) refl refl) (either-leads (recovered k) (readingMove me 3 k) (readingMove me 1 k) refl refl)
+    either-leads (leb n 1) (aloneMove me result k) (startedMove me result k)
+    (either-leads (eqb result 0) (ownAlone me (readyAlone me k)) (finishedMove result (readAlone me k)) refl refl)
+    (either-leads (recovered k) (elim (eqb result 0) as (λ _. Move) [ true ↦ ownWriteMove me k | false ↦ readingMove me 3 k ]) (readingMove me 1 k)
+    (either-leads (eqb result 0) (ownWriteMove me k) (readingMove me 3 k) refl refl) refl)
 
 pub begun-means : (n me b i kind : ℕ) (s : cluster.Server) (l : Local) (t : Tables) (old words : calls.Words) (f : Effect) (a : Asked)
     → 1 ≤ n → n ≤ 7 → me < n → Seen n b s l (t .copy) (t .work) old → among 5 kind ≡ true
-    → (n ≤ 1 → effectIn f ≡ calls.effect words (t .copy)) → t .made ≡ tableIn (f .table) → l .head .last + 4 < 2 ^ 32 → l .version .counter + 1 < 2 ^ 32
+    → EffectNeeded n l words (t .copy) f → t .made ≡ tableIn (f .table) → l .head .last + 4 < 2 ^ 32 → l .version .counter + 1 < 2 ^ 32
     → beginCall n me b i words s ≡ reactionIn n me b a (begunMove n me i kind (f .result) l) t words (valueBytes (f .value)) (tableIn (f .table)) s
 unfolding beginning flagIn
 begun-means n me b i kind s l t old words f a lo hi mine seen live e made last counter =
@@ -309,6 +364,6 @@ begun-means n me b i kind s l t old words f a lo hi mine seen live e made last c
     let m = begunMove n me i kind (f .result) l in
     ap (beginCall n me b i words) (seen-itself n b s l t old seen)
     ∙ (begin-is s b (seen .inside) n me i words x c
-    ∙ (ap (λ k. cells.lift s b (readingBucket n me b x (record { copy = c .copy; round = c .round; call = k }))) (sym (call-open (newCall kind i) words live))
+    ∙ (ap (λ k. cells.lift s b (startingCall n me b words x (record { copy = c .copy; round = c .round; call = k }))) (sym (call-open (newCall kind i) words live))
     ∙ (ap (cells.lift s b) (begun-by n me b i kind a l t words f (c .round) lo hi mine live e made last counter)
     ∙ lifted n me b a m t words (valueBytes (f .value)) (tableIn (f .table)) s (begun-leads n me i kind (f .result) l))))

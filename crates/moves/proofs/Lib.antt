@@ -2,6 +2,7 @@
 pub mod Ceasing
 pub mod Opening
 pub mod CallMoves
+pub mod Needed
 pub mod ReplyMoves
 pub mod VoterMoves
 pub mod LineMoves

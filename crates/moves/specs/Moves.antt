@@ -130,9 +130,13 @@ closedMove me result l =
 abbrev pub recovered : Local → Bool
 recovered l = eqb (l .version .election) (l .head .number)
 
--- READ among several servers: the first round waits for replies
-unfoldable pub startedMove : ℕ → Local → Move
-startedMove me l = elim (recovered l) [ true ↦ readingMove me 3 l | false ↦ readingMove me 1 l ]
+-- the first round of a call among several servers, which waits for replies: on a recovered copy a new table is written at once
+unfoldable pub startedMove : ℕ → ℕ → Local → Move
+startedMove me result l =
+    elim (recovered l) [
+      | true ↦ elim (eqb result 0) [ true ↦ ownWriteMove me l | false ↦ readingMove me 3 l ]
+      | false ↦ readingMove me 1 l
+    ]
 
 -- READ of a server alone: its own replies close each round at once
 unfoldable pub recoveredAlone : ℕ → Local → Local
@@ -141,13 +145,17 @@ recoveredAlone me l = elim (recovered l) [ true ↦ l | false ↦ recoveryMove m
 abbrev pub readAlone : ℕ → Local → Local
 readAlone me l = readingMove me 3 (recoveredAlone me l) .local
 
+-- what a server alone does before its own write: nothing where its copy is recovered, otherwise it reads
+unfoldable pub readyAlone : ℕ → Local → Local
+readyAlone me l = elim (recovered l) [ true ↦ l | false ↦ readAlone me l ]
+
 -- the whole call of a server alone: of its rounds only what they store is left, and nobody is sent anything
 unfoldable pub aloneMove : ℕ → ℕ → Local → Move
 aloneMove me result l =
     elim (eqb result 0) [
       | false ↦ finishedMove result (readAlone me l)
       | true ↦
-          let w = ownWriteMove me (readAlone me l) in
+          let w = ownWriteMove me (readyAlone me l) in
           record {
             local = finishedMove 3 (w .local) .local;
             sends = 0;
@@ -165,7 +173,17 @@ newCall kind i = record { kind = kind; number = i; rounds = 0; sent = 0 }
 -- call i, of words of this kind, is taken at one of n servers
 unfoldable pub begunMove : ℕ → ℕ → ℕ → ℕ → ℕ → Local → Move
 begunMove n me i kind result l =
-    elim (leb n 1) [ true ↦ aloneMove me result (withCall (newCall kind i) l) | false ↦ startedMove me (withCall (newCall kind i) l) ]
+    elim (leb n 1) [ true ↦ aloneMove me result (withCall (newCall kind i) l) | false ↦ startedMove me result (withCall (newCall kind i) l) ]
+
+-- ---- what the line of a call needs of its effect
+
+-- the kinds of calls that may write: `set`, `setif` and `del`
+unfoldable pub mayWrite : ℕ → Bool
+mayWrite kind = elim (ltb kind 2) [ true ↦ false | false ↦ leb kind 4 ]
+
+-- a server alone ends the call in its line, and a call that may write does so at once on a recovered copy
+unfoldable pub needsEffect : ℕ → ℕ → Local → Bool
+needsEffect n kind l = elim (leb n 1) [ true ↦ true | false ↦ elim (recovered l) [ true ↦ mayWrite kind | false ↦ false ] ]
 
 -- ---- when leading ends
 

@@ -4,7 +4,7 @@ use mathlib.Core.Path.{_≡_}
 use mathlib.Core.Bool.{true, false}
 use mathlib.Core.List.{List, [], _∷_, map}
 use mathlib.Core.Option.{none}
-use Prim.Native.Nat.{ℕ}
+use Prim.Native.Nat.{ℕ, _≤_}
 use lib.Dec.{eqb}
 use lib.ListN.{length}
 use Rattle.entries.specs.Entries.{Entry}
@@ -16,11 +16,13 @@ use Rattle.server.specs.declared.Version.{Version}
 use Rattle.server.specs.declared.Head.{Head}
 use Rattle.server.specs.declared.Round.{Round}
 use Rattle.server.specs.declared.Answer.{Answer}
+use Rattle.server.specs.declared.Effect.{Effect}
 use Rattle.server.specs.declared.Message.{Message}
-use Rattle.server.specs.Views.{flagIn, roleIn, votesIn, versionIn, roundIn, callIn, answerIn}
+use Rattle.server.specs.Views.{flagIn, roleIn, votesIn, versionIn, roundIn, callIn, answerIn, effectIn}
 use Rattle.rounds.specs.Rounds.{pickTable}
 use Rattle.moves.specs.declared.Local.{Local}
 use Rattle.moves.specs.declared.Move.{Move}
+use Rattle.moves.specs.Moves.{recovered}
 
 -- ---- a front and a cell
 
@@ -75,6 +77,12 @@ workAfter m t =
 unfoldable pub copyAfter : Move → Tables → List Entry
 copyAfter m t =
     elim (eqb (m .keeps) 1) [ true ↦ workAfter m t | false ↦ elim (eqb (m .keeps) 2) [ true ↦ t .message | false ↦ t .copy ] ]
+
+-- what the line of a call needs of the call's effect f on its copy's table: all of it with one server, which ends the call there, and
+-- what is written where the copy is recovered, since that goes out at once
+pub record EffectNeeded (n : ℕ) (l : Local) (words : calls.Words) (copy : List Entry) (f : Effect) : Type 0 where
+  pub alone : n ≤ 1 → effectIn f ≡ calls.effect words copy
+  pub written : recovered l ≡ true → calls.effectWrites (effectIn f) ≡ calls.effectWrites (calls.effect words copy)
 
 -- ---- what is sent
 

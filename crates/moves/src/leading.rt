@@ -22,7 +22,7 @@ ghost use mathlib.Core.Path.{_≡_};
 ghost use lib.Dec.{eqb};
 ghost use Rattle.rounds.specs.Rounds.{pickVersion, newRoundOf, openedHead};
 ghost use Rattle.open_calls.specs.Calls.{oneMoreOf};
-ghost use Rattle.moves.specs.Moves.{local, readingMove, writingMove, finishedMove, ownWriteMove, afterReadMove, recoveryMove, closedMove, startedMove, recoveredAlone, readAlone, aloneMove, begunMove};
+ghost use Rattle.moves.specs.Moves.{local, readingMove, writingMove, finishedMove, ownWriteMove, afterReadMove, recoveryMove, closedMove, startedMove, recoveredAlone, readAlone, readyAlone, aloneMove, begunMove, mayWrite, needsEffect};
 
 // What a broadcast leaves of its sender, whose copy is then of version v; `own` where it is the call's own write.
 fn after_broadcast(me: u32, purpose: u32, own: bool, v: Version, l: Local) -> Local
@@ -150,11 +150,15 @@ pub fn closed_move(me: u32, result: u32, l: Local) -> Move
     finished_move(3, l)
 }
 
-// The first round of a call among several servers: a copy that is not recovered is recovered first.
-fn started_move(me: u32, l: Local) -> Move
-    ensures { λ r. ⌜ r ≡ startedMove me l ⌝ }
+// The first round of a call among several servers: a copy that is not recovered is recovered first; on one that is, a new
+// table is written at once, and what is to be answered is checked first.
+fn started_move(me: u32, result: u32, l: Local) -> Move
+    ensures { λ r. ⌜ r ≡ startedMove me result l ⌝ }
 {
     if recovered(l.head, l.version) {
+        if result == 0 {
+            return own_write_move(me, l);
+        }
         return reading_move(me, 3, l);
     }
     reading_move(me, 1, l)
@@ -180,19 +184,28 @@ fn read_alone(me: u32, l: Local) -> Local
     read.local
 }
 
+// What a server alone does before its own write: nothing where its copy is recovered, otherwise it reads.
+fn ready_alone(me: u32, l: Local) -> Local
+    ensures { λ r. ⌜ r ≡ readyAlone me l ⌝ }
+{
+    if recovered(l.head, l.version) {
+        return l;
+    }
+    read_alone(me, l)
+}
+
 // The whole call of a server alone: of its rounds only what they store is left.
 fn alone_move(me: u32, result: u32, l: Local) -> Move
     ensures { λ r. ⌜ r ≡ aloneMove me result l ⌝ }
 {
-    let read = read_alone(me, l);
     if result == 0 {
-        let w = own_write_move(me, read);
+        let w = own_write_move(me, ready_alone(me, l));
         let mut m = finished_move(3, w.local);
         m.fills = w.fills;
         m.keeps = w.keeps;
         return m;
     }
-    finished_move(result, read)
+    finished_move(result, read_alone(me, l))
 }
 
 // Call i, of words of this kind, is taken at one of n servers.
@@ -209,5 +222,28 @@ pub fn begun_move(n: u32, me: u32, i: u32, kind: u32, result: u32, l: Local) -> 
     if n <= 1 {
         return alone_move(me, result, a);
     }
-    started_move(me, a)
+    started_move(me, result, a)
+}
+
+// The kinds of calls that may write: `set`, `setif` and `del`.
+fn may_write(kind: u32) -> bool
+    ensures { λ r. ⌜ r ≡ mayWrite kind ⌝ }
+{
+    if kind < 2 {
+        return false;
+    }
+    kind <= 4
+}
+
+// Whether the line of a call needs the call's effect: with one server, and on a recovered copy for a call that may write.
+pub fn needs_effect(n: u32, kind: u32, l: Local) -> bool
+    ensures { λ r. ⌜ r ≡ needsEffect n kind l ⌝ }
+{
+    if n <= 1 {
+        return true;
+    }
+    if recovered(l.head, l.version) {
+        return may_write(kind);
+    }
+    false
 }

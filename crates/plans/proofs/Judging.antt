@@ -1,5 +1,5 @@
 -- Plans keep the effect that they are given, and what refusals tell of a line.
-use mathlib.Core.Path.{_≡_, refl, sym, ap, _∙_}
+use mathlib.Core.Path.{_≡_, refl, sym, ap, _∙_, subst}
 use mathlib.Core.Bool.{Bool, true, false, true≢false}
 use mathlib.Core.List.{List}
 use native.Mathlib.Omega.{arith}
@@ -8,15 +8,15 @@ use Prim.Native.Nat.{ℕ, _+_, _*_, _≤_, _<_}
 use borrow.Author.Tests.{leb-false, eq-eqb, ne-eqb}
 use lib.Dec.{eqb, leb}
 use Rattle.model.specs.Measures.{maxAccepted, maxElection}
-use Rattle.model.specs.Calls as calls
 use Rattle.server.specs.declared.Message.{Message}
 use Rattle.server.specs.declared.Words.{Words}
 use Rattle.server.specs.declared.Effect.{Effect}
 use Rattle.server.specs.Heads.{largerNumberOf}
-use Rattle.server.specs.Views.{among, effectIn, wordsIn}
+use Rattle.server.specs.Views.{among, wordsIn}
 use Rattle.memory.specs.declared.Counts.{Counts}
 use Rattle.refusals.specs.Refusals.{placesLeft, inside, messageRefusal}
 use Rattle.moves.specs.declared.Local.{Local}
+use Rattle.moves.specs.Reactions.{EffectNeeded}
 use Rattle.views.specs.Memory.{Memory, slotOf, localAt, tableAt}
 use Rattle.plans.specs.declared.Step.{Step}
 use Rattle.plans.specs.declared.Plan.{Plan}
@@ -145,7 +145,7 @@ module _ (heads slots copies : List ℕ) (c : Counts) (s : ℕ) (w : Words) (p :
       let h′ : inside c s (callBucket c w) ≡ false = ap (inside c s) (sym e) ∙ h in
       record {
         is = told (callAt (servers heads slots) c s w) f p (call-at-keeps (servers heads slots) c s w) (rw (callAt, h′) q);
-        effect = λ one r. let z : _≡_ {A = ℕ} 3 0 = sym (ap (λ x. x .refusal) q) ∙ r in absurd (omega arith);
+        effect = λ there fit. absurd (true≢false (sym there ∙ h′));
       }
 
   pub call-unfit : (b : ℕ) (f : Effect) → b ≡ callBucket c w → inside c s b ≡ true → badLengths w ≡ true → p ≡ refusedPlan 4 f → CallPlanned heads slots copies c s w p
@@ -154,19 +154,21 @@ module _ (heads slots copies : List ℕ) (c : Counts) (s : ℕ) (w : Words) (p :
       let h′ : inside c s (callBucket c w) ≡ true = ap (inside c s) (sym e) ∙ h in
       record {
         is = told (callAt (servers heads slots) c s w) f p (call-at-keeps (servers heads slots) c s w) (rw (callAt, h′, k) q);
-        effect = λ one r. let z : _≡_ {A = ℕ} 4 0 = sym (ap (λ x. x .refusal) q) ∙ r in absurd (omega arith);
+        effect = λ there fit. absurd (true≢false (sym k ∙ fit));
       }
 
   pub called : (b : ℕ) (l : Local) (f : Effect)
       → l ≡ localAt (servers heads slots) s (slotOf s b)
-      → (c .servers ≤ 1 → effectIn f ≡ calls.effect (wordsIn w) (tableAt copies (slotOf s b)))
+      → EffectNeeded (c .servers) l (wordsIn w) (tableAt copies (slotOf s b)) f
       → p ≡ callPlan c s b w l f
       → Called heads slots copies c s b w p
   called b l f e g q = record {
     is =
         told (callPlan c s b w (localAt (servers heads slots) s (slotOf s b))) f p (call-keeps c s b w (localAt (servers heads slots) s (slotOf s b)))
         (q ∙ ap (λ x. callPlan c s b w x f) e);
-    effect = λ one. ap effectIn (ap (λ x. x .effect) q ∙ call-keeps c s b w l f) ∙ g one;
+    effect =
+        subst (λ x. EffectNeeded (c .servers) x (wordsIn w) (tableAt copies (slotOf s b)) (p .effect)) e
+        (subst (EffectNeeded (c .servers) l (wordsIn w) (tableAt copies (slotOf s b))) (sym (ap (λ x. x .effect) q ∙ call-keeps c s b w l f)) g);
   }
 
   pub call-fit : (b : ℕ) → b ≡ callBucket c w → inside c s b ≡ true → badLengths w ≡ false → Called heads slots copies c s b w p → CallPlanned heads slots copies c s w p
@@ -174,5 +176,6 @@ module _ (heads slots copies : List ℕ) (c : Counts) (s : ℕ) (w : Words) (p :
       let h′ : inside c s (callBucket c w) ≡ true = ap (inside c s) (sym e) ∙ h in
       record {
         is = x .is ∙ ap (λ y. callPlan c s y w (localAt (servers heads slots) s (slotOf s y)) (p .effect)) e ∙ sym (call-at-inside h′ k (p .effect));
-        effect = λ one r. x .effect one ∙ ap (λ y. calls.effect (wordsIn w) (tableAt copies (slotOf s y))) e;
+        effect = λ there fit.
+            subst (λ y. EffectNeeded (c .servers) (localAt (servers heads slots) s (slotOf s y)) (wordsIn w) (tableAt copies (slotOf s y)) (p .effect)) e (x .effect);
       }

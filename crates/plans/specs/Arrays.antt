@@ -1,17 +1,20 @@
 -- The plans of specs/Plans.antt, from the arrays that each looks at.
 use mathlib.Core.Path.{_≡_}
 use mathlib.Core.List.{List, []}
+use mathlib.Core.Bool.{true, false}
 use Prim.Native.Nat.{ℕ, _≤_}
 use Rattle.model.specs.Calls as calls
 use Rattle.server.specs.declared.Words.{Words}
 use Rattle.server.specs.declared.Effect.{Effect}
-use Rattle.server.specs.Views.{effectIn, wordsIn}
+use Rattle.server.specs.Views.{wordsIn}
 use Rattle.memory.specs.declared.Counts.{Counts}
 use Rattle.memory.specs.Layout.{wordsAt}
+use Rattle.refusals.specs.Refusals.{inside}
+use Rattle.moves.specs.Reactions.{EffectNeeded}
 use Rattle.views.specs.Memory.{Memory, memory, slotOf, localAt, tableAt}
 use Rattle.plans.specs.declared.Step.{Step}
 use Rattle.plans.specs.declared.Plan.{Plan}
-use Rattle.plans.specs.Plans.{electAt, timeoutAt, stopAt, callBucket, callPlan, callAt}
+use Rattle.plans.specs.Plans.{electAt, timeoutAt, stopAt, badLengths, callBucket, callPlan, callAt}
 
 -- counts within document 01's measures
 pub record Measured (c : Counts) : Type 0 where
@@ -39,12 +42,14 @@ stopIn heads slots c s f = stopAt (servers heads slots) c s f
 -- the words of the call fit, and its bucket b is there
 pub record Called (heads slots copies : List ℕ) (c : Counts) (s b : ℕ) (w : Words) (p : Plan) : Type 0 where
   pub is : p ≡ callPlan c s b w (localAt (servers heads slots) s (slotOf s b)) (p .effect)
-  pub effect : c .servers ≤ 1 → effectIn (p .effect) ≡ calls.effect (wordsIn w) (tableAt copies (slotOf s b))
+  pub effect : EffectNeeded (c .servers) (localAt (servers heads slots) s (slotOf s b)) (wordsIn w) (tableAt copies (slotOf s b)) (p .effect)
 
--- the same unless it is refused with 3 or 4
+-- the same unless it is refused with 3 or 4; the effect decides what is sent, so it is there before 12 is judged
 pub record CallPlanned (heads slots copies : List ℕ) (c : Counts) (s : ℕ) (w : Words) (p : Plan) : Type 0 where
   pub is : p ≡ callAt (servers heads slots) c s w (p .effect)
-  pub effect : c .servers ≤ 1 → p .refusal ≡ 0 → effectIn (p .effect) ≡ calls.effect (wordsIn w) (tableAt copies (slotOf s (callBucket c w)))
+  pub effect : inside c s (callBucket c w) ≡ true → badLengths w ≡ false →
+      let k = slotOf s (callBucket c w) in
+      EffectNeeded (c .servers) (localAt (servers heads slots) s k) (wordsIn w) (tableAt copies k) (p .effect)
 
 -- what the call does that stands where a message is handed over
 abbrev pub askedAt : Memory → Step → calls.Effect

@@ -16,19 +16,22 @@ use memory::CONTENT;
 use memory::Counts;
 use moves::Local;
 use moves::leading::begun_move;
+use moves::leading::needs_effect;
 use refusals::inside;
 use refusals::server_refusal;
 use server::Effect;
 use server::Words;
 use std::num::wrapping_add_u32;
 ghost use mathlib.Core.Path.{_≡_};
-ghost use Prim.Native.Nat.{_<_, _≤_, _*_};
+ghost use mathlib.Core.Option.{none};
+ghost use Prim.Native.Nat.{_<_, _*_};
 ghost use lib.ListN.{length};
 ghost use Rattle.hash.specs.Fnv.{bucketOf};
 ghost use Rattle.entries.specs.Decoded.{keyBytes};
 ghost use Rattle.model.specs.Calls as calls;
 ghost use Rattle.server.specs.Views.{among, effectIn, wordsIn};
 ghost use Rattle.memory.specs.Layout.{serverRoom, slotRoom, contentSize};
+ghost use Rattle.moves.specs.Reactions.{EffectNeeded};
 ghost use Rattle.views.specs.Memory.{tableAt};
 ghost use Rattle.plans.specs.Plans.{badKey, badLengths, callBucket, callStep, callRefusal, callPlan};
 ghost use Rattle.plans.specs.Arrays.{Measured, Called, CallPlanned};
@@ -152,15 +155,24 @@ pub fn effect_of(copies: &[u8; 7168], k: usize, w: Words) -> Effect
     effect_on(copies, k, w)
 }
 
-// The same where one server is alone, whose calls end at once; with more nothing is asked for.
-fn call_effect(copies: &[u8; 7168], c: Counts, k: usize, w: Words) -> Effect
-    requires { ⌜ k < slotRoom ⌝ }
-    ensures { λ r. ⌜ (c .servers ≤ 1 → effectIn r ≡ calls.effect (wordsIn w) (tableAt (now (copies .entry)) k)) ⌝ }
+// What stands for an effect that writes nothing: any result but 0 will do.
+fn nothing_written() -> Effect
+    ensures { λ r. ⌜ calls.effectWrites (effectIn r) ≡ none ⌝ }
 {
-    if c.servers <= 1 {
+    let mut f = no_effect();
+    f.result = 6;
+    f
+}
+
+// What the line of a call needs of the call's effect; where it needs nothing, nothing is worked out.
+fn call_effect(copies: &[u8; 7168], c: Counts, k: usize, w: Words, l: Local) -> Effect
+    requires { ⌜ k < slotRoom ⌝ }
+    ensures { λ r. ⌜ EffectNeeded (c .servers) l (wordsIn w) (tableAt (now (copies .entry)) k) r ⌝ }
+{
+    if needs_effect(c.servers, w.kind, l) {
         return effect_of(copies, k, w);
     }
-    no_effect()
+    nothing_written()
 }
 
 // 5 to 12, or the call, at a server and a bucket that are there.
@@ -179,7 +191,7 @@ fn plan_at(
     let at = s as usize;
     let k = at * 8 + b as usize;
     let l = load_local(heads, slots, at, k);
-    let f = call_effect(copies, c, k, w);
+    let f = call_effect(copies, c, k, w, l);
     call_plan(c, s, b, w, l, f)
 }
 

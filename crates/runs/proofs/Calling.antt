@@ -1,18 +1,20 @@
 -- The five calls: the run of a call is what the definitions make of its line.
-use mathlib.Core.Path.{_≡_, refl, sym, ap, ap₂, _∙_, subst}
+use mathlib.Core.Path.{_≡_, refl, sym, ap, ap₂, _∙_, subst, subst₂}
+use mathlib.Core.Logic.{_⊎_, inl, inr}
 use mathlib.Core.Bool.{Bool, true, false, not}
 use mathlib.Core.List.{List, []}
 use mathlib.Core.Option.{some}
-use Prim.Native.Nat.{ℕ, _+_, _-_, _%_, _^_, _≤_, _<_}
+use Prim.Native.Nat.{ℕ, _+_, _%_, _^_, _≤_, _<_}
 use native.Mathlib.Omega.{arith}
 use native.Mathlib.Nat.{mod-eq-of-lt}
-use borrow.Author.Tests.{le-leb, leb-true, lt-leb, eqb-true}
+use borrow.Author.Tests.{leb-true, lt-leb, eqb-true}
 use lib.Dec.{leb, eqb}
 use Rattle.entries.specs.Decoded.{tableIn}
 use Rattle.model.specs.Calls as calls
 use Rattle.model.specs.Cluster as cluster
 use Rattle.model.specs.Leader.{beginCall}
 use Rattle.model.specs.Lines as lines
+use Rattle.model.proofs.FirstRound.{writes-so}
 use Rattle.limits.specs.Measures.{Fits, WordsSized}
 use Rattle.limits.specs.Tables.{EffectWithin, effect-within}
 use Rattle.server.specs.declared.Call.{Call}
@@ -21,12 +23,12 @@ use Rattle.server.specs.declared.Effect.{Effect}
 use Rattle.server.specs.Views.{among, roleIn, callIn, effectIn, chosen}
 use Rattle.memory.specs.declared.Counts.{Counts}
 use Rattle.memory.specs.Layout.{countsAt}
-use Rattle.refusals.specs.Refusals.{sendCount, placesLeft, inside, serverRefusal}
+use Rattle.refusals.specs.Refusals.{inside, serverRefusal}
 use Rattle.moves.specs.declared.Local.{Local}
 use Rattle.moves.specs.declared.Move.{Move}
-use Rattle.moves.specs.Moves.{readingMove, finishedMove, recovered, withCall, newCall, startedMove, aloneMove, begunMove}
+use Rattle.moves.specs.Moves.{readingMove, finishedMove, recovered, startedMove, aloneMove, begunMove}
 use Rattle.moves.proofs.CallMoves.{begun-means}
-use Rattle.moves.specs.Reactions.{askedIn}
+use Rattle.moves.specs.Reactions.{EffectNeeded, askedIn}
 use Rattle.views.specs.Memory.{Memory, WholeLocal, slotOf, tableAt, localAt, callWordsAt, serverAt, clusterAt}
 use Rattle.views.proofs.Contents.{tablesAt}
 use Rattle.views.proofs.Seen.{length-servers, role-there, call-there, server-seen}
@@ -47,30 +49,22 @@ use Rattle.runs.proofs.Wording.{Said, Fine}
 
 -- ---- the move of a call
 
--- a call's new table is written only by a server alone whose effect is to write
-begun-written : (n me i kind result : ℕ) (l : Local) → begunMove n me i kind result l .fills ≡ 2 → (n ≤ 1) × (eqb result 0 ≡ true)
-begun-written n me i kind result l = go (leb n 1) refl (eqb result 0) refl (recovered (withCall (newCall kind i) l)) refl
+-- a call's new table is written only where its effect is to write, by a server alone or on a recovered copy
+begun-written : (n me i kind result : ℕ) (l : Local) → begunMove n me i kind result l .fills ≡ 2 → (eqb result 0 ≡ true) × ((n ≤ 1) ⊎ (recovered l ≡ true))
+begun-written n me i kind result l = go (leb n 1) refl (eqb result 0) refl (recovered l) refl
   where
-    go : (x : Bool) → leb n 1 ≡ x → (y : Bool) → eqb result 0 ≡ y → (z : Bool) → recovered (withCall (newCall kind i) l) ≡ z
-        → begunMove n me i kind result l .fills ≡ 2 → (n ≤ 1) × (eqb result 0 ≡ true)
-    go true e true d z c h = (leb-true n 1 e, d)
+    go : (x : Bool) → leb n 1 ≡ x → (y : Bool) → eqb result 0 ≡ y → (z : Bool) → recovered l ≡ z
+        → begunMove n me i kind result l .fills ≡ 2 → (eqb result 0 ≡ true) × ((n ≤ 1) ⊎ (recovered l ≡ true))
+    go true e true d z c h = (d, inl (leb-true n 1 e))
     go true e false d z c h = let g : _≡_ {A = ℕ} 0 2 = unfold begunMove aloneMove finishedMove in (rw (begunMove, e, aloneMove, d) at h) in absurd (omega arith)
-    go false e y d true c h = let g : _≡_ {A = ℕ} 0 2 = unfold begunMove startedMove readingMove chosen in (rw (begunMove, e, startedMove, c) at h) in absurd (omega arith)
+    go false e true d true c h = (d, inr c)
+    go false e false d true c h = let g : _≡_ {A = ℕ} 0 2 = unfold begunMove startedMove readingMove chosen in (rw (begunMove, e, startedMove, c, d) at h) in absurd (omega arith)
     go false e y d false c h = let g : _≡_ {A = ℕ} 1 2 = unfold begunMove startedMove readingMove chosen in (rw (begunMove, e, startedMove, c) at h) in absurd (omega arith)
-
--- a server alone sends nothing
-alone-silent : (n me i kind result : ℕ) (l : Local) → n ≤ 1 → begunMove n me i kind result l .sends ≡ 0
-unfolding begunMove aloneMove finishedMove
-alone-silent n me i kind result l h = go (eqb result 0) refl
-  where
-    go : (y : Bool) → eqb result 0 ≡ y → begunMove n me i kind result l .sends ≡ 0
-    go true d = rw (begunMove, le-leb n 1 h, aloneMove, d)
-    go false d = rw (begunMove, le-leb n 1 h, aloneMove, d)
 
 module _ {m : Memory} {l : List ℕ} {t : lines.Tally} (ready : Ready m l t) (s b : ℕ) (server : s < countsAt (m .counts) .servers) (bucket : b < countsAt (m .counts) .buckets)
     (words : calls.Words) (kind : ℕ) (f : Effect) (live : among 5 kind ≡ true) (sized : WordsSized words) (there : callWordsAt m (slotOf s b) ≡ words)
     (here : Local) (same : localAt m s (slotOf s b) ≡ here) (named : calls.bucketFor (countsAt (m .counts) .buckets) words ≡ b)
-    (effect : countsAt (m .counts) .servers ≤ 1 → effectIn f ≡ calls.effect words (tableAt (m .copies) (slotOf s b))) where
+    (effect : EffectNeeded (countsAt (m .counts) .servers) here words (tableAt (m .copies) (slotOf s b)) f) where
   abbrev c : Counts
   c = countsAt (m .counts)
 
@@ -99,7 +93,7 @@ module _ {m : Memory} {l : List ℕ} {t : lines.Tally} (ready : Ready m l t) (s 
       ∙ (ap (λ w. beginCall n s b ((c .calls + 1) % 2 ^ 32) w (serverAt n (c .buckets) m s)) (sym there)
       ∙ (begun-means n s b ((c .calls + 1) % 2 ^ 32) kind (serverAt n (c .buckets) m s) (localAt m s k) x (callWordsAt m k) (callWordsAt m k) f (askedIn noMessage)
       (measured ready .someServers) (measured ready .servers) server (server-seen n (c .buckets) m s b bucket) live
-      (λ h. effect h ∙ ap (λ w. calls.effect w (tableAt (m .copies) k)) (sym there)) refl (last-low ready s b server bucket) (counter-low ready s b server bucket)
+      (subst₂ (λ x w. EffectNeeded n x w (tableAt (m .copies) k) f) (sym same) (sym there) effect) refl (last-low ready s b server bucket) (counter-low ready s b server bucket)
       ∙ ap (λ z. reactionOf m c step (moveOf z) f) same))
 
   call-work : lines.work (clusterAt m) (lines.call s words) ≡ workOf m step (reactionOf m c step move f)
@@ -113,10 +107,14 @@ module _ {m : Memory} {l : List ℕ} {t : lines.Tally} (ready : Ready m l t) (s 
       ∙ (ap (lines.byLine x s (c .calls + 1)) begun ∙ ap (λ z. lines.byLine x s z (reactionOf m c step move f)) (sym call-number))))
 
   call-fits : move .fills ≡ 2 → Fits (tableIn (f .table))
+  unfolding calls.effectWrites
   call-fits h =
-      let (alone, z) = begun-written n s ((c .calls + 1) % 2 ^ 32) kind (f .result) here h in
-      let fits = effect-within words (tableAt (m .copies) k) sized (table-fits ready s b server bucket) in
-      subst EffectWithin (sym (effect alone) ∙ effect-writes f z) fits
+      let (z, where-so) = begun-written n s ((c .calls + 1) % 2 ^ 32) kind (f .result) here h in
+      let does = calls.effect words (tableAt (m .copies) k) in
+      let written : calls.effectWrites (effectIn f) ≡ calls.effectWrites does =
+      elim where-so [ inl one ↦ ap calls.effectWrites (effect .alone one) | inr r ↦ effect .written r ] in
+      let made : does ≡ calls.writes (tableIn (f .table)) = writes-so does (tableIn (f .table)) (sym written ∙ ap calls.effectWrites (effect-writes f z)) in
+      subst EffectWithin made (effect-within words (tableAt (m .copies) k) sized (table-fits ready s b server bucket))
 
   call-possible : Possible m c step move f
   call-possible =
@@ -168,15 +166,6 @@ unless-call x l f p = leads-free (serverRefusal x (l .head)) f p (eqb (serverRef
 
 -- ---- a call that is taken
 
-not-false : (x : Bool) → not x ≡ false → x ≡ true
-not-false true e = refl
-not-false false e = let z : _≡_ {A = ℕ} 0 1 = cc in absurd (omega arith)
-
--- nothing to send finds its places
-silent-places : (x : Counts) (kind : ℕ) → x .messages ≤ 64 → kind ≡ 0 → placesLeft x false kind ≡ true
-unfolding chosen sendCount
-silent-places x kind h e = rw e (le-leb (x .messages - 0 + 0) 64 (omega arith))
-
 module _ (m : Memory) (l : List ℕ) (t : lines.Tally) (ready : Ready m l t) (s : ℕ) (w : Words) (words : calls.Words) (said : Said w words) (f : Effect)
     (effect : CallEffect m (countsAt (m .counts)) s w f) where
   abbrev counts : Counts
@@ -199,13 +188,6 @@ module _ (m : Memory) (l : List ℕ) (t : lines.Tally) (ready : Ready m l t) (s 
     abbrev fine : Fine w words
     fine = said .fine lengths
 
-    -- nothing refuses the call but 12
-    is-taken : callAt m counts s w f ≡ roomy counts plan
-    unfolding callAt callPlan callRefusal unless inside
-    is-taken =
-        let leads : eqb (local .head .role) 2 ≡ true = not-false _ leading in
-        rw (callAt, inside, lt-leb (counts .servers) s server, lt-leb (counts .buckets) part bucket, lengths, callPlan, callRefusal, stands, leads, free)
-
     abbrev stored : Memory
     stored = taken m plan
 
@@ -221,13 +203,11 @@ module _ (m : Memory) (l : List ℕ) (t : lines.Tally) (ready : Ready m l t) (s 
     same-state : stateIn stored t ≡ stateIn m t
     same-state = ap (λ o. record { cluster = o; tally = t }) (standing-cluster stored (ready-stored .standing) ∙ (ap some same-cluster ∙ sym (standing-cluster m (ready .standing))))
 
-    -- a server alone has places, so the plan is not refused and its effect is the call's
-    alone-effect : counts .servers ≤ 1 → effectIn f ≡ calls.effect words (tableAt (m .copies) (slotOf s part))
-    unfolding roomy
-    alone-effect h =
-        let places = silent-places counts (begunAt .sends) (measured ready .messages) (alone-silent (counts .servers) s ((counts .calls + 1) % 2 ^ 32) (w .kind) (f .result) local h) in
-        let taken-so : roomy counts plan .refusal ≡ 0 = rw (roomy, places) in
-        effect h (ap (λ p. p .refusal) is-taken ∙ taken-so) ∙ ap (λ x. calls.effect x (tableAt (m .copies) (slotOf s part))) (sym (fine .same))
+    its-effect : EffectNeeded (counts .servers) local words (tableAt (m .copies) (slotOf s part)) f
+    unfolding inside
+    its-effect =
+        subst (λ x. EffectNeeded (counts .servers) local x (tableAt (m .copies) (slotOf s part)) f) (sym (fine .same))
+        (effect (rw (inside, lt-leb (counts .servers) s server, lt-leb (counts .buckets) part bucket) refl) lengths)
 
     same-words : callWordsAt stored (slotOf s part) ≡ words
     same-words = taken-read m plan refl (ready .sized) slot (fine .whole) ∙ sym (fine .same)
@@ -237,11 +217,11 @@ module _ (m : Memory) (l : List ℕ) (t : lines.Tally) (ready : Ready m l t) (s 
 
     work-stored : lines.work (clusterAt stored) (lines.call s words) ≡ workOf stored (callStep counts s part) (reactionOf stored counts (callStep counts s part) begunAt f)
     unfolding taken
-    work-stored = call-work ready-stored s part server bucket words (w .kind) f (said .live) (fine .sized) same-words local same-local (fine .bucket counts) alone-effect
+    work-stored = call-work ready-stored s part server bucket words (w .kind) f (said .live) (fine .sized) same-words local same-local (fine .bucket counts) its-effect
 
     possible-stored : Possible stored counts (callStep counts s part) begunAt f
     unfolding taken
-    possible-stored = call-possible ready-stored s part server bucket words (w .kind) f (said .live) (fine .sized) same-words local same-local (fine .bucket counts) alone-effect
+    possible-stored = call-possible ready-stored s part server bucket words (w .kind) f (said .live) (fine .sized) same-words local same-local (fine .bucket counts) its-effect
 
     carried : lines.acceptLine (stateIn stored t) (workOf stored (callStep counts s part) (reactionOf stored counts (callStep counts s part) begunAt f))
         ≡ planned m l t counts f (roomy counts plan)

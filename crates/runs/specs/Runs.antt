@@ -2,7 +2,7 @@
 use mathlib.Core.Path.{_≡_}
 use mathlib.Core.Bool.{true, false}
 use mathlib.Core.List.{List}
-use Prim.Native.Nat.{ℕ, _+_, _%_, _^_, _≤_}
+use Prim.Native.Nat.{ℕ, _+_, _%_, _^_}
 use lib.Dec.{eqb}
 use lib.ListN.{replicate}
 use Rattle.entries.specs.Decoded.{tableIn}
@@ -17,16 +17,17 @@ use Rattle.server.specs.Views.{effectIn, wordsIn}
 use Rattle.server.specs.declared.Effect.{Effect}
 use Rattle.memory.specs.declared.Counts.{Counts}
 use Rattle.memory.specs.Layout.{countsAt, messageAt, putCounts, putWords, putTexts}
-use Rattle.refusals.specs.Refusals.{sendCount, messageRefusal}
+use Rattle.refusals.specs.Refusals.{inside, sendCount, messageRefusal}
 use Rattle.moves.specs.declared.Move.{Move}
 use Rattle.moves.specs.Moves.{readsTable}
-use Rattle.views.specs.Memory.{Memory, memory, standing, slotOf, tableAt}
+use Rattle.moves.specs.Reactions.{EffectNeeded}
+use Rattle.views.specs.Memory.{Memory, memory, standing, slotOf, localAt, tableAt}
 use Rattle.views.specs.Changes.{moved, answered}
 use Rattle.views.specs.Queue.{Flight, flight, withoutMessage, sent}
 use Rattle.plans.specs.declared.Step.{Step}
 use Rattle.plans.specs.declared.Plan.{Plan}
 use Rattle.plans.specs.Arrays.{askedAt}
-use Rattle.plans.specs.Plans.{noKey, noValue, noWords, refusedPlan, callBucket, messageStep, gone, receiverAt, electAt, timeoutAt, stopAt, callAt, handAt, loseAt}
+use Rattle.plans.specs.Plans.{badLengths, noKey, noValue, noWords, refusedPlan, callBucket, messageStep, gone, receiverAt, electAt, timeoutAt, stopAt, callAt, handAt, loseAt}
 use Rattle.parse.specs.declared.Kind.{Kind}
 use Rattle.parse.specs.declared.Kind.the-variants as K
 use Rattle.parse.specs.declared.Line.{Line}
@@ -221,13 +222,15 @@ runBy K.Stop m l x f = plannedRun m l x f
 unfoldable pub lineRun : Memory → List ℕ → Line → Effect → Ran
 lineRun m l x f = runBy (x .kind) m l x f
 
--- ---- the effect that a line asks for: a call of a server alone, or the message that closes a checking round
+-- ---- the effect that a line asks for, before 12 is judged: it decides what is sent
 
+-- a call that is not refused with 3 or 4
 abbrev pub CallEffect : Memory → Counts → ℕ → Words → Effect → Type 0
 CallEffect m c s w f =
-    c .servers ≤ 1 → callAt m c s w f .refusal ≡ 0 → effectIn f ≡ calls.effect (wordsIn w) (tableAt (m .copies) (slotOf s (callBucket c w)))
+    let k = slotOf s (callBucket c w) in
+    inside c s (callBucket c w) ≡ true → badLengths w ≡ false → EffectNeeded (c .servers) (localAt m s k) (wordsIn w) (tableAt (m .copies) k) f
 
--- it decides what is sent, so it is asked for before 12 is judged; `copy` asks for the same
+-- the message that closes a checking round; `copy` asks for the same
 abbrev pub HandEffect : Memory → Counts → ℕ → Effect → Type 0
 HandEffect m c i f =
     let y = messageAt (m .queue) i in

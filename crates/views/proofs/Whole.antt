@@ -30,6 +30,7 @@ use Rattle.moves.specs.Moves.{
   closedMove,
   startedMove,
   recoveredAlone,
+  readyAlone,
   readAlone,
   aloneMove,
   newCall,
@@ -124,9 +125,10 @@ module _ (me : ℕ) where
       (either WholeMove (eqb (l .round .purpose) 2) _ _ (whole-reading 3 l w)
       (either WholeMove (eqb (l .round .purpose) 3) _ _ (whole-afterRead result l w) (whole-finished 3 l w)))
 
-  whole-started : (l : Local) → WholeLocal l → WholeMove (startedMove me l)
+  whole-started : (result : ℕ) (l : Local) → WholeLocal l → WholeMove (startedMove me result l)
   unfolding startedMove
-  whole-started l w = either WholeMove (recovered l) _ _ (whole-reading 3 l w) (whole-reading 1 l w)
+  whole-started result l w =
+      either WholeMove (recovered l) _ _ (either WholeMove (eqb result 0) _ _ (whole-writing 4 _ l w) (whole-reading 3 l w)) (whole-reading 1 l w)
 
   whole-recoveredAlone : (l : Local) → WholeLocal l → WholeLocal (recoveredAlone me l)
   unfolding recoveredAlone
@@ -135,10 +137,14 @@ module _ (me : ℕ) where
   whole-readAlone : (l : Local) → WholeLocal l → WholeLocal (readAlone me l)
   whole-readAlone l w = whole-reading 3 _ (whole-recoveredAlone l w)
 
+  whole-readyAlone : (l : Local) → WholeLocal l → WholeLocal (readyAlone me l)
+  unfolding readyAlone
+  whole-readyAlone l w = either WholeLocal (recovered l) _ _ w (whole-readAlone l w)
+
   whole-alone : (result : ℕ) (l : Local) → WholeLocal l → WholeMove (aloneMove me result l)
   unfolding aloneMove
   whole-alone result l w =
-      either WholeMove (eqb result 0) _ _ (whole-finished 3 _ (whole-writing 4 _ _ (whole-readAlone l w))) (whole-finished result _ (whole-readAlone l w))
+      either WholeMove (eqb result 0) _ _ (whole-finished 3 _ (whole-writing 4 _ _ (whole-readyAlone l w))) (whole-finished result _ (whole-readAlone l w))
 
 -- ---- calls, at one of n servers
 
@@ -146,7 +152,7 @@ pub whole-begun : (n me i kind result : ℕ) (l : Local) → WholeLocal l → Wh
 unfolding begunMove
 whole-begun n me i kind result l w =
     let c : WholeLocal (withCall (newCall kind i) l) = record { votes = w .votes; marks = w .marks } in
-    either WholeMove (leb n 1) _ _ (whole-alone me result _ c) (whole-started me _ c)
+    either WholeMove (leb n 1) _ _ (whole-alone me result _ c) (whole-started me result _ c)
 
 -- ---- messages
 

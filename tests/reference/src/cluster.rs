@@ -401,14 +401,18 @@ impl Cluster {
         }
     }
 
-    /// Opens a call's first round: the checking round on a recovered bucket,
-    /// otherwise the recovery read.
+    /// Opens a call's first round. An unrecovered bucket is recovered first; on
+    /// a recovered one a call that writes goes straight to its own write, and
+    /// any other makes the checking round.
     fn begin(&mut self, s: usize, b: usize, answers: &mut impl Answers) {
         let server = &self.servers[s];
-        if server.replicas[b].version.number == server.number {
-            self.open_read(s, b, Stage::Check);
-        } else {
+        let Replica { version, table } = &server.replicas[b];
+        if version.number != server.number {
             self.open_read(s, b, Stage::RecoveryRead);
+        } else if server.calls[b].request.verdict(table) == Verdict::Write {
+            self.write_own(s, b);
+        } else {
+            self.open_read(s, b, Stage::Check);
         }
         if self.majority == 1 {
             self.go_on(s, b, answers);
@@ -448,24 +452,30 @@ impl Cluster {
     /// After the checking round: answers, or writes the call's effect.
     fn decide(&mut self, s: usize, b: usize, answers: &mut impl Answers) {
         let server = &mut self.servers[s];
-        let Replica { version, table } = &server.replicas[b];
+        let table = &server.replicas[b].table;
         let call = &mut server.calls[b];
         let outcome = match call.request.verdict(table) {
             Verdict::Value => Outcome::Value(call.request.found(table)),
             Verdict::Keys => Outcome::Keys(table.keys()),
             Verdict::Mismatch => Outcome::Mismatch,
             Verdict::Full => Outcome::Full,
-            Verdict::Write => {
-                let (mut version, mut table) = (*version, *table);
-                version.counter += 1;
-                call.request.apply(&mut table);
-                server.replica_write(b, version, &table, s as u8);
-                self.open_write(s, b, Stage::OwnWrite);
-                return;
-            }
+            Verdict::Write => return self.write_own(s, b),
         };
         call.stage = Stage::Closed;
         answers.answer(call.number, call.rounds, outcome);
+    }
+
+    /// Opens the call's own write, under the next version.
+    fn write_own(&mut self, s: usize, b: usize) {
+        let server = &mut self.servers[s];
+        let Replica {
+            mut version,
+            mut table,
+        } = server.replicas[b];
+        version.counter += 1;
+        server.calls[b].request.apply(&mut table);
+        server.replica_write(b, version, &table, s as u8);
+        self.open_write(s, b, Stage::OwnWrite);
     }
 
     fn end(&mut self, s: usize, b: usize, outcome: Outcome, answers: &mut impl Answers) {

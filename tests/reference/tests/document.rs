@@ -89,8 +89,8 @@ fn edge_fourth_key_is_stored_and_fifth_is_full() {
     let script = "cluster 1 1\nelect 0\nset 0 01 61\nset 0 02 61\nset 0 03 61\nset 0 04 61\n\
                   set 0 05 61\nset 0 04 62\nset 0 05 -\nsetif 0 05 00 61\nsetif 0 05 - 61\n\
                   setif 0 05 - -\ndel 0 01\nset 0 05 61\nkeys 0 0\n";
-    let output = "1 done 4\n2 done 2\n3 done 2\n4 done 2\n5 full 1\n6 done 2\n7 done 2\n\
-                  8 mismatch 1\n9 full 1\n10 done 2\n11 done 2\n12 done 2\n13 keys 1 02 03 04 05\n\
+    let output = "1 done 4\n2 done 1\n3 done 1\n4 done 1\n5 full 1\n6 done 1\n7 done 1\n\
+                  8 mismatch 1\n9 full 1\n10 done 1\n11 done 1\n12 done 1\n13 keys 1 02 03 04 05\n\
                   messages 0 0 0 0 0";
     assert_eq!(print(script), output);
 }

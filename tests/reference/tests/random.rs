@@ -5,6 +5,7 @@ mod common;
 use common::{run, run_in_chunks};
 use reference::script::Script;
 use reference::scripts::{generate, Kind};
+use std::collections::BTreeSet;
 
 const SHORT: [Kind; 5] = [
     Kind::Ordinary,
@@ -113,6 +114,51 @@ fn most_lines_are_accepted_and_calls_complete() {
             .filter(|out| count(&[out.to_vec()], " done ") > 0);
         assert!(completing.count() > 80);
     }
+}
+
+/// The results and rounds of all answers, without their data.
+fn rounds(output: &[u8]) -> BTreeSet<String> {
+    let text = String::from_utf8_lossy(output);
+    let answers = text
+        .lines()
+        .filter(|line| !line.starts_with("line ") && !line.starts_with("messages "));
+    answers
+        .map(|line| {
+            line.split(' ')
+                .skip(1)
+                .take(2)
+                .collect::<Vec<_>>()
+                .join(" ")
+        })
+        .collect()
+}
+
+#[test]
+fn every_result_takes_its_rounds_and_no_other() {
+    // On a recovered bucket 1; on another 3 for what reads and 4 for what
+    // writes. A call may fail in any of these rounds: `unknown` in a write of
+    // its own, `notdone` before.
+    let expected = [
+        "done 1",
+        "done 4",
+        "full 1",
+        "full 3",
+        "keys 1",
+        "keys 3",
+        "mismatch 1",
+        "mismatch 3",
+        "notdone 1",
+        "notdone 2",
+        "notdone 3",
+        "unknown 1",
+        "unknown 4",
+        "value 1",
+        "value 3",
+    ];
+    let found: BTreeSet<String> = (0..200)
+        .flat_map(|seed| rounds(&run(&generate(Kind::Ordinary, seed, 400))))
+        .collect();
+    assert!(found.iter().eq(expected.iter()), "{found:?}");
 }
 
 #[test]

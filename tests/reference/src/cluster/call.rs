@@ -25,7 +25,7 @@ pub enum Request {
     },
 }
 
-/// What a call does once its checking round has closed.
+/// What a call does, by the table of a recovered copy.
 #[derive(Clone, Copy, PartialEq, Eq, Debug)]
 pub enum Verdict {
     Value,
@@ -80,7 +80,7 @@ impl Request {
         }
     }
 
-    /// Decides by the table that READ gave; mismatch comes before full.
+    /// Decides by the table of a recovered copy; mismatch comes before full.
     #[inline]
     pub fn verdict(&self, table: &Table) -> Verdict {
         match self {

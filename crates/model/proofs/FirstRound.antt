@@ -1,0 +1,57 @@
+-- Laws of a call's first round. On a recovered bucket a call that writes opens its own write at once, and one that does not opens the
+-- checking round; on any other bucket every call reads. All proofs about calls go by these cases.
+use mathlib.Core.Path.{_≡_, refl, ap, _∙_}
+use mathlib.Core.List.{List}
+use mathlib.Core.Bool.{Bool, true, false}
+use mathlib.Core.Option.{some}
+use Prim.Native.Nat.{ℕ}
+use native.Mathlib.Omega.{arith}
+use Rattle.entries.specs.Entries.{Entry}
+use Rattle.model.specs.Calls.{Words, Result, done, Effect, answers, writes, effectWrites, effect}
+use Rattle.model.specs.Cluster.{copyAt, ownWrite, Server}
+use Rattle.model.specs.Replica.{writing}
+use Rattle.model.specs.Leader.{Reaction, openRound, finish, nextVersion, applying, checking, recovered, startRead, straight, startCall}
+
+-- what is written is the effect
+pub writes-so : (f : Effect) (t : List Entry) → effectWrites f ≡ some t → f ≡ writes t
+unfolding effectWrites
+writes-so (answers r) t e = let z : _≡_ {A = ℕ} 0 1 = cc in absurd (omega arith)
+writes-so (writes u) t e = let same : u ≡ t = cc in ap writes same
+
+module _ (n me b : ℕ) (words : Words) (s : Server) where
+  abbrev does : Effect
+  does = effect words (copyAt (s .stored) b .table)
+
+  -- `set`, `del` and `setif` with the right value, where there is room
+  pub writes-at-once : (t : List Entry) → recovered b s ≡ true → does ≡ writes t
+      → startCall n me b words s ≡ openRound n me b ownWrite (writing (nextVersion b s) t) (finish b done) s
+  unfolding startCall straight effectWrites applying
+  writes-at-once t e w = rw (startCall, straight, e, w)
+
+  answers-reads : (r : Result) → does ≡ answers r → startCall n me b words s ≡ startRead n me b s
+  unfolding startCall straight effectWrites
+  answers-reads r w = go (recovered b s) refl
+    where
+      go : (z : Bool) → recovered b s ≡ z → startCall n me b words s ≡ startRead n me b s
+      go true e = rw (startCall, straight, e, w)
+      go false e = rw (startCall, straight, e)
+
+  -- `get`, `keys`, and what would end as `mismatch` or `full`
+  pub checks-first : (r : Result) → recovered b s ≡ true → does ≡ answers r → startCall n me b words s ≡ checking n me b s
+  unfolding startRead
+  checks-first r e w = answers-reads r w ∙ rw (startRead, e)
+
+  pub unrecovered-reads : recovered b s ≡ false → startCall n me b words s ≡ startRead n me b s
+  unfolding startCall straight
+  unrecovered-reads e = rw (startCall, straight, e)
+
+  -- what holds of an own write on a recovered bucket, and of READ, holds of a call's first round
+  pub first-round : (P : Reaction → Type 0) → ((t : List Entry) → recovered b s ≡ true → does ≡ writes t → P (applying n me b (writes t) s))
+      → P (startRead n me b s) → P (startCall n me b words s)
+  unfolding applying
+  first-round P at-once reads = go (recovered b s) refl does refl
+    where
+      go : (z : Bool) → recovered b s ≡ z → (f : Effect) → does ≡ f → P (startCall n me b words s)
+      go true e (writes t) w = rw (writes-at-once t e w) (at-once t e w)
+      go true e (answers r) w = rw (answers-reads r w) reads
+      go false e f w = rw (unrecovered-reads e) reads
