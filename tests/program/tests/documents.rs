@@ -63,5 +63,5 @@ fn the_tour() {
 
 #[test]
 fn the_script_language() {
-    assert_eq!(check_document("docs/SCRIPT.md"), 2);
+    assert_eq!(check_document("docs/SCRIPT.md"), 3);
 }

@@ -15,9 +15,7 @@ fn recovered() -> Bench {
     let mut bench = Bench::new("cluster 3 1");
     bench.elect(0, &[1]);
     bench.quiet(&["set 0 61 01"]);
-    for request in [REPLICAREAD, REPLICAWRITE, REPLICAREAD] {
-        assert_eq!(bench.exchange(request, 0, 1), "");
-    }
+    assert_eq!(bench.read_unrecovered(0, 1), "");
     assert_eq!(bench.exchange(REPLICAWRITE, 0, 1), "1 done 4");
     bench.lose_all();
     bench
@@ -98,9 +96,7 @@ fn an_election_leaves_every_bucket_unrecovered() {
     bench.lose_all();
     bench.quiet(&["set 0 61 02"]);
     assert_eq!(kinds(&bench), [REPLICAREAD; 2]);
-    for request in [REPLICAREAD, REPLICAWRITE, REPLICAREAD] {
-        assert_eq!(bench.exchange(request, 0, 1), "");
-    }
+    assert_eq!(bench.read_unrecovered(0, 1), "");
     assert_eq!(bench.exchange(REPLICAWRITE, 0, 1), "2 done 4");
     // A write that its leader would have sent at once is found by recovery.
     bench.quiet(&["setif 0 61 02 03"]);
@@ -147,9 +143,7 @@ fn depose(bench: &mut Bench) {
     bench.elect(1, &[2]);
     bench.lose_all();
     bench.quiet(&["set 1 61 07"]);
-    for request in [REPLICAREAD, REPLICAWRITE, REPLICAREAD] {
-        assert_eq!(bench.exchange(request, 1, 2), "");
-    }
+    assert_eq!(bench.read_unrecovered(1, 2), "");
     assert_eq!(bench.exchange(REPLICAWRITE, 1, 2), "2 done 4");
     bench.lose_all();
     assert_eq!(bench.cluster().server(0).role, Role::Leader);
@@ -186,10 +180,7 @@ fn a_deposed_leader_writes_in_vain() {
     bench.elect(2, &[0]);
     bench.lose_all();
     bench.quiet(&["get 2 61"]);
-    for request in [REPLICAREAD, REPLICAWRITE] {
-        assert_eq!(bench.exchange(request, 2, 0), "");
-    }
-    assert_eq!(bench.exchange(REPLICAREAD, 2, 0), "5 value 3 07");
+    assert_eq!(bench.read_unrecovered(2, 0), "5 value 3 07");
 }
 
 #[test]
@@ -201,10 +192,7 @@ fn an_unknown_write_may_have_taken_effect() {
     bench.elect(1, &[2]);
     bench.lose_all();
     bench.quiet(&["get 1 61"]);
-    for request in [REPLICAREAD, REPLICAWRITE] {
-        assert_eq!(bench.exchange(request, 1, 2), "");
-    }
-    assert_eq!(bench.exchange(REPLICAREAD, 1, 2), "3 value 3 02");
+    assert_eq!(bench.read_unrecovered(1, 2), "3 value 3 02");
 }
 
 #[test]

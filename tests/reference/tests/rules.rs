@@ -8,20 +8,12 @@ use reference::cluster::Tally;
 use reference::datagram::{Version, ACKREAD, ACKVOTE, ACKWRITE, NACKREAD, NACKWRITE};
 use reference::datagram::{PLEASEVOTE, REPLICAREAD, REPLICAWRITE};
 
-/// Rounds of a call up to and with the checking round on a new leader's
-/// bucket, each closed by `peer`; gives what is printed last.
-fn read_unrecovered(bench: &mut Bench, leader: u8, peer: u8) -> String {
-    assert_eq!(bench.exchange(REPLICAREAD, leader, peer), "");
-    assert_eq!(bench.exchange(REPLICAWRITE, leader, peer), "");
-    bench.exchange(REPLICAREAD, leader, peer)
-}
-
 #[test]
 fn rounds_are_3_and_4_unrecovered_and_1_recovered() {
     let mut bench = Bench::new("cluster 3 1");
     bench.elect(0, &[1]);
     bench.quiet(&["set 0 61 62"]);
-    assert_eq!(read_unrecovered(&mut bench, 0, 1), "");
+    assert_eq!(bench.read_unrecovered(0, 1), "");
     assert_eq!(bench.exchange(REPLICAWRITE, 0, 1), "1 done 4");
     bench.quiet(&["get 0 61"]);
     assert_eq!(bench.exchange(REPLICAREAD, 0, 1), "2 value 1 62");
@@ -29,7 +21,7 @@ fn rounds_are_3_and_4_unrecovered_and_1_recovered() {
     assert_eq!(bench.exchange(REPLICAWRITE, 0, 1), "3 done 1");
     bench.elect(0, &[1]);
     bench.quiet(&["get 0 63"]);
-    assert_eq!(read_unrecovered(&mut bench, 0, 1), "4 value 3 64");
+    assert_eq!(bench.read_unrecovered(0, 1), "4 value 3 64");
     let replica = bench.cluster().server(0).replicas[0];
     assert_eq!(
         replica.version,
@@ -53,7 +45,7 @@ fn unknown_once_the_own_write_was_sent_otherwise_notdone() {
     assert_eq!(bench.line("timeout 0 0"), "2 notdone 2");
     bench.elect(0, &[1]);
     bench.quiet(&["set 0 61 62"]);
-    read_unrecovered(&mut bench, 0, 1);
+    bench.read_unrecovered(0, 1);
     assert_eq!(bench.line("timeout 0 0"), "3 unknown 4");
     assert_eq!(bench.refusal("get 0 61"), 8);
     assert_eq!(bench.refusal("timeout 0 0"), 10);
@@ -143,7 +135,7 @@ fn a_write_below_the_vote_gives_unknown() {
     let mut bench = Bench::new("cluster 3 1");
     bench.elect(0, &[1]);
     bench.quiet(&["set 0 61 62"]);
-    read_unrecovered(&mut bench, 0, 1);
+    bench.read_unrecovered(0, 1);
     bench.quiet(&["elect 2", "elect 2"]);
     bench.deliver(PLEASEVOTE, 2, 1);
     bench.deliver(REPLICAWRITE, 0, 1);
@@ -366,7 +358,7 @@ fn an_old_write_does_not_cover_a_newer_one() {
     let mut bench = Bench::new("cluster 3 1");
     bench.elect(0, &[1]);
     bench.quiet(&["set 0 61 62"]);
-    read_unrecovered(&mut bench, 0, 1);
+    bench.read_unrecovered(0, 1);
     assert_eq!(bench.exchange(REPLICAWRITE, 0, 1), "1 done 4");
     // Server 2 gets the own write (1, 2) first, then the recovery write (1, 1).
     bench.deliver(REPLICAWRITE, 0, 2);

@@ -3,6 +3,7 @@
 #![allow(dead_code)]
 
 use reference::cluster::Cluster;
+use reference::datagram::{PLEASEVOTE, REPLICAREAD, REPLICAWRITE};
 use reference::script::Script;
 
 /// What a whole script prints.
@@ -94,11 +95,19 @@ impl Bench {
         self.deliver(request + 1, peer, leader)
     }
 
+    /// The rounds of READ on a bucket that `leader` has not recovered, each
+    /// closed by `peer`; gives what is printed last.
+    pub fn read_unrecovered(&mut self, leader: u8, peer: u8) -> String {
+        assert_eq!(self.exchange(REPLICAREAD, leader, peer), "");
+        assert_eq!(self.exchange(REPLICAWRITE, leader, peer), "");
+        self.exchange(REPLICAREAD, leader, peer)
+    }
+
     /// Makes `server` leader with the votes of the servers given.
     pub fn elect(&mut self, server: u8, voters: &[u8]) {
         assert_eq!(self.line(&format!("elect {server}")), "");
         for &voter in voters {
-            assert_eq!(self.exchange(1, server, voter), "");
+            assert_eq!(self.exchange(PLEASEVOTE, server, voter), "");
         }
     }
 
