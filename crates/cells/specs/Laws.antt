@@ -1,19 +1,18 @@
 -- The model's rules for a call are those of a front and a cell.
-use mathlib.Core.Path.{_≡_, refl, ap}
+use mathlib.Core.Path.{_≡_, refl}
 use mathlib.Core.List.{List}
 use mathlib.Core.Bool.{Bool, true, false}
 use mathlib.Core.Option.{Option, none, some}
 use Prim.Native.Nat.{ℕ, _+_}
-use lib.Dec.{eqb}
 use lib.ListN.{set}
 use lib.Seq.{getD-set-same, set-set, set-getD}
 use Rattle.entries.specs.Entries.{Entry}
-use Rattle.model.specs.Calls.{Words, Result, done, Effect, answers, writes, effectWrites, effect}
+use Rattle.model.specs.Calls.{Words, Result, done, Effect, answers, writes, effect}
 use Rattle.model.specs.Cluster.{version, above, Copy, freshCopy, copyAt, Purpose, recoveryRead, recoveryWrite, check, ownWrite, Round, Call, roundAt, callAt, Server, Message}
 use Rattle.model.specs.Replica.{Request, reading, writing, requestBody, accepting, storing, voting}
-use Rattle.model.specs.Leader.{Reaction, broadcast, isOwn, oneMore, closes, newRound, opening, openRound, finish, nextVersion, applying, afterRead, checking, recovering, startRead, straight, startCall, closed, beginCall, withRound, fails, counting}
+use Rattle.model.specs.Leader.{Reaction, broadcast, isOwn, oneMore, closes, newRound, opening, openRound, finish, nextVersion, applying, afterRead, checking, recovering, startRead, recovered, straight, startCall, closed, beginCall, withRound, fails, counting}
 use Rattle.cells.specs.Cells.{Front, Cell, front, cell, putCell, Inside, Move, lift}
-use Rattle.cells.specs.Moves.{finishing, keeping, roundFor, frontAfter, cellAfter, openingRound, doing, afterReading, checkingRound, recoveryOf, readingBucket, straightTo, startingCall, closing, beginning, countingReply, reactionTo}
+use Rattle.cells.specs.Moves.{finishing, keeping, roundFor, frontAfter, cellAfter, openingRound, doing, afterReading, checkingRound, recoveryOf, readingBucket, startingCall, closing, beginning, countingReply, reactionTo}
 
 module _ (s : Server) (b : ℕ) (h : Inside s b) where
   -- a server is its front and its cells
@@ -104,9 +103,9 @@ module _ (s : Server) (b : ℕ) (h : Inside s b) where
 
   pub read-is : (n me : ℕ) → Same (startRead n me b) (readingBucket n me b)
   unfolding startRead readingBucket
-  read-is n me f c = go (eqb (c .copy .version .election) (f .number)) refl
+  read-is n me f c = go (recovered (f .number) (c .copy)) refl
     where
-      go : (t : Bool) → eqb (c .copy .version .election) (f .number) ≡ t → startRead n me b (putCell s b f c) ≡ lift s b (readingBucket n me b f c)
+      go : (t : Bool) → recovered (f .number) (c .copy) ≡ t → startRead n me b (putCell s b f c) ≡ lift s b (readingBucket n me b f c)
       go true e = rw (startRead, readingBucket, copy-there f c, e) (checking-is n me f c)
       go false e = rw (startRead, readingBucket, copy-there f c, e, copy-there f c) (open-is n me recoveryRead reading (recovering n me b (c .copy .table)) (recoveryOf n me b (c .copy .table)) (recovering-is n me (c .copy .table)) f c)
 
@@ -120,18 +119,13 @@ module _ (s : Server) (b : ℕ) (h : Inside s b) where
       go check e = rw (closed, closing, e) (after-read-is n me f c)
       go ownWrite e = rw (closed, closing, e) (finish-is done f c)
 
-  straight-is : (w : Words) (f : Front) (c : Cell) → straight b w (putCell s b f c) ≡ straightTo w f c
-  unfolding straight straightTo
-  straight-is w f c =
-      ap (λ k. elim (eqb (k .version .election) (f .number)) as (λ _. Option (List Entry)) [ true ↦ effectWrites (effect w (k .table)) | false ↦ none ]) (copy-there f c)
-
   start-is : (n me : ℕ) (w : Words) → Same (startCall n me b w) (startingCall n me b w)
   unfolding startCall startingCall
-  start-is n me w f c = go (straightTo w f c) refl
+  start-is n me w f c = go (straight (f .number) w (c .copy)) refl
     where
-      go : (o : Option (List Entry)) → straightTo w f c ≡ o → startCall n me b w (putCell s b f c) ≡ lift s b (startingCall n me b w f c)
-      go none e = rw (startCall, startingCall, straight-is w f c, e) (read-is n me f c)
-      go (some t) e = rw (startCall, startingCall, straight-is w f c, e) (applying-is n me (writes t) f c)
+      go : (o : Option (List Entry)) → straight (f .number) w (c .copy) ≡ o → startCall n me b w (putCell s b f c) ≡ lift s b (startingCall n me b w f c)
+      go none e = rw (startCall, startingCall, copy-there f c, e) (read-is n me f c)
+      go (some t) e = rw (startCall, startingCall, copy-there f c, e) (applying-is n me (writes t) f c)
 
   pub begin-is : (n me i : ℕ) (w : Words) → Same (beginCall n me b i w) (beginning n me b i w)
   unfolding beginCall beginning

@@ -1,15 +1,14 @@
 -- The rules of a leader for a call, at one bucket: the model's definitions (crates/model/specs/Leader.antt) on a front and a cell.
 use mathlib.Core.List.{List, [], _++_}
 use mathlib.Core.Bool.{true, false}
-use mathlib.Core.Option.{Option, none, some}
+use mathlib.Core.Option.{none, some}
 use Prim.Native.Nat.{ℕ, _+_}
-use lib.Dec.{eqb}
 use lib.ListN.{set, replicate}
 use Rattle.entries.specs.Entries.{Entry}
-use Rattle.model.specs.Calls.{Words, Result, done, Effect, answers, writes, effectWrites, effect}
+use Rattle.model.specs.Calls.{Words, Result, done, Effect, answers, writes, effect}
 use Rattle.model.specs.Cluster.{version, above, Copy, Purpose, recoveryRead, recoveryWrite, check, ownWrite, silent, acknowledged, Round, Server, Message}
 use Rattle.model.specs.Replica.{Request, reading, writing, requestBody}
-use Rattle.model.specs.Leader.{Reaction, cease, fails, broadcast, isOwn, reportTo, oneMore, closes, answerOf}
+use Rattle.model.specs.Leader.{Reaction, cease, fails, broadcast, isOwn, reportTo, oneMore, closes, answerOf, recovered, straight}
 use Rattle.cells.specs.Cells.{Front, Cell, putCell, Move, lift}
 
 abbrev pub still : Front → Cell → Move
@@ -74,7 +73,7 @@ recoveryOf n me b t f c = openingRound n me b recoveryWrite (writing (version (f
 
 unfoldable pub readingBucket : ℕ → ℕ → ℕ → Front → Cell → Move
 readingBucket n me b f c =
-    elim (eqb (c .copy .version .election) (f .number)) [
+    elim (recovered (f .number) (c .copy)) [
       | true ↦ checkingRound n me b f c
       | false ↦ openingRound n me b recoveryRead reading (recoveryOf n me b (c .copy .table)) f c
     ]
@@ -89,14 +88,9 @@ closing n me b r f c =
       | ownWrite ↦ finishing done f c
     ]
 
--- what a call writes without READ
-unfoldable pub straightTo : Words → Front → Cell → Option (List Entry)
-straightTo w f c =
-    elim (eqb (c .copy .version .election) (f .number)) [ true ↦ effectWrites (effect w (c .copy .table)) | false ↦ none ]
-
--- the first round of a call
+-- the first round of a call: its own write at once, or that of READ
 unfoldable pub startingCall : ℕ → ℕ → ℕ → Words → Front → Cell → Move
-startingCall n me b w f c = elim (straightTo w f c) [ some t ↦ doing n me b (writes t) f c | none ↦ readingBucket n me b f c ]
+startingCall n me b w f c = elim (straight (f .number) w (c .copy)) [ some t ↦ doing n me b (writes t) f c | none ↦ readingBucket n me b f c ]
 
 -- a call is taken
 unfoldable pub beginning : ℕ → ℕ → ℕ → ℕ → Words → Front → Cell → Move

@@ -9,14 +9,13 @@ use Prim.Native.Nat.{ℕ, _+_, _≤_, _<_}
 use native.Mathlib.Omega.{arith}
 use native.Mathlib.Numerals.{add-one}
 use native.Mathlib.Decide.{ℕ-discrete}
-use lib.Dec.{eqb}
 use borrow.Author.Tests.{eqb-true, eqb-false}
 use Rattle.entries.specs.Entries.{Entry}
 use Rattle.model.specs.Measures.{majority}
 use Rattle.model.specs.Calls.{Result, done, Effect, answers, writes, effect}
 use Rattle.model.specs.Cluster.{Version, version, above, Copy, copyAt, Purpose, recoveryRead, recoveryWrite, check, ownWrite, Round, Call, roundAt, callAt, Server}
 use Rattle.model.specs.Replica.{reading, writing, requestBody, accepting}
-use Rattle.model.specs.Leader.{Reaction, isOwn, reportTo, newRound, closes, opening, openRound, broadcast, finish, nextVersion, applying, afterRead, checking, recovering, startRead, startCall, closed}
+use Rattle.model.specs.Leader.{Reaction, isOwn, reportTo, newRound, closes, opening, openRound, broadcast, finish, nextVersion, applying, afterRead, checking, recovering, recovered, startRead, startCall, closed}
 use Rattle.model.proofs.FirstRound.{first-round}
 use Rattle.history.specs.Members.{_∈_, first-in, none-in, each-cons}
 use Rattle.history.specs.Version.{_≼_, _≺_, lt-of-le-lt}
@@ -104,7 +103,7 @@ module _ (n buckets now taken p b : ℕ) where
 
   -- ---- the call's own write
 
-  -- a call that has been read and not yet written, on a recovered bucket whose newest write is chosen
+  -- a call that has not written yet, on a recovered bucket whose newest write is chosen
   pub record Settled (log : Log) (c : Call) (s : Server) : Type 0 where
     pub ready : Ready n buckets log p b c s
     pub recovered : copyAt (s .stored) b .version .election ≡ s .stored .number
@@ -439,9 +438,9 @@ module _ (n buckets now taken p b : ℕ) where
       → c .sent ≡ false → Unwritten log (c .number)
       → Kept n buckets now taken p log (startRead n p b s)
   unfolding startRead
-  read-kept {log} ok {c} {s} h rest unsent unwritten = go (eqb (copyAt (s .stored) b .version .election) (s .stored .number)) refl
+  read-kept {log} ok {c} {s} h rest unsent unwritten = go (recovered (s .stored .number) (copyAt (s .stored) b)) refl
     where
-      go : (t : Bool) → eqb (copyAt (s .stored) b .version .election) (s .stored .number) ≡ t
+      go : (t : Bool) → recovered (s .stored .number) (copyAt (s .stored) b) ≡ t
           → Kept n buckets now taken p log
           (elim t as (λ _. Reaction) [
             | true ↦ checking n p b s

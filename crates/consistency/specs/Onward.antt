@@ -14,7 +14,7 @@ use Rattle.entries.specs.Entries.{Entry}
 use Rattle.model.specs.Calls.{Words, Result, done, Effect, answers, writes, effect}
 use Rattle.model.specs.Cluster.{Version, version, Copy, freshCopy, Stored, copyAt, Role, follower, candidate, leading, Purpose, recoveryRead, recoveryWrite, check, ownWrite, Mark, acknowledged, refused, Round, Volatile, roundAt, callAt, Server, Body, pleaseVote, ackVote, nackVote, replicaWrite, ackWrite, nackWrite, replicaRead, ackRead, nackRead, Message}
 use Rattle.model.specs.Replica.{afterVote, Request, reading, writing, mayAccept, storing, accepting, acknowledging, refusing}
-use Rattle.model.specs.Leader.{Reaction, reaction, noReaction, after, withStored, withRound, endings, cease, stepDown, standing, elect, onAckVote, closes, fails, newRound, opening, openRound, answerOf, finish, applying, afterRead, checking, recovering, startRead, startCall, beginCall, closed, counted, counting, onReply, onPleaseVote, onRequest, handle}
+use Rattle.model.specs.Leader.{Reaction, reaction, noReaction, after, withStored, withRound, endings, cease, stepDown, standing, elect, onAckVote, closes, fails, newRound, opening, openRound, answerOf, finish, applying, afterRead, checking, recovering, recovered, startRead, startCall, beginCall, closed, counted, counting, onReply, onPleaseVote, onRequest, handle}
 use Rattle.model.specs.Leader
 use Rattle.model.proofs.Elections.{above-the-number, always-stands}
 use Rattle.model.proofs.FirstRound.{first-round}
@@ -134,7 +134,7 @@ module _ (n me b : ℕ) where
   start-read-moves : (s : Server) → Moves s (startRead n me b s)
   unfolding startRead
   start-read-moves s =
-      elim (eqb (copyAt (s .stored) b .version .election) (s .stored .number)) as
+      elim (recovered (s .stored .number) (copyAt (s .stored) b)) as
       (λ t. Moves s (elim t [ true ↦ checking n me b s | false ↦ openRound n me b recoveryRead reading (recovering n me b (copyAt (s .stored) b .table)) s ])) [
         | true ↦ checking-moves s
         | false ↦ open-moves recoveryRead reading (recovering n me b (copyAt (s .stored) b .table)) (recovering-moves _) s

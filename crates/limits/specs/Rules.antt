@@ -17,7 +17,7 @@ use Rattle.model.specs.Measures.{majority}
 use Rattle.model.specs.Calls.{Words, bucketFor, Result, done, Effect, answers, writes}
 use Rattle.model.specs.Cluster.{Version, version, above, Copy, freshCopy, Stored, copyAt, Role, follower, candidate, leading, Purpose, recoveryRead, recoveryWrite, check, ownWrite, Mark, silent, acknowledged, refused, Round, Call, Volatile, Server, Body, pleaseVote, ackVote, nackVote, replicaWrite, ackWrite, nackWrite, replicaRead, ackRead, nackRead, Message, roundAt, callAt}
 use Rattle.model.specs.Replica.{voting, grants, afterVote, Request, reading, writing, requestBody, mayAccept, storing, accepting, acknowledging, refusing}
-use Rattle.model.specs.Leader.{Reaction, noReaction, withStored, withVolatile, below, without, broadcast, ended, ceased, cease, stepDown, votesFor, standing, standForElection, nextNumber, raisedTo, elect, onAckVote, closes, fails, oneMore, isOwn, reportTo, newRound, opening, openRound, answerOf, finish, nextVersion, applying, afterRead, checking, recovering, startRead, startCall, beginCall, closed, better, markedBy, counted, withRound, counting, onReply, replyTo, onPleaseVote, onRequest, handle}
+use Rattle.model.specs.Leader.{Reaction, noReaction, withStored, withVolatile, below, without, broadcast, ended, ceased, cease, stepDown, votesFor, standing, standForElection, nextNumber, raisedTo, elect, onAckVote, closes, fails, oneMore, isOwn, reportTo, newRound, opening, openRound, answerOf, finish, nextVersion, applying, afterRead, checking, recovering, recovered, startRead, startCall, beginCall, closed, better, markedBy, counted, withRound, counting, onReply, replyTo, onPleaseVote, onRequest, handle}
 use Rattle.model.specs.Leader
 use Rattle.model.proofs.Elections.{above-the-number}
 use Rattle.model.proofs.FirstRound.{first-round}
@@ -468,7 +468,7 @@ module _ (n b : ℕ) (l : Limits) where
     readBucket-within : {c : Call} {s : Server} → Amidst i 4 c s → ReactionWithin n b l (startRead n me i s)
     unfolding startRead
     readBucket-within {c} {s} a =
-        chosen (eqb (copyAt (s .stored) i .version .election) (s .stored .number))
+        chosen (recovered (s .stored .number) (copyAt (s .stored) i))
         (checking-within (amidst-fewer 2 (omega arith) a))
         (openRound-within recoveryRead reading tt a _ refl (λ u m. recovering-within _ (copy-within i d (a .stored) .fitting) m))
 

@@ -34,7 +34,7 @@ keys-sized long (e ∷ t) h =
     let s = sized-parts long e t h in
     cons (s .keyLow, s .keyTop) (keys-sized long t (s .others))
 
--- what is left to do after READ
+-- an effect within the measures
 abbrev pub EffectWithin : Effect → Type 0
 EffectWithin (answers r) = ResultWithin r
 EffectWithin (writes t) = Fits t

@@ -258,31 +258,31 @@ checking n me b s = openRound n me b check reading (afterRead n me b) s
 unfoldable pub recovering : ℕ → ℕ → ℕ → List Entry → Server → Reaction
 recovering n me b t s = openRound n me b recoveryWrite (writing (version (s .stored .number) 1) t) (checking n me b) s
 
--- a bucket is recovered where the version of the leader's copy has the leader's number
-abbrev pub recovered : ℕ → Server → Bool
-recovered b s = eqb (copyAt (s .stored) b .version .election) (s .stored .number)
+-- a bucket is recovered where the version of the leader's copy has the leader's number e
+abbrev pub recovered : ℕ → Copy → Bool
+recovered e copy = eqb (copy .version .election) e
 
 -- READ: recovery where the bucket is not recovered, then the checking round
 unfoldable pub startRead : ℕ → ℕ → ℕ → Server → Reaction
 startRead n me b s =
-    elim (recovered b s) [
+    elim (recovered (s .stored .number) (copyAt (s .stored) b)) [
       | true ↦ checking n me b s
       | false ↦
           openRound n me b recoveryRead reading (recovering n me b (copyAt (s .stored) b .table)) s
     ]
 
 -- what a call writes without READ (document 02, Change 1): on a recovered bucket its effect on the leader's copy, if that is a write
-unfoldable pub straight : ℕ → Words → Server → Option (List Entry)
-straight b words s =
-    elim (recovered b s) [
-      | true ↦ effectWrites (effect words (copyAt (s .stored) b .table))
+unfoldable pub straight : ℕ → Words → Copy → Option (List Entry)
+straight e words copy =
+    elim (recovered e copy) [
+      | true ↦ effectWrites (effect words (copy .table))
       | false ↦ none
     ]
 
 -- the first round of a call: its own write at once, or that of READ
 unfoldable pub startCall : ℕ → ℕ → ℕ → Words → Server → Reaction
 startCall n me b words s =
-    elim (straight b words s) [ some t ↦ applying n me b (writes t) s | none ↦ startRead n me b s ]
+    elim (straight (s .stored .number) words (copyAt (s .stored) b)) [ some t ↦ applying n me b (writes t) s | none ↦ startRead n me b s ]
 
 -- a call is taken
 unfoldable pub beginCall : ℕ → ℕ → ℕ → ℕ → Words → Server → Reaction

@@ -14,10 +14,10 @@ use Rattle.model.specs.Measures.{majority}
 use Rattle.model.specs.Calls as calls
 use Rattle.model.specs.Cluster as cluster
 use Rattle.model.specs.Replica.{Request, reading, writing}
-use Rattle.model.specs.Leader.{beginCall, acknowledgements, closes, below, without, broadcast}
+use Rattle.model.specs.Leader.{straight, beginCall, acknowledgements, closes, below, without, broadcast}
 use Rattle.cells.specs.Cells.{Front, Cell}
 use Rattle.cells.specs.Cells as cells
-use Rattle.cells.specs.Moves.{still, finishing, frontAfter, cellAfter, openingRound, doing, afterReading, checkingRound, recoveryOf, readingBucket, straightTo, startingCall, beginning}
+use Rattle.cells.specs.Moves.{still, finishing, frontAfter, cellAfter, openingRound, doing, afterReading, checkingRound, recoveryOf, readingBucket, startingCall, beginning}
 use Rattle.cells.specs.Laws.{begin-is}
 use Rattle.server.specs.declared.Version.{Version}
 use Rattle.server.specs.declared.Call.{Call}
@@ -51,7 +51,7 @@ reads n me b l copy words f o live e =
     ap (λ k. elim k as (λ y. cells.Move) [ none ↦ still x c | some k ↦ doing n me b (calls.effect (k .words) copy) x c ]) (call-open (l .call) words live)
     ∙ ap (λ k. doing n me b k x c) (sym e)
 
-writes-so : (f : Effect) → eqb (f .result) 0 ≡ true → effectIn f ≡ calls.writes (tableIn (f .table))
+pub writes-so : (f : Effect) → eqb (f .result) 0 ≡ true → effectIn f ≡ calls.writes (tableIn (f .table))
 unfolding effectIn
 writes-so f e = rw (effectIn, e)
 
@@ -85,15 +85,15 @@ starts : (n me b : ℕ) (l : Local) (copy : List Entry) (words : calls.Words) (f
     → calls.effectWrites (effectIn f) ≡ calls.effectWrites (calls.effect words copy) → (z : Bool) → eqb (f .result) 0 ≡ z
     → startingCall n me b words (frontIn n (l .head)) (cellWith o l copy words)
     ≡ elim z [ true ↦ doing n me b (effectIn f) (frontIn n (l .head)) (cellWith o l copy words) | false ↦ readingBucket n me b (frontIn n (l .head)) (cellWith o l copy words) ]
-unfolding startingCall straightTo calls.effectWrites
-starts n me b l copy words f o e made true h = rw (startingCall, straightTo, e, ← made, writes-so f h)
-starts n me b l copy words f o e made false h = rw (startingCall, straightTo, e, ← made, answers-so f h)
+unfolding startingCall straight calls.effectWrites
+starts n me b l copy words f o e made true h = rw (startingCall, straight, e, ← made, writes-so f h)
+starts n me b l copy words f o e made false h = rw (startingCall, straight, e, ← made, answers-so f h)
 
 -- any other copy is read first
 reads-first : (n me b : ℕ) (l : Local) (copy : List Entry) (words : calls.Words) (o : Option cluster.Round) → recovered l ≡ false
     → startingCall n me b words (frontIn n (l .head)) (cellWith o l copy words) ≡ readingBucket n me b (frontIn n (l .head)) (cellWith o l copy words)
-unfolding startingCall straightTo
-reads-first n me b l copy words o e = rw (startingCall, straightTo, e)
+unfolding startingCall straight
+reads-first n me b l copy words o e = rw (startingCall, straight, e)
 
 module _ (n me b : ℕ) (a : Asked) (l : Local) (t : Tables) (words : calls.Words) (f : Effect) (o : Option cluster.Round) (lo : 2 ≤ n) (hi : n ≤ 7) (mine : me < n)
     (written : recovered l ≡ true → calls.effectWrites (effectIn f) ≡ calls.effectWrites (calls.effect words (t .copy))) (made : t .made ≡ tableIn (f .table))

@@ -20,7 +20,7 @@ use Rattle.moves.specs.Reactions.{EffectNeeded}
 pub known : (n : ℕ) (l : Local) (words : calls.Words) (copy : List Entry) (f : Effect) → effectIn f ≡ calls.effect words copy → EffectNeeded n l words copy f
 known n l words copy f e = record { alone = λ h. e; written = λ h. ap calls.effectWrites e }
 
--- `get` is 1, and what is above 4 is `keys`
+-- `get` is 1; 0 and what is above 4 stand for `keys`
 other-kinds : (kind : ℕ) → mayWrite kind ≡ false → (kind < 2) ⊎ (4 < kind)
 other-kinds kind h = go (ltb kind 2) refl
   where

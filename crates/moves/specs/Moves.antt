@@ -130,7 +130,8 @@ closedMove me result l =
 abbrev pub recovered : Local → Bool
 recovered l = eqb (l .version .election) (l .head .number)
 
--- the first round of a call among several servers, which waits for replies: on a recovered copy a new table is written at once
+-- the first round of a call among several servers, which waits for replies, by the result of the call's effect: where that is 0 a new
+-- table is to be written, on a recovered copy at once
 unfoldable pub startedMove : ℕ → ℕ → Local → Move
 startedMove me result l =
     elim (recovered l) [
@@ -181,7 +182,8 @@ begunMove n me i kind result l =
 unfoldable pub mayWrite : ℕ → Bool
 mayWrite kind = elim (ltb kind 2) [ true ↦ false | false ↦ leb kind 4 ]
 
--- a server alone ends the call in its line, and a call that may write does so at once on a recovered copy
+-- whether the line of a call needs the call's effect: with one server, which ends the call there, and on a recovered copy for a call
+-- that may write
 unfoldable pub needsEffect : ℕ → ℕ → Local → Bool
 needsEffect n kind l = elim (leb n 1) [ true ↦ true | false ↦ elim (recovered l) [ true ↦ mayWrite kind | false ↦ false ] ]
 

@@ -69,7 +69,7 @@ pub fn next_version(number: u32, v: Version) -> Version
     }
 }
 
-// READ: whether the copy with version v was recovered under the leader's number.
+// Whether the copy with version v was recovered under the leader's number.
 pub fn recovered(h: Head, v: Version) -> bool
     ensures { λ b. ⌜ b ≡ eqb (versionIn v .election) (storedIn h [] .number) ⌝ }
 {

@@ -119,7 +119,7 @@ pub fn no_move() -> Move
     }
 }
 
-// What stands for the effect of a line that asks for none.
+// Zeros, which stand for the effect where a line asks for none.
 pub fn no_effect() -> Effect
     ensures { λ r. ⌜ (r .result ≡ 0) × (tableIn (r .table) ≡ []) ⌝ }
 {

@@ -14,7 +14,7 @@ use Rattle.model.specs.Calls as calls
 use Rattle.model.specs.Cluster as cluster
 use Rattle.model.specs.Leader.{beginCall}
 use Rattle.model.specs.Lines as lines
-use Rattle.model.proofs.FirstRound.{writes-so}
+use Rattle.model.proofs.FirstRound.{written-effect}
 use Rattle.limits.specs.Measures.{Fits, WordsSized}
 use Rattle.limits.specs.Tables.{EffectWithin, effect-within}
 use Rattle.server.specs.declared.Call.{Call}
@@ -27,7 +27,7 @@ use Rattle.refusals.specs.Refusals.{inside, serverRefusal}
 use Rattle.moves.specs.declared.Local.{Local}
 use Rattle.moves.specs.declared.Move.{Move}
 use Rattle.moves.specs.Moves.{readingMove, finishedMove, recovered, startedMove, aloneMove, begunMove}
-use Rattle.moves.proofs.CallMoves.{begun-means}
+use Rattle.moves.proofs.CallMoves.{writes-so, begun-means}
 use Rattle.moves.specs.Reactions.{EffectNeeded, askedIn}
 use Rattle.views.specs.Memory.{Memory, WholeLocal, slotOf, tableAt, localAt, callWordsAt, serverAt, clusterAt}
 use Rattle.views.proofs.Contents.{tablesAt}
@@ -44,7 +44,6 @@ use Rattle.runs.proofs.Taken.{taken-read, taken-local, taken-cluster, t
 use Rattle.runs.proofs.Standing.{measured, standing-cluster}
 use Rattle.runs.proofs.Conditions.{judged, planned, refusing, ready-perform, condition-judged, roomy-judged, server-stands, place-judged, server-judged}
 use Rattle.runs.proofs.Resting.{cluster-within, last-low, counter-low, table-fits}
-use Rattle.runs.proofs.Filling.{effect-writes}
 use Rattle.runs.proofs.Wording.{Said, Fine}
 
 -- ---- the move of a call
@@ -113,7 +112,7 @@ module _ {m : Memory} {l : List ℕ} {t : lines.Tally} (ready : Ready m l t) (s 
       let does = calls.effect words (tableAt (m .copies) k) in
       let written : calls.effectWrites (effectIn f) ≡ calls.effectWrites does =
       elim where-so [ inl one ↦ ap calls.effectWrites (effect .alone one) | inr r ↦ effect .written r ] in
-      let made : does ≡ calls.writes (tableIn (f .table)) = writes-so does (tableIn (f .table)) (sym written ∙ ap calls.effectWrites (effect-writes f z)) in
+      let made : does ≡ calls.writes (tableIn (f .table)) = written-effect does (tableIn (f .table)) (sym written ∙ ap calls.effectWrites (writes-so f z)) in
       subst EffectWithin made (effect-within words (tableAt (m .copies) k) sized (table-fits ready s b server bucket))
 
   call-possible : Possible m c step move f

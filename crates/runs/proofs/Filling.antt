@@ -7,8 +7,6 @@ use native.Mathlib.Omega.{arith}
 use borrow.Author.Tests.{eqb-true}
 use lib.Dec.{eqb, ltb}
 use lib.ListN.{getD, take}
-use Rattle.entries.specs.Decoded.{tableIn}
-use Rattle.model.specs.Calls as calls
 use Rattle.model.specs.Replica.{mayAccept}
 use Rattle.model.specs.Leader.{closes, fails}
 use Rattle.server.specs.declared.Version.{Version}
@@ -17,8 +15,7 @@ use Rattle.server.specs.declared.Counted.{Counted}
 use Rattle.server.specs.declared.Message.{Message}
 use Rattle.server.specs.declared.Handling.{Handling}
 use Rattle.server.specs.declared.Handling.the-variants.{Vote, Request, Reply, Other}
-use Rattle.server.specs.declared.Effect.{Effect}
-use Rattle.server.specs.Views.{among, markIn, openIn, roundIn, storedIn, effectIn, chosen}
+use Rattle.server.specs.Views.{among, markIn, openIn, roundIn, storedIn, chosen}
 use Rattle.rounds.specs.Rounds.{noVersion, pickVersion, isSilent, countedOf, matching}
 use Rattle.rounds.specs.Kinds.{handlingIn}
 use Rattle.moves.specs.declared.Local.{Local}
@@ -151,9 +148,3 @@ module _ (n : ℕ) (m : Message) (l : Local) where
   pub reads-table-open : readsTable n m l ≡ true → among 4 (l .round .purpose) ≡ true
   unfolding readsTable
   reads-table-open h = reads-open (handlingIn (m .kind)) h
-
--- ---- an effect with result 0
-
-pub effect-writes : (f : Effect) → eqb (f .result) 0 ≡ true → effectIn f ≡ calls.writes (tableIn (f .table))
-unfolding effectIn
-effect-writes f e = rw (effectIn, e)

@@ -28,6 +28,7 @@ use Rattle.moves.specs.declared.Local.{Local}
 use Rattle.moves.specs.declared.Move.{Move}
 use Rattle.moves.specs.Moves.{replyMove, handledMove, readsTable}
 use Rattle.moves.specs.Reactions.{Tables, bestIn, messageIn, askedIn, reactionIn}
+use Rattle.moves.proofs.CallMoves.{writes-so}
 use Rattle.moves.proofs.Ceasing.{quiet-means}
 use Rattle.moves.proofs.ReplyMoves.{reply-means}
 use Rattle.moves.proofs.Handled.{ReplyMeans, handled-means}
@@ -46,7 +47,7 @@ use Rattle.runs.proofs.Accepting.{Ready, Possible, keptMessages, workOf
 use Rattle.runs.proofs.Standing.{measured}
 use Rattle.runs.proofs.Conditions.{judged, planned, ready-perform, server-stands, stopped-seen, message-judged, moved-run, lost-run}
 use Rattle.runs.proofs.Resting.{cluster-within, server-within, last-low, counter-low, table-fits, call-open}
-use Rattle.runs.proofs.Filling.{handled-written, reads-table-open, effect-writes}
+use Rattle.runs.proofs.Filling.{handled-written, reads-table-open}
 
 -- two that differ are of several
 apart-several : (n p q : ℕ) → p < n → q < n → p ≢ q → 2 ≤ n
@@ -187,7 +188,7 @@ module _ {m : Memory} {l : List ℕ} {t : lines.Tally} (ready : Ready m l t) (i 
           let (r, z) = handled-written n s (f .result) here-local asked h in
           let call = call-open ready s b mine ours (reads-table-open n asked here-local r) in
           let fits = effect-within (callWordsAt m k) (tableAt (m .copies) k) (call .sizes) (table-fits ready s b mine ours) in
-          subst EffectWithin (sym (reads r) ∙ effect-writes f z) fits
+          subst EffectWithin (sym (reads r) ∙ writes-so f z) fits
 
       possible : Possible m (countsAt (m .counts)) step move f
       possible =

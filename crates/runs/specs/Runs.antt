@@ -222,7 +222,7 @@ runBy K.Stop m l x f = plannedRun m l x f
 unfoldable pub lineRun : Memory → List ℕ → Line → Effect → Ran
 lineRun m l x f = runBy (x .kind) m l x f
 
--- ---- the effect that a line asks for, before 12 is judged: it decides what is sent
+-- ---- the effect that a line asks for: it decides what is sent, so it is there before 12 is judged
 
 -- a call that is not refused with 3 or 4
 abbrev pub CallEffect : Memory → Counts → ℕ → Words → Effect → Type 0

@@ -90,7 +90,7 @@ fn what_only_answers_makes_the_checking_round_first() {
 }
 
 #[test]
-fn an_election_leaves_every_bucket_unrecovered() {
+fn an_election_leaves_the_bucket_unrecovered() {
     let mut bench = recovered();
     bench.elect(0, &[1]);
     bench.lose_all();
@@ -98,7 +98,7 @@ fn an_election_leaves_every_bucket_unrecovered() {
     assert_eq!(kinds(&bench), [REPLICAREAD; 2]);
     assert_eq!(bench.read_unrecovered(0, 1), "");
     assert_eq!(bench.exchange(REPLICAWRITE, 0, 1), "2 done 4");
-    // A write that its leader would have sent at once is found by recovery.
+    // The bucket is recovered again: the next write is sent at once.
     bench.quiet(&["setif 0 61 02 03"]);
     assert_eq!(bench.exchange(REPLICAWRITE, 0, 1), "3 done 1");
 }
@@ -208,6 +208,8 @@ fn a_straight_write_without_places_changes_nothing() {
     bench.quiet(&["lose 0", "set 0 61 02"]);
     assert_eq!(version(&bench, 0), (1, 3));
     assert_eq!(bench.under_way(), 64);
+    // The refused call took no number.
+    assert_eq!(bench.exchange(REPLICAWRITE, 0, 1), "2 done 1");
 }
 
 #[test]

@@ -135,8 +135,8 @@ fn rounds(output: &[u8]) -> BTreeSet<String> {
 
 #[test]
 fn every_result_takes_its_rounds_and_no_other() {
-    // On a recovered bucket 1; on another 3 for what reads and 4 for what
-    // writes. A call may fail in any of these rounds: `unknown` in a write of
+    // On a recovered bucket 1; on another 3 for what only answers and 4 for
+    // what writes. A call may fail in any of these rounds: `unknown` in a write of
     // its own, `notdone` before.
     let expected = [
         "done 1",
