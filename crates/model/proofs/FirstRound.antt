@@ -100,8 +100,7 @@ module _ (n me b : ℕ) (s : Server) (so : recovered (s .stored .number) (copyAt
 
 -- ---- the count
 
--- with its own write as first round a call has 1 round and counts as sent, so that it is `unknown 1` if leading ends before the write is
--- acknowledged
+-- once its own write is opened as its first round, a call has 1 round and counts as sent: of such a call `ended` makes `unknown 1`
 pub sent-in-one-round : (n me b : ℕ) (s : Server) (t : List Entry) (c : Call) → b < length (s .volatile .calls) → callAt (s .volatile) b ≡ some c
     → c .rounds ≡ 0
     → callAt (opening n me b ownWrite (writing (nextVersion b s) t) s .volatile) b ≡ some (record { number = c .number; words = c .words; rounds = 1; sent = true })

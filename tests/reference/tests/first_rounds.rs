@@ -6,8 +6,7 @@ mod common;
 
 use common::{print, Bench};
 use reference::cluster::server::Role;
-use reference::datagram::{Version, NACKREAD, NACKWRITE};
-use reference::datagram::{PLEASEVOTE, REPLICAREAD, REPLICAWRITE};
+use reference::datagram::{Version, PLEASEVOTE, REPLICAREAD, REPLICAWRITE};
 
 /// Three servers; server 0 leads and has recovered the only bucket, in which
 /// key 61 has value 01. Nothing is in flight.
@@ -149,17 +148,23 @@ fn depose(bench: &mut Bench) {
     assert_eq!(bench.cluster().server(0).role, Role::Leader);
 }
 
+/// Servers 1 and 2 refuse a request of server 0, whose refusal is of the kind
+/// two above; gives what the second refusal prints.
+fn refused_by_both(bench: &mut Bench, request: u8) -> String {
+    for server in [1, 2] {
+        assert_eq!(bench.deliver(request, 0, server), "");
+    }
+    assert_eq!(bench.deliver(request + 2, 1, 0), "");
+    bench.deliver(request + 2, 2, 0)
+}
+
 #[test]
 fn a_deposed_leader_answers_nothing_from_its_old_copy() {
     // In its copy key 61 has 01, so it would answer `mismatch`, falsely.
     let mut bench = recovered();
     depose(&mut bench);
     bench.quiet(&["setif 0 61 07 08"]);
-    for server in [1, 2] {
-        bench.deliver(REPLICAREAD, 0, server);
-    }
-    assert_eq!(bench.deliver(NACKREAD, 1, 0), "");
-    assert_eq!(bench.deliver(NACKREAD, 2, 0), "3 notdone 1");
+    assert_eq!(refused_by_both(&mut bench, REPLICAREAD), "3 notdone 1");
 }
 
 #[test]
@@ -167,11 +172,7 @@ fn a_deposed_leader_writes_in_vain() {
     let mut bench = recovered();
     depose(&mut bench);
     bench.quiet(&["set 0 61 02"]);
-    for server in [1, 2] {
-        bench.deliver(REPLICAWRITE, 0, server);
-    }
-    assert_eq!(bench.deliver(NACKWRITE, 1, 0), "");
-    assert_eq!(bench.deliver(NACKWRITE, 2, 0), "3 unknown 1");
+    assert_eq!(refused_by_both(&mut bench, REPLICAWRITE), "3 unknown 1");
     assert_eq!(version(&bench, 0), (1, 3));
     bench.lose_all();
     // The copy of server 0 has 02, which is older than what server 1 wrote.
