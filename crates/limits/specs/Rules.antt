@@ -35,12 +35,12 @@ role-elected leading number x h = h
 
 -- ---- broadcasts
 
-below-less : (n : ℕ) → All (λ q. q < n) (below n)
+pub below-less : (n : ℕ) → All (λ q. q < n) (below n)
 unfolding below
 below-less zero = nil
 below-less (suc n) = all-append (all-imply (λ q h. omega arith) (below-less n)) (cons {x = n} (omega arith) nil)
 
-without-apart : {P : ℕ → Type 0} (me : ℕ) {l : List ℕ} → All P l → All (λ q. P q × (me ≢ q)) (without me l)
+pub without-apart : {P : ℕ → Type 0} (me : ℕ) {l : List ℕ} → All P l → All (λ q. P q × (me ≢ q)) (without me l)
 unfolding without
 without-apart me nil = nil
 without-apart {P} me (cons {x = q} {l = l} p h) = go (eqb q me) refl (without-apart me h)

@@ -12,3 +12,7 @@ majority-half n = omega arith
 pub majority-least : (n m : ℕ) → n < 2 * m → majority n ≤ m
 unfolding majority
 majority-least n m h = omega arith
+
+-- where there are servers, all of them have one
+pub majority-within : (n : ℕ) → 1 ≤ n → majority n ≤ n
+majority-within n h = majority-least n n (omega arith)

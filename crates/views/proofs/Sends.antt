@@ -14,6 +14,7 @@ use Rattle.entries.specs.Entries.{Entry}
 use Rattle.table.specs.Form.{tableOf}
 use Rattle.model.specs.Cluster as cluster
 use Rattle.model.specs.Leader.{below, without, broadcast}
+use Rattle.model.proofs.Broadcasts.{without-skips, without-takes, length-others}
 use Rattle.server.specs.declared.Message.{Message}
 use Rattle.server.specs.Views.{versionIn, chosen}
 use Rattle.memory.specs.Layout.{contentAt}
@@ -23,38 +24,6 @@ use Rattle.moves.specs.Reactions.{Tables, workAfter, copyAfter, messageIn, Aske
 use Rattle.views.specs.Memory.{tableAt}
 use Rattle.views.specs.Queue.{Flight, Sound, flightIn, appended, messageTo, spread, broadcastOf, replyOf, sent}
 use Rattle.views.proofs.Queue.{appended-flight, appended-count, appended-sound}
-
--- ---- the servers that a broadcast goes to
-
-without-append : (p : ℕ) (a b : List ℕ) → without p (a ++ b) ≡ without p a ++ without p b
-unfolding without
-without-append p [] b = refl
-without-append p (q ∷ a) b =
-    elim (eqb q p) as
-    (λ z. elim z [ true ↦ without p (a ++ b) | false ↦ q ∷ without p (a ++ b) ] ≡ elim z [ true ↦ without p a | false ↦ q ∷ without p a ] ++ without p b)
-    [ true ↦ without-append p a b | false ↦ ap (λ r. q ∷ r) (without-append p a b) ]
-
-module _ (p n : ℕ) where
-  without-skips : eqb n p ≡ true → without p (below (suc n)) ≡ without p (below n)
-  unfolding below without
-  without-skips e = without-append p (below n) (n ∷ []) ∙ rw (without, e) (append-nil (without p (below n)))
-
-  without-takes : eqb n p ≡ false → without p (below (suc n)) ≡ without p (below n) ++ (n ∷ [])
-  unfolding below without
-  without-takes e = without-append p (below n) (n ∷ []) ∙ rw (without, e)
-
-length-all : (p n : ℕ) → n ≤ p → length (without p (below n)) ≡ n
-unfolding below without
-length-all p zero h = refl
-length-all p (suc n) h = rw (without-takes p n (ne-eqb n p (λ e. omega arith)), length-append, length-all p n (omega arith)) (omega arith)
-
-pub length-others : (p n : ℕ) → p < n → length (without p (below n)) ≡ n - 1
-length-others p zero h = absurd (omega arith)
-length-others p (suc n) h = go (λ lt. length-others p n lt) (decLt p n)
-  where
-    go : (p < n → length (without p (below n)) ≡ n - 1) → Dec (p < n) → length (without p (below (suc n))) ≡ suc n - 1
-    go before (yes lt) = rw (without-takes p n (ne-eqb n p (λ e. omega arith)), length-append, before lt) (omega arith)
-    go before (no ge) = rw (without-skips p n (eq-eqb n p (omega arith)), length-all p n (omega arith)) (omega arith)
 
 -- ---- messages appended
 

@@ -7,12 +7,13 @@ use reference::script::Script;
 use reference::scripts::{generate, Kind};
 
 /// Kind of script, its length in lines, and how many of it.
-const SCRIPTS: [(Kind, usize, u64); 5] = [
+const SCRIPTS: [(Kind, usize, u64); 6] = [
     (Kind::Ordinary, 80, 14),
     (Kind::Crowded, 120, 8),
     (Kind::Hostile, 60, 14),
     (Kind::Rivals, 120, 14),
     (Kind::Long, 250, 4),
+    (Kind::Settled, 100, 8),
 ];
 
 const HEADER: &str = "\

@@ -65,3 +65,8 @@ fn the_tour() {
 fn the_script_language() {
     assert_eq!(check_document("docs/SCRIPT.md"), 3);
 }
+
+#[test]
+fn the_figures() {
+    assert_eq!(check_document("docs/FIGURES.md"), 1);
+}

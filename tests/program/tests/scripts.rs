@@ -66,10 +66,16 @@ fn short_scripts(kind: Kind, count: u64, met: &mut Met) {
 #[test]
 fn traffic() {
     let mut met = Met::default();
-    for kind in [Kind::Ordinary, Kind::Rivals, Kind::Long, Kind::Blind] {
+    for kind in [
+        Kind::Ordinary,
+        Kind::Rivals,
+        Kind::Long,
+        Kind::Blind,
+        Kind::Settled,
+    ] {
         short_scripts(kind, 300, &mut met);
     }
-    assert_eq!(met.scripts, 1200);
+    assert_eq!(met.scripts, 1500);
     met.demand(100, &[7, 8, 9]);
 }
 

@@ -88,6 +88,11 @@ impl Cluster {
         &self.messages
     }
 
+    /// Calls accepted so far, which is the number of the last one.
+    pub fn calls(&self) -> u32 {
+        self.calls
+    }
+
     pub fn tally(&self) -> Tally {
         Tally {
             under_way: self.messages.len() as u32,

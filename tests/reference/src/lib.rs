@@ -9,6 +9,7 @@ pub mod cluster;
 pub mod datagram;
 pub mod hash;
 pub mod printed;
+pub mod quiet;
 pub mod random_tables;
 pub mod refusal;
 pub mod script;

@@ -9,6 +9,7 @@ mod maker;
 mod random;
 mod rivals;
 mod rough;
+mod settled;
 
 pub use random::Random;
 
@@ -37,10 +38,12 @@ pub enum Kind {
     Blind,
     /// A script of another kind, damaged as bytes, or noise.
     Damaged,
+    /// Comes to rest again and again, and ends there.
+    Settled,
 }
 
 impl Kind {
-    pub const ALL: [(&'static str, Kind); 10] = [
+    pub const ALL: [(&'static str, Kind); 11] = [
         ("ordinary", Kind::Ordinary),
         ("crowded", Kind::Crowded),
         ("hostile", Kind::Hostile),
@@ -51,6 +54,7 @@ impl Kind {
         ("rivals", Kind::Rivals),
         ("blind", Kind::Blind),
         ("damaged", Kind::Damaged),
+        ("settled", Kind::Settled),
     ];
 
     pub fn named(name: &str) -> Option<Kind> {
@@ -74,6 +78,7 @@ pub fn generate(kind: Kind, seed: u64, lines: usize) -> Vec<u8> {
         Kind::Rivals => maker.rivals(lines),
         Kind::Blind => maker.blind(lines),
         Kind::Damaged => return damaged::damaged(&mut maker.random, lines),
+        Kind::Settled => maker.settled(lines),
     }
     maker.into_text()
 }

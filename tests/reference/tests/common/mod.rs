@@ -4,6 +4,7 @@
 
 use reference::cluster::Cluster;
 use reference::datagram::{PLEASEVOTE, REPLICAREAD, REPLICAWRITE};
+use reference::quiet::Conditions;
 use reference::script::Script;
 
 /// What a whole script prints.
@@ -70,6 +71,11 @@ impl Bench {
 
     pub fn under_way(&self) -> usize {
         self.cluster().messages().len()
+    }
+
+    /// What holds of Change 4's conditions for a call at this server.
+    pub fn conditions(&self, server: usize) -> Conditions {
+        Conditions::of(&self.script, server).unwrap()
     }
 
     /// The last place with a message of this kind between these servers.

@@ -1,0 +1,3 @@
+-- How long a quiet call takes: the claim, and short scripts.
+pub mod Statement
+pub mod Example

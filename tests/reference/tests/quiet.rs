@@ -1,0 +1,203 @@
+//! How long a quiet call takes (document 02, Change 4): at most 8 (n - 1)
+//! deliveries among n servers, on random quiet states; every size has a call
+//! that takes them all; and what comes where a condition fails.
+
+mod common;
+
+use common::Bench;
+use reference::cluster::SERVERS;
+use reference::quiet::{most_deliveries, Conditions, State};
+use reference::scripts::Random;
+use std::collections::BTreeSet;
+
+/// How a call went until nothing was under way.
+struct Ended {
+    deliveries: usize,
+    result: String,
+    /// Other calls that ended meanwhile.
+    others: usize,
+}
+
+/// Makes a call and then delivers the message at the place that `choose` gives
+/// from their number, until there is none; `None` where the call is refused.
+fn ended(state: &State, call: &str, mut choose: impl FnMut(usize) -> usize) -> Option<Ended> {
+    let mut script = State::after(&state.text);
+    let number = script.cluster()?.calls() + 1;
+    let mut out = Vec::new();
+    if !script.line(call.as_bytes(), &mut out) {
+        return None;
+    }
+    let mut deliveries = 0;
+    while let Some(count @ 1..) = script.cluster().map(|cluster| cluster.messages().len()) {
+        let line = format!("deliver {}", choose(count));
+        assert!(script.line(line.as_bytes(), &mut out), "{call}: {line}");
+        deliveries += 1;
+    }
+    // Calls of a former leader may end as well, where some were open.
+    let out = String::from_utf8(out).unwrap();
+    let own = format!("{number} ");
+    let answers: Vec<&str> = out.lines().filter(|line| line.starts_with(&own)).collect();
+    assert_eq!(answers.len(), 1, "{call}: {out}");
+    Some(Ended {
+        deliveries,
+        result: answers[0].split(' ').nth(1).unwrap().to_string(),
+        others: out.lines().count() - 1,
+    })
+}
+
+/// What the calls met, so that a test of few is noticed.
+#[derive(Default)]
+struct Met {
+    calls: [usize; SERVERS + 1],
+    most: [usize; SERVERS + 1],
+    results: BTreeSet<String>,
+}
+
+impl Met {
+    fn add(&mut self, state: &State, ended: Ended) {
+        let size = state.size;
+        self.calls[size] += 1;
+        self.most[size] = self.most[size].max(ended.deliveries);
+        self.results.insert(ended.result);
+    }
+
+    /// Many calls of every size, some that took all the deliveries, and no
+    /// more; every result but `notdone` and `unknown`.
+    fn check(&self) {
+        for size in 1..=SERVERS {
+            assert!(self.calls[size] > 300, "{size}: {}", self.calls[size]);
+            assert_eq!(self.most[size], most_deliveries(size));
+        }
+        let expected = ["done", "full", "keys", "mismatch", "value"];
+        assert!(self.results.iter().eq(expected), "{:?}", self.results);
+    }
+}
+
+const SEEDS: u64 = 2000;
+
+#[test]
+fn a_quiet_call_takes_at_most_the_figure() {
+    let mut met = Met::default();
+    for seed in 0..SEEDS {
+        let Some(state) = State::of_seed(seed, |found| *found == Conditions::ALL) else {
+            continue;
+        };
+        for call in state.calls() {
+            if let Some(ended) = ended(&state, &call, |_| 0) {
+                assert_eq!(ended.others, 0);
+                met.add(&state, ended);
+            }
+        }
+    }
+    met.check();
+}
+
+#[test]
+fn so_it_does_in_any_order_and_beside_open_calls() {
+    let mut met = Met::default();
+    let (mut open, mut others) = (0, 0);
+    for seed in 0..SEEDS {
+        let asked = |found: &Conditions| found.but_for_open_calls() == Conditions::ALL;
+        let Some(state) = State::of_seed(seed, asked) else {
+            continue;
+        };
+        let found = Conditions::of(&State::after(&state.text), state.leader);
+        let mut random = Random::new(seed);
+        for call in state.calls() {
+            if let Some(ended) = ended(&state, &call, |count| random.below(count)) {
+                open += usize::from(found != Some(Conditions::ALL));
+                others += ended.others;
+                met.add(&state, ended);
+            }
+        }
+    }
+    met.check();
+    assert!(open > 300 && others > 0, "{open}, {others}");
+}
+
+/// A cluster whose server 0 leads with all votes; nothing is under way.
+fn led(size: u8) -> Bench {
+    let mut bench = Bench::new(&format!("cluster {size} 1"));
+    let voters: Vec<u8> = (1..size).collect();
+    bench.elect(0, &voters);
+    bench
+}
+
+#[test]
+fn every_size_has_a_call_that_takes_them_all() {
+    for size in 1..=SERVERS {
+        let mut bench = led(size as u8);
+        assert_eq!(bench.conditions(0), Conditions::ALL);
+        let mut out = bench.line("set 0 61 01");
+        for _ in 0..most_deliveries(size) {
+            assert!(bench.under_way() > 0);
+            out += &bench.line("deliver 0");
+        }
+        assert_eq!(bench.under_way(), 0);
+        assert_eq!(out, "1 done 4");
+    }
+}
+
+#[test]
+fn messages_to_stopped_servers_are_deliveries_too() {
+    let mut bench = led(5);
+    bench.quiet(&["stop 3", "stop 4"]);
+    assert_eq!(bench.conditions(0), Conditions::ALL);
+    bench.quiet(&["set 0 61 01"]);
+    let out: String = (0..24).map(|_| bench.line("deliver 0")).collect();
+    assert_eq!((out.as_str(), bench.under_way()), ("1 done 4", 0));
+}
+
+#[test]
+fn a_stopped_server_may_have_voted_higher() {
+    let mut bench = led(3);
+    bench.quiet(&["elect 2", "lose 0", "lose 0", "stop 2"]);
+    assert_eq!(bench.cluster().server(2).vote, 2);
+    assert_eq!(bench.conditions(0), Conditions::ALL);
+    bench.quiet(&["set 0 61 01"]);
+    let out: String = (0..12).map(|_| bench.line("deliver 0")).collect();
+    assert_eq!((out.as_str(), bench.under_way()), ("1 done 4", 0));
+}
+
+#[test]
+fn with_higher_votes_a_call_may_end_as_notdone_or_unknown() {
+    let mut bench = led(3);
+    bench.quiet(&["elect 1", "elect 2"]);
+    bench.lose_all();
+    let failed = Conditions {
+        number_no_lower_than_a_vote: false,
+        ..Conditions::ALL
+    };
+    assert_eq!(bench.conditions(0), failed);
+    bench.quiet(&["get 0 61", "deliver 0", "deliver 0", "deliver 0"]);
+    assert_eq!(bench.line("deliver 0"), "1 notdone 1");
+}
+
+#[test]
+fn without_a_majority_a_call_has_no_result() {
+    let mut bench = led(3);
+    bench.quiet(&["stop 1", "stop 2"]);
+    let failed = Conditions {
+        majority_runs: false,
+        ..Conditions::ALL
+    };
+    assert_eq!(bench.conditions(0), failed);
+    bench.quiet(&["get 0 61", "deliver 0", "deliver 0"]);
+    assert_eq!(bench.under_way(), 0);
+    assert!(bench.cluster().server(0).calls[0].is_open());
+}
+
+#[test]
+fn with_a_message_under_way_it_may_take_one_delivery_more() {
+    let mut bench = Bench::new("cluster 2 1");
+    bench.quiet(&["elect 0", "deliver 0", "copy 0"]);
+    let failed = Conditions {
+        list_empty: false,
+        ..Conditions::ALL
+    };
+    assert_eq!(bench.conditions(0), failed);
+    bench.quiet(&["set 0 61 01"]);
+    let out: String = (0..8).map(|_| bench.line("deliver 0")).collect();
+    assert_eq!((out.as_str(), bench.under_way()), ("", 1));
+    assert_eq!(bench.line("deliver 0"), "1 done 4");
+}
