@@ -1,16 +1,16 @@
 -- The definitions set the mark of a round's own leader without asking it. That is what asking would give: a leader's vote is its
 -- number, so it accepts its own request.
-use mathlib.Core.Path.{_≡_, refl, sym, _∙_, ap}
+use mathlib.Core.Path.{_≡_, sym, _∙_, ap}
 use mathlib.Core.List.{List, [], _∷_}
 use Prim.Native.Nat.{ℕ, _+_, _≤_}
 use native.Mathlib.Omega.{arith}
 use borrow.Author.Tests.{le-ltb}
-use Rattle.model.specs.Cluster.{Stored, Purpose, Server, Message}
+use Rattle.model.specs.Cluster.{Purpose, Server, Message}
 use Rattle.model.specs.Replica.{Request, reading, writing, requestBody, mayAccept, accepting, acknowledging}
 use Rattle.model.specs.Leader.{reaction, noReaction, withStored, replyTo, replying, stepDown, opening, onRequest, handle}
 use Rattle.model.specs.Lines.{initialState}
 use Rattle.model.specs.Run.{stateAfter}
-use Rattle.consistency.specs.Storing.{storing-keeps}
+use Rattle.model.proofs.Replicas.{accepting-keeps}
 use Rattle.consistency.specs.Reached.{serverIn, LeadsIn}
 use Rattle.consistency.specs.Agreed.{leader-facts, reached}
 use Rattle.consistency.specs.Runs.{script-leaves}
@@ -19,11 +19,6 @@ pub leader-votes-for-its-number : (ls : List (List ℕ)) (p e : ℕ) → LeadsIn
 leader-votes-for-its-number ls p e (r, i) =
     let h = script-leaves ls in
     leader-facts (h .now) (h .count) (h .buckets) (reached ls .cluster) (h .log) (h .agrees) p r .1 ∙ i
-
-accepting-votes : (b e p : ℕ) (request : Request) (st : Stored) → (accepting b e p request st .vote ≡ e) × (accepting b e p request st .number ≡ st .number)
-unfolding accepting
-accepting-votes b e p reading st = (refl, refl)
-accepting-votes b e p (writing v t) st = let h = storing-keeps b v t (record { number = st .number; vote = e; leader = p; copies = st .copies }) in (h .1, h .0)
 
 -- the message that a round would send to its own leader
 abbrev pub toItself : ℕ → ℕ → Request → Server → Message
@@ -42,7 +37,7 @@ unfolding onRequest mayAccept
 requested p b request s v =
     let st = accepting b (s .stored .number) p request (s .stored) in
     let m = toItself p b request s in
-    let (x, y) = accepting-votes b (s .stored .number) p request (s .stored) in
+    let (y, x) = accepting-keeps b (s .stored .number) p request (s .stored) in
     rw (onRequest, mayAccept, le-ltb (s .stored .number) (s .stored .vote) (omega arith))
     (ap (λ r. replying r (replyTo p m (acknowledging b request st))) (settled (withStored s st) (omega arith)))
 
@@ -67,4 +62,4 @@ leader-accepts-its-own-requests ls n p e b purpose request l = accepts-own-reque
 -- and its vote is still its number afterwards, where a line opens more than one round
 pub opening-keeps-vote : (n p b : ℕ) (purpose : Purpose) (request : Request) (s : Server) → opening n p b purpose request s .stored .vote ≡ opening n p b purpose request s .stored .number
 unfolding opening
-opening-keeps-vote n p b purpose request s = let (x, y) = accepting-votes b (s .stored .number) p request (s .stored) in x ∙ sym y
+opening-keeps-vote n p b purpose request s = let (y, x) = accepting-keeps b (s .stored .number) p request (s .stored) in x ∙ sym y

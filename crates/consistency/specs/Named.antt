@@ -3,16 +3,16 @@
 -- Freshness, and what a call that ended as `notdone` leaves, are in Fresh.antt.
 use mathlib.Core.Path.{_≡_, refl, sym, _∙_, ap, subst, subst⁻¹}
 use mathlib.Core.List.{List, [], _∷_, _++_, map, append-nil, Memᴰ·map, Memᴰ·of-map}
-use mathlib.Core.Bool.{true, false}
-use lib.Dec.{ltb}
+use mathlib.Core.Bool.{true}
 use Prim.Native.Nat.{ℕ, _+_, _≤_}
 use native.Mathlib.Omega.{arith}
 use Rattle.entries.specs.Entries.{Entry}
 use Rattle.model.specs.Cluster.{Version, Stored, copyAt, Role, follower, candidate, leading, Server, Message, ackWrite}
 use Rattle.model.specs.Replica.{voting, writing, mayAccept, storing, accepting, acknowledging}
-use Rattle.model.specs.Leader.{Reaction, noReaction, cease, withStored, nextNumber, replyTo, stepDown, onRequest}
+use Rattle.model.specs.Leader.{withStored, nextNumber, replyTo, onRequest}
 use Rattle.model.specs.Lines.{initialState}
 use Rattle.model.specs.Run.{stateAfter}
+use Rattle.model.proofs.Replicas.{step-down-keeps}
 use Rattle.history.specs.Version.{_≼_, lt-not-le}
 use Rattle.consistency.specs.Statement.{_∈_, Begin, End, Distinct, begins, ends}
 use Rattle.consistency.specs.Claims.{Holds}
@@ -78,10 +78,6 @@ never-leads-again ls ms ks p e (i, j) =
 pub late-write-changes-nothing : (b : ℕ) (v : Version) (t : List Entry) (st : Stored) → v ≼ copyAt st b .version → storing b v t st ≡ st
 late-write-changes-nothing b v t st h = storing-cases b v t st (λ x. x ≡ st) (λ l. refl) (λ l. absurd (lt-not-le l h))
 
-step-down-stored : (s : Server) → stepDown s .server .stored ≡ s .stored
-unfolding stepDown cease
-step-down-stored s = elim (ltb (s .stored .number) (s .stored .vote)) as (λ t. let r : Reaction = elim t [ true ↦ cease s | false ↦ noReaction s ] in r .server .stored ≡ s .stored) [ true ↦ refl | false ↦ refl ]
-
 -- a server that accepts such a write acknowledges it and keeps its copies
 pub late-write-acknowledged : (me : ℕ) (m : Message) (v : Version) (t : List Entry) (s : Server) → mayAccept (m .election) (s .stored) ≡ true → v ≼ copyAt (s .stored) (m .bucket) .version
     → (onRequest me m (writing v t) s .sends ≡ replyTo me m ackWrite ∷ []) × (onRequest me m (writing v t) s .server .stored .copies ≡ s .stored .copies)
@@ -89,7 +85,7 @@ unfolding onRequest accepting acknowledging
 late-write-acknowledged me m v t s e h =
     let st = voting (m .election) (m .sender) (s .stored) in
     rw (onRequest, e)
-    (refl, ap (λ x. x .copies) (step-down-stored (withStored s (storing (m .bucket) v t st)) ∙ late-write-changes-nothing (m .bucket) v t st h))
+    (refl, ap (λ x. x .copies) (step-down-keeps (withStored s (storing (m .bucket) v t st)) .0 ∙ late-write-changes-nothing (m .bucket) v t st h))
 
 -- the machine: whatever lines follow, no server's copy of a bucket is older than it was
 pub copies-never-older : (ls ms : List (List ℕ)) (p b : ℕ)

@@ -3,3 +3,4 @@ pub mod Broadcasts
 pub mod Elections
 pub mod FirstRound
 pub mod Majorities
+pub mod Replicas

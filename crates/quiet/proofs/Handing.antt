@@ -7,21 +7,22 @@ use mathlib.Core.Option.{Option, none, some}
 use Prim.Native.Nat.{ℕ, _+_, _-_, _≤_, _<_}
 use native.Mathlib.Omega.{arith}
 use native.Mathlib.Decide.{ℕ-discrete}
-use lib.Dec.{eqb, ltb}
+use lib.Dec.{eqb}
 use lib.ListN.{length, getD, set, length-set}
 use lib.Seq.{getD-set-same, getD-set-other}
 use borrow.Author.Tests.{eqb-false, eq-eqb, le-ltb}
 use Rattle.model.specs.Measures.{majority}
 use Rattle.model.specs.Cluster.{Copy, Stored, Mark, silent, acknowledged, refused, Round, Call, Server, Body, Message, roundAt, callAt}
 use Rattle.model.specs.Replica.{Request, reading, writing, mayAccept, accepting, acknowledging}
-use Rattle.model.specs.Leader.{Reaction, noReaction, withStored, refusals, closes, fails, cease, stepDown, closed, markedBy, counted, withRound, counting, onReply, replyTo, onRequest}
+use Rattle.model.specs.Leader.{Reaction, noReaction, withStored, refusals, closes, fails, cease, closed, markedBy, counted, withRound, counting, onReply, replyTo, onRequest}
 use Rattle.model.proofs.Majorities.{majority-within}
+use Rattle.model.proofs.Replicas.{accepting-keeps, step-down-keeps}
 use Rattle.limits.specs.Lists.{All, nil}
 use Rattle.quiet.specs.Statement.{Answered}
 use Rattle.quiet.proofs.Counting.{none-refused, refusals-set}
 use Rattle.quiet.proofs.Weights.{weighs, weigh}
 use Rattle.quiet.proofs.Messages.{Followed, OursBody, Ours, Concerns, Awaited, here, later}
-use Rattle.quiet.proofs.Rounds.{Waits, waits-among, Slot, slot-more, rest, owed, Seat, Amid, accepting-keeps, closed-goes}
+use Rattle.quiet.proofs.Rounds.{Waits, waits-among, Slot, slot-more, rest, owed, Seat, Amid, closed-goes}
 
 -- ---- a mark is set
 
@@ -195,14 +196,6 @@ module _ (f : Followed) (m : Message) (ms : List Message) (report : Copy) (from 
 
 -- ---- a replica is handed a request
 
-stepDown-keeps : (s : Server) → (stepDown s .server .stored ≡ s .stored) × (stepDown s .server .stopped ≡ s .stopped)
-unfolding stepDown cease
-stepDown-keeps s = go (ltb (s .stored .number) (s .stored .vote))
-  where
-    go : (t : Bool) → let r = elim t as (λ _. Reaction) [ true ↦ cease s | false ↦ noReaction s ] in (r .server .stored ≡ s .stored) × (r .server .stopped ≡ s .stopped)
-    go true = unfold cease in (refl, refl)
-    go false = (refl, refl)
-
 -- it acknowledges, votes for the leader, and runs or not as before
 pub record Replies (m : Message) (s : Server) (r : Reaction) : Type 0 where
   pub body : Body
@@ -226,7 +219,7 @@ pub request-replies : (m : Message) (request : Request) (s : Server) → s .stor
 unfolding onRequest mayAccept
 request-replies m request s low =
     let st = accepting (m .bucket) (m .election) (m .sender) request (s .stored) in
-    let k = stepDown-keeps (withStored s st) in
+    let k = step-down-keeps (withStored s st) in
     let a = acknowledging-acks (m .bucket) request st m in
     rw (onRequest, mayAccept, le-ltb (m .election) (s .stored .vote) low)
     (record {

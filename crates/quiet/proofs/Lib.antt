@@ -7,4 +7,5 @@ pub mod Handing
 pub mod Delivering
 pub mod Lines
 pub mod Theorem
+pub mod Tested
 pub mod Least

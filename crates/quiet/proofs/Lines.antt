@@ -1,17 +1,16 @@
 -- Lines of a quiet call: what an accepted line did, when `deliver I` is accepted, and what it leaves of the call.
 use mathlib.Core.Path.{_≡_, refl, sym, ap, _∙_}
-use mathlib.Core.Logic.{_⊎_, inl, inr, _≢_}
+use mathlib.Core.Logic.{inl, inr, _≢_}
 use mathlib.Core.List.{List, [], _∷_}
 use mathlib.Core.Option.{Option, none, some}
 use mathlib.Core.Bool.{true, false}
 use Prim.Native.Nat.{ℕ, _+_, _-_, _≤_, _<_}
 use native.Mathlib.Omega.{arith}
-use lib.Dec.{leb}
 use lib.ListN.{length, getD}
 use borrow.Author.Tests.{le-leb, lt-leb}
 use Rattle.model.specs.Measures.{majority, maxServers, maxMessages, maxAccepted}
 use Rattle.model.specs.Calls.{Answer}
-use Rattle.model.specs.Cluster.{acknowledged, refused, Round, Call, Message, Cluster, freshServer}
+use Rattle.model.specs.Cluster.{acknowledged, refused, Round, Call, Cluster, freshServer}
 use Rattle.model.specs.Leader.{closes, acknowledgements}
 use Rattle.model.specs.Lines.{Line, deliver, State, printed, messageAt, stoppedAt, dropAt, firstOf, conditions, conditionsUpTo, limitReached, noMessage, work, tallied, LineResult, acceptLine, inClusterUpTo, performUpTo}
 use Rattle.model.specs.Parse.{parse}
@@ -19,7 +18,7 @@ use Rattle.model.specs.Run.{step, stepUpTo}
 use Rattle.limits.specs.Lists.{All, all-head, all-tail, all-append, all-take, all-drop, all-at}
 use Rattle.limits.specs.Refusals.{ComesOut, refused-by, founded, took, comes-out}
 use Rattle.limits.specs.Tally.{none-applies, message-there}
-use Rattle.quiet.specs.Statement.{running, deliveries, Answered}
+use Rattle.quiet.specs.Statement.{deliveries, Answered}
 use Rattle.quiet.proofs.Counting.{running-acknowledged}
 use Rattle.quiet.proofs.Weights.{weighs, weigh, length-weigh, weigh-dropAt}
 use Rattle.quiet.proofs.Messages.{Followed, Ours, awaited-at}

@@ -8,7 +8,7 @@ use native.Mathlib.Omega.{arith}
 use lib.ListN.{length, getD}
 use Rattle.model.specs.Cluster.{Body, pleaseVote, ackVote, nackVote, replicaWrite, ackWrite, nackWrite, replicaRead, ackRead, nackRead, Message}
 use Rattle.model.specs.Replica.{Request, reading, writing, requestBody}
-use Rattle.model.specs.Leader.{below, without, broadcast}
+use Rattle.model.specs.Leader.{broadcast}
 use Rattle.model.specs.Lines.{dropAt}
 use Rattle.model.proofs.Broadcasts.{each-other-in}
 use Rattle.limits.specs.Lists.{All, all-map}

@@ -15,10 +15,11 @@ use Rattle.table.specs.Form.{sameBytes}
 use Rattle.model.specs.Measures.{maxEntries}
 use Rattle.model.specs.Calls.{Words, get, setif, del, keys, Result, value, listed, done, mismatch, full, notdone, unknown, Effect, answers, writes, setting, effect}
 use Rattle.model.specs.Calls
-use Rattle.model.specs.Cluster.{above, version, Stored, copyAt, Purpose, recoveryRead, recoveryWrite, check, ownWrite, silent, acknowledged, refused, Round, Call, Server, Message, roundAt, callAt}
-use Rattle.model.specs.Replica.{voting, Request, reading, writing, requestBody, storing, accepting}
+use Rattle.model.specs.Cluster.{version, copyAt, Purpose, recoveryRead, recoveryWrite, check, ownWrite, silent, acknowledged, refused, Round, Call, Server, Message, roundAt, callAt}
+use Rattle.model.specs.Replica.{Request, reading, writing, requestBody}
 use Rattle.model.specs.Leader.{Reaction, reaction, after, broadcast, refusals, closes, oneMore, isOwn, newRound, opening, openRound, answerOf, finish, nextVersion, applying, afterRead, checking, recovering, recovered, startRead, startCall, beginCall, closed}
 use Rattle.model.proofs.FirstRound.{first-round}
+use Rattle.model.proofs.Replicas.{accepting-keeps}
 use Rattle.limits.specs.Lists.{All, nil, all-append}
 use Rattle.limits.specs.Measures.{left}
 use Rattle.quiet.specs.Statement.{Answered}
@@ -139,21 +140,6 @@ effect-proper (setif k x v) t = go (sameBytes (valueOf k t) x)
     go false = refl
 effect-proper (del k) t = setting-proper k _ t
 effect-proper (keys b) t = refl
-
--- ---- what a request stores
-
--- the vote it is made under; the server's own number stays
-pub accepting-keeps : (b v q : ℕ) (r : Request) (st : Stored) → (accepting b v q r st .number ≡ st .number) × (accepting b v q r st .vote ≡ v)
-unfolding accepting storing
-accepting-keeps b v q reading st = (refl, refl)
-accepting-keeps b v q (writing x t) st = go (above x (copyAt (voting v q st) b .version))
-  where
-    go : (a : Bool) →
-        let new : Stored = record { number = st .number; vote = v; leader = q; copies = set (st .copies) b (record { version = x; table = t }) } in
-        let y = elim a as (λ _. Stored) [ false ↦ voting v q st | true ↦ new ] in
-        (y .number ≡ st .number) × (y .vote ≡ v)
-    go true = (refl, refl)
-    go false = (refl, refl)
 
 module _ (f : Followed) where
   abbrev n : ℕ

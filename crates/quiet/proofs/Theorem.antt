@@ -2,7 +2,7 @@
 use mathlib.Core.Path.{_≡_, refl, sym, ap, _∙_, subst}
 use mathlib.Core.Logic.{_⊎_, inl, inr, _≢_}
 use mathlib.Core.List.{List, [], _∷_, _++_, append-nil, append-assoc, Memᴰ·append-left, Memᴰ·append-right}
-use mathlib.Core.Bool.{Bool, false}
+use mathlib.Core.Bool.{false}
 use mathlib.Core.Option.{Option, none, some}
 use Prim.Native.Nat.{ℕ, zero, suc, _+_, _-_, _≤_, _<_}
 use native.Mathlib.Omega.{arith}
@@ -12,7 +12,7 @@ use Rattle.model.specs.Measures.{maxServers}
 use Rattle.model.specs.Calls.{Words, bucketFor, Answer}
 use Rattle.model.specs.Cluster.{Round, Message, Cluster, freshServer, roundAt, callAt}
 use Rattle.model.specs.Leader.{Reaction, beginCall}
-use Rattle.model.specs.Lines.{call, deliver, State, initialState, Outcome, refusal, printed, serverAt, stoppedAt, conditions, conditionsUpTo, noServer, noBucketFor, work}
+use Rattle.model.specs.Lines.{call, deliver, Tally, State, initialState, Outcome, refusal, printed, serverAt, stoppedAt, conditions, conditionsUpTo, noServer, noBucketFor, work}
 use Rattle.model.specs.Text.{bytes}
 use Rattle.model.specs.Parse.{parse}
 use Rattle.model.specs.Run.{step, stateAfterUpTo, stateAfter, outcomesUpTo, outcomes}
@@ -20,7 +20,7 @@ use Rattle.model.specs.Compute.{computing}
 use Rattle.limits.specs.Lists.{All, nil, cons, all-append, all-at}
 use Rattle.limits.specs.Tally.{none-applies}
 use Rattle.limits.specs.Always.{either-false, server-there, bucket-less, Stands, Measured, within-always}
-use Rattle.quiet.specs.Statement.{serversOf, deliveries, Quiet, Needed, CallAccepted, Drains, drained, oldest, Answered, Ends, QuietCall, QuietCallOfAScript, Delivered, nothing, any, Underway, InAnyOrder, InAnyOrderOfAScript}
+use Rattle.quiet.specs.Statement.{serversOf, deliveries, Needed, Drains, drained, oldest, Answered, Ends, Shaped, QuietCall, QuietCallOfAScript, Delivered, nothing, any, Underway, InAnyOrder, InAnyOrderOfAScript}
 use Rattle.quiet.proofs.Counting.{running-set}
 use Rattle.quiet.proofs.Weights.{weigh, weigh-append}
 use Rattle.quiet.proofs.Messages.{Followed, Ours}
@@ -156,13 +156,11 @@ quiet-call-in-any-order s c is h p needed l out x k more t d =
     let y = accepted-line s c l (call p (x .words)) out is (x .reads) (x .accepted) in
     let (no-server, no-bucket, runs) = taken-call c p (x .words) (none-applies (conditions c (call p (x .words))) (y .free)) in
     let there = server-there c p no-server in
-    let server = all-at p (freshServer 0 0) there (h .within .servers) .frame in
-    let bucket = bucket-less c (x .words) (omega (arith, h .within .buckets, h .someBuckets)) no-bucket in
-    let few : serversOf c ≤ maxServers = omega (arith, h .within .size, h .fewServers) in
-    let rounds : bucketFor (c .buckets) (x .words) < length (serverAt c p .volatile .rounds) = omega (arith, server .rounds, h .within .buckets) in
-    let calls : bucketFor (c .buckets) (x .words) < length (serverAt c p .volatile .calls) = omega (arith, server .calls, h .within .buckets) in
+    let bucket = bucket-less c (x .words) (h .some-buckets) no-bucket in
+    let rounds : bucketFor (c .buckets) (x .words) < length (serverAt c p .volatile .rounds) = omega (arith, bucket, h .rounds p there) in
+    let calls : bucketFor (c .buckets) (x .words) < length (serverAt c p .volatile .calls) = omega (arith, bucket, h .calls p there) in
     subst (λ a. Underway (serversOf c) (c .calls + 1) k (a ++ more) t) (y .answers)
-    (call-underway c p (x .words) few needed there runs rounds calls (step s l .state) (y .cluster) k more t d)
+    (call-underway c p (x .words) (h .few-servers) needed there runs rounds calls (step s l .state) (y .cluster) k more t d)
 
 -- ---- the oldest message each time
 
@@ -230,7 +228,7 @@ module _ (n i : ℕ) (out : List Answer) (s : State) (orders : (k : ℕ) (more :
       go [] e on = stop-here k more t d e
       go (m ∷ ms) e on = go-on k more t d m ms e (λ o d2. on (suc k) (more ++ o) (after-one t) d2 (omega arith))
 
-  pub ends-by-orders : Ends n i out s
+  ends-by-orders : Ends n i out s
   ends-by-orders =
       let r = drain (deliveries n) 0 [] s nothing (omega arith) in
       record { count = r .count; few = omega (arith, r .few); more = r .rest; last = r .last; drains = r .drains; answered = r .answered }
@@ -244,15 +242,26 @@ stronger h s c is stands p quiet l out x =
 pub quiet-call : QuietCall
 quiet-call = stronger quiet-call-in-any-order
 
--- every state that a script reaches is within the measures
-reached-stands : (ls : List (List ℕ)) (c : Cluster) → stateAfter initialState ls .cluster ≡ some c → Stands c (stateAfter initialState ls .tally)
-reached-stands ls c is = subst (λ o. Measured o (stateAfter initialState ls .tally)) is (within-always ls)
+-- clusters within the measures have that shape
+pub stands-shaped : {c : Cluster} {t : Tally} → Stands c t → Shaped c
+stands-shaped h =
+    let w = h .within in
+    record {
+      few-servers = omega (arith, w .size, h .fewServers);
+      some-buckets = omega (arith, w .buckets, h .someBuckets);
+      rounds = λ q k. all-at q (freshServer 0 0) k (w .servers) .frame .rounds ∙ sym (w .buckets);
+      calls = λ q k. all-at q (freshServer 0 0) k (w .servers) .frame .calls ∙ sym (w .buckets);
+    }
+
+-- and so have all that a script reaches
+reached-shaped : (ls : List (List ℕ)) (c : Cluster) → stateAfter initialState ls .cluster ≡ some c → Shaped c
+reached-shaped ls c is = stands-shaped (subst (λ o. Measured o (stateAfter initialState ls .tally)) is (within-always ls))
 
 pub quiet-call-of-a-script : QuietCallOfAScript
-quiet-call-of-a-script ls c is = quiet-call (stateAfter initialState ls) c is (reached-stands ls c is)
+quiet-call-of-a-script ls c is = quiet-call (stateAfter initialState ls) c is (reached-shaped ls c is)
 
-pub in-any-order-of-a-script : InAnyOrderOfAScript
-in-any-order-of-a-script ls c is = quiet-call-in-any-order (stateAfter initialState ls) c is (reached-stands ls c is)
+pub quiet-call-in-any-order-of-a-script : InAnyOrderOfAScript
+quiet-call-in-any-order-of-a-script ls c is = quiet-call-in-any-order (stateAfter initialState ls) c is (reached-shaped ls c is)
 
 -- ---- 'until the list is empty' says how often
 

@@ -1,3 +1,4 @@
 -- How long a quiet call takes: the claim, and short scripts.
 pub mod Statement
+pub mod Tests
 pub mod Example

@@ -1,9 +1,9 @@
--- How long a quiet call takes (document 02, Change 4). This file is the whole statement: four claims and the terms they need.
--- `QuietCall` is document 02's, about any state within document 01's measures, and `QuietCallOfAScript` the same about the states
--- that scripts reach; `InAnyOrder` and `InAnyOrderOfAScript` are stronger. `Least` says that no smaller figure will do. Theorems:
--- `quiet-call`, `quiet-call-of-a-script`, `quiet-call-in-any-order`, `in-any-order-of-a-script` in proofs/Theorem.antt, `least` in
--- proofs/Least.antt. Of the rules of the bench only two functions are used: `parse`, which reads a line, and `step`, which runs
--- it; a line is any list of bytes.
+-- How long a quiet call takes (document 02, Change 4). This file is the whole statement: five claims and the terms they need.
+-- `QuietCall` is document 02's, and `QuietCallOfAScript` the same about the states that scripts reach; `InAnyOrder` and
+-- `InAnyOrderOfAScript` are stronger; `NoSmaller` says that no smaller figure will do. Theorems: `quiet-call`,
+-- `quiet-call-of-a-script`, `quiet-call-in-any-order`, `quiet-call-in-any-order-of-a-script` in proofs/Theorem.antt, `least` in
+-- proofs/Least.antt. Of the rules of the bench the claims use `majority`, `parse`, which reads a line, and `step`, which runs it
+-- (`stateAfter` is `step` line after line); the rest are fields of a cluster. A line is any list of bytes.
 use mathlib.Core.Path.{_≡_}
 use mathlib.Core.Logic.{_≢_}
 use mathlib.Core.List.{List, [], _∷_, _++_, List·Memᴰ}
@@ -11,14 +11,13 @@ use mathlib.Core.Bool.{true, false}
 use mathlib.Core.Option.{none, some}
 use Prim.Native.Nat.{ℕ, suc, _+_, _-_, _*_, _≤_, _<_}
 use lib.ListN.{length}
-use Rattle.model.specs.Measures.{majority, maxAccepted}
-use Rattle.model.specs.Calls.{Words, Result, notdone, unknown, Answer}
+use Rattle.model.specs.Measures.{majority, maxServers, maxAccepted}
+use Rattle.model.specs.Calls.{Words, notdone, unknown, Answer}
 use Rattle.model.specs.Cluster.{leading, Server, Cluster, callAt}
 use Rattle.model.specs.Lines.{State, initialState, printed, call, deliver, serverAt, stoppedAt}
 use Rattle.model.specs.Text.{bytes}
 use Rattle.model.specs.Parse.{parse}
 use Rattle.model.specs.Run.{step, stateAfter}
-use Rattle.limits.specs.Always.{Stands}
 
 -- ---- the hypotheses, about a cluster c and its server p
 
@@ -33,6 +32,14 @@ running (s ∷ l) = elim (s .stopped) [ true ↦ running l | false ↦ suc (runn
 -- the figure: the most deliveries that a quiet call takes among n servers
 abbrev pub deliveries : ℕ → ℕ
 deliveries n = 8 * (n - 1)
+
+-- what document 01's measures give every cluster: at most 7 servers, each with a place for the round and for the call of each
+-- bucket
+pub record Shaped (c : Cluster) : Type 0 where
+  pub few-servers : serversOf c ≤ maxServers
+  pub some-buckets : 1 ≤ c .buckets
+  pub rounds : (q : ℕ) → q < serversOf c → length (serverAt c q .volatile .rounds) ≡ c .buckets
+  pub calls : (q : ℕ) → q < serversOf c → length (serverAt c q .volatile .calls) ≡ c .buckets
 
 -- p's number is no lower than any running server's vote
 abbrev pub Highest : Cluster → ℕ → Type 0
@@ -84,7 +91,8 @@ pub data Drains : ℕ → State → List Answer → State → Type 0 where
       step s (bytes "deliver 0") .outcome ≡ printed out → Drains k (step s (bytes "deliver 0") .state) more t →
       Drains (suc k) s (out ++ more) t
 
--- call i has a result other than `notdone` and `unknown` among the answers
+-- call i has a result other than `notdone` and `unknown` among the answers. It has no other: in a script each call is answered at
+-- most once (`answered-once` in crates/consistency/specs/Named.antt)
 pub record Answered (i : ℕ) (out : List Answer) : Type 0 where
   pub answer : Answer
   pub among : List·Memᴰ answer out
@@ -103,10 +111,10 @@ pub record Ends (n i : ℕ) (out : List Answer) (s : State) : Type 0 where
 
 -- ---- the claim
 
--- in any state within document 01's measures; `c .calls + 1` is the number that the call gets
+-- in any state whose cluster has that shape, reached by a script or not; `c .calls + 1` is the number that the call gets
 abbrev pub QuietCall : Type 0
 QuietCall =
-    (s : State) (c : Cluster) → s .cluster ≡ some c → Stands c (s .tally) → (p : ℕ) → Quiet c p →
+    (s : State) (c : Cluster) → s .cluster ≡ some c → Shaped c → (p : ℕ) → Quiet c p →
     (l : List ℕ) (out : List Answer) → CallAccepted s p l out → Ends (serversOf c) (c .calls + 1) out (step s l .state)
 
 -- after any lines `ls` of a script
@@ -135,9 +143,10 @@ pub record Underway (n i k : ℕ) (out : List Answer) (s : State) : Type 0 where
       (more : List Answer) × (step s l .outcome ≡ printed more)
   pub answered : NoneInFlight cluster → Answered i out
 
+-- an open call may have any number here; those that a script opened have lower ones
 abbrev pub InAnyOrder : Type 0
 InAnyOrder =
-    (s : State) (c : Cluster) → s .cluster ≡ some c → Stands c (s .tally) → (p : ℕ) → Needed c p →
+    (s : State) (c : Cluster) → s .cluster ≡ some c → Shaped c → (p : ℕ) → Needed c p →
     (l : List ℕ) (out : List Answer) → CallAccepted s p l out →
     (k : ℕ) (more : List Answer) (t : State) → Delivered k (step s l .state) more t →
     Underway (serversOf c) (c .calls + 1) k (out ++ more) t
@@ -152,7 +161,7 @@ InAnyOrderOfAScript =
 
 -- ---- no smaller figure
 
--- a script of n servers after which a quiet call takes all these deliveries
+-- a script of n servers after which a quiet call takes all these deliveries; how many it takes is determined (`drains-once`)
 pub record Least (n : ℕ) : Type 0 where
   pub script : List (List ℕ)
   pub cluster : Cluster
@@ -166,3 +175,7 @@ pub record Least (n : ℕ) : Type 0 where
   pub more : List Answer
   pub last : State
   pub drains : Drains (deliveries n) (step (stateAfter initialState script) line .state) more last
+
+-- for every size of a cluster
+abbrev pub NoSmaller : Type 0
+NoSmaller = (n : ℕ) → 1 ≤ n → n ≤ maxServers → Least n

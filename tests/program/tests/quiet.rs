@@ -4,7 +4,7 @@
 use program::compare::{check, expected};
 use program::process::{bench, run};
 use reference::cluster::SERVERS;
-use reference::quiet::{most_deliveries, Conditions, State};
+use reference::quiet::{after, most_deliveries, Conditions, State};
 use reference::script::MOST_ACCEPTED;
 use std::collections::BTreeMap;
 
@@ -47,35 +47,33 @@ fn every_size_has_a_call_that_takes_them_all() {
 
 /// The result that call `number` has among what was printed.
 fn result(out: &str, number: u32) -> Option<&str> {
-    let answers = out.lines().map(|line| line.split(' '));
-    answers
-        .filter_map(|mut words| (words.next()? == number.to_string()).then(|| words.next())?)
-        .next()
+    out.lines().find_map(|line| {
+        let (first, rest) = line.split_once(' ')?;
+        let found = first == number.to_string();
+        found.then(|| rest.split(' ').next())?
+    })
 }
 
 #[test]
 fn random_quiet_calls() {
     let mut results = BTreeMap::new();
-    for seed in 0..300 {
-        let Some(state) = State::of_seed(seed, |found| *found == Conditions::ALL) else {
-            continue;
-        };
+    for (at, state) in (0..800).filter_map(State::quiet).enumerate() {
         let calls = state.calls();
-        let call = &calls[seed as usize % calls.len()];
-        let mut script = State::after(&state.text);
+        let call = &calls[at % calls.len()];
+        let mut script = after(&state.text);
         if !script.line(call.as_bytes(), &mut Vec::new()) {
             continue;
         }
         let number = script.cluster().expect("it made a call").calls();
         let text = probed(&state.text, call, state.size);
-        let out = printed(&format!("seed {seed}"), &text);
-        assert!(out.contains(&list_empty(&text)), "seed {seed}");
+        let out = printed(&format!("state {at}"), &text);
+        assert!(out.contains(&list_empty(&text)), "state {at}");
         let word = result(&out, number).expect("it has a result");
         *results.entry(word.to_string()).or_insert(0) += 1;
     }
     let words = ["done", "full", "keys", "mismatch", "value"];
     assert!(results.keys().eq(words), "{results:?}");
-    assert!(results.values().sum::<usize>() > 200, "{results:?}");
+    assert!(results.values().sum::<usize>() > 600, "{results:?}");
 }
 
 /// A script of two servers whose leader has made gets on one bucket, none on
@@ -108,7 +106,7 @@ fn one_line_fewer_is_too_few() {
     ];
     for (left, last) in cases {
         let text = leaving(left);
-        let found = Conditions::of(&State::after(&text), 0).expect("a cluster");
+        let found = Conditions::of(&after(&text), 0).expect("a cluster");
         assert_eq!(found.lines_left, left == needed);
         assert_eq!(
             Conditions {

@@ -49,7 +49,7 @@ impl Conditions {
         })
     }
 
-    /// The same, whether calls are open or not.
+    /// The same, as if no call were open.
     pub fn but_for_open_calls(self) -> Self {
         Conditions {
             no_call_open: true,
@@ -58,35 +58,49 @@ impl Conditions {
     }
 }
 
+/// A bench that has run these lines.
+pub fn after(text: &[u8]) -> Script {
+    let mut script = Script::new();
+    script.feed(text, &mut Vec::new());
+    script
+}
+
 /// A random state, with a server that calls can be made at.
 pub struct State {
     /// The lines that lead to it.
     pub text: Vec<u8>,
     pub size: usize,
     pub leader: usize,
+    pub conditions: Conditions,
 }
 
 impl State {
-    /// The state that the script of this seed ends in, if its conditions are
-    /// as asked for.
-    pub fn of_seed(seed: u64, asked: impl Fn(&Conditions) -> bool) -> Option<Self> {
-        let text = generate(Kind::Settled, seed, 100 * (seed as usize % 4));
-        let script = Self::after(&text);
-        let cluster = script.cluster()?;
-        let fits = |&server: &usize| {
-            let found = Conditions::of(&script, server);
-            !cluster.server(server).stopped && found.is_some_and(|found| asked(&found))
-        };
-        let size = cluster.size();
-        let leader = (0..size).find(fits)?;
-        Some(State { text, size, leader })
+    /// The state that the script of this seed ends in, if it is quiet at one of
+    /// its servers.
+    pub fn quiet(seed: u64) -> Option<Self> {
+        Self::where_asked(seed, |found| found == Conditions::ALL)
     }
 
-    /// A bench that has run these lines.
-    pub fn after(text: &[u8]) -> Script {
-        let mut script = Script::new();
-        script.feed(text, &mut Vec::new());
-        script
+    /// The same, whether calls are open or not.
+    pub fn quiet_but_for_open_calls(seed: u64) -> Option<Self> {
+        Self::where_asked(seed, |found| found.but_for_open_calls() == Conditions::ALL)
+    }
+
+    fn where_asked(seed: u64, asked: impl Fn(Conditions) -> bool) -> Option<Self> {
+        let text = generate(Kind::Settled, seed, 100 * (seed as usize % 4));
+        let script = after(&text);
+        let cluster = script.cluster()?;
+        let size = cluster.size();
+        (0..size).find_map(|leader| {
+            let conditions = Conditions::of(&script, leader)?;
+            let fits = !cluster.server(leader).stopped && asked(conditions);
+            fits.then(|| State {
+                text: text.clone(),
+                size,
+                leader,
+                conditions,
+            })
+        })
     }
 
     /// The calls of its script, made anew at its leader, and one for scripts

@@ -5,8 +5,8 @@
 mod common;
 
 use common::Bench;
-use reference::cluster::SERVERS;
-use reference::quiet::{most_deliveries, Conditions, State};
+use reference::cluster::{majority, SERVERS};
+use reference::quiet::{after, most_deliveries, Conditions, State};
 use reference::scripts::Random;
 use std::collections::BTreeSet;
 
@@ -21,7 +21,7 @@ struct Ended {
 /// Makes a call and then delivers the message at the place that `choose` gives
 /// from their number, until there is none; `None` where the call is refused.
 fn ended(state: &State, call: &str, mut choose: impl FnMut(usize) -> usize) -> Option<Ended> {
-    let mut script = State::after(&state.text);
+    let mut script = after(&state.text);
     let number = script.cluster()?.calls() + 1;
     let mut out = Vec::new();
     if !script.line(call.as_bytes(), &mut out) {
@@ -33,7 +33,7 @@ fn ended(state: &State, call: &str, mut choose: impl FnMut(usize) -> usize) -> O
         assert!(script.line(line.as_bytes(), &mut out), "{call}: {line}");
         deliveries += 1;
     }
-    // Calls of a former leader may end as well, where some were open.
+    // Calls of a deposed leader end as well, where some were open.
     let out = String::from_utf8(out).unwrap();
     let own = format!("{number} ");
     let answers: Vec<&str> = out.lines().filter(|line| line.starts_with(&own)).collect();
@@ -51,11 +51,25 @@ struct Met {
     calls: [usize; SERVERS + 1],
     most: [usize; SERVERS + 1],
     results: BTreeSet<String>,
+    /// States in which no more than a majority runs, and in which a server has
+    /// stopped that voted above the leader's number.
+    bare: usize,
+    stopped_above: usize,
 }
 
 impl Met {
-    fn add(&mut self, state: &State, ended: Ended) {
-        let size = state.size;
+    fn state(&mut self, state: &State) {
+        let script = after(&state.text);
+        let cluster = script.cluster().unwrap();
+        let servers = || (0..state.size).map(|s| cluster.server(s));
+        let running = servers().filter(|server| !server.stopped).count();
+        let number = cluster.server(state.leader).number;
+        let above = servers().any(|server| server.stopped && server.vote > number);
+        self.bare += usize::from(state.size > 2 && running as u32 == majority(state.size));
+        self.stopped_above += usize::from(above);
+    }
+
+    fn call(&mut self, size: usize, ended: Ended) {
         self.calls[size] += 1;
         self.most[size] = self.most[size].max(ended.deliveries);
         self.results.insert(ended.result);
@@ -70,6 +84,8 @@ impl Met {
         }
         let expected = ["done", "full", "keys", "mismatch", "value"];
         assert!(self.results.iter().eq(expected), "{:?}", self.results);
+        let (bare, above) = (self.bare, self.stopped_above);
+        assert!(bare > 100 && above > 100, "{bare}, {above}");
     }
 }
 
@@ -78,14 +94,12 @@ const SEEDS: u64 = 2000;
 #[test]
 fn a_quiet_call_takes_at_most_the_figure() {
     let mut met = Met::default();
-    for seed in 0..SEEDS {
-        let Some(state) = State::of_seed(seed, |found| *found == Conditions::ALL) else {
-            continue;
-        };
+    for state in (0..SEEDS).filter_map(State::quiet) {
+        met.state(&state);
         for call in state.calls() {
             if let Some(ended) = ended(&state, &call, |_| 0) {
                 assert_eq!(ended.others, 0);
-                met.add(&state, ended);
+                met.call(state.size, ended);
             }
         }
     }
@@ -96,18 +110,14 @@ fn a_quiet_call_takes_at_most_the_figure() {
 fn so_it_does_in_any_order_and_beside_open_calls() {
     let mut met = Met::default();
     let (mut open, mut others) = (0, 0);
-    for seed in 0..SEEDS {
-        let asked = |found: &Conditions| found.but_for_open_calls() == Conditions::ALL;
-        let Some(state) = State::of_seed(seed, asked) else {
-            continue;
-        };
-        let found = Conditions::of(&State::after(&state.text), state.leader);
-        let mut random = Random::new(seed);
+    let mut random = Random::new(1);
+    for state in (0..SEEDS).filter_map(State::quiet_but_for_open_calls) {
+        met.state(&state);
         for call in state.calls() {
             if let Some(ended) = ended(&state, &call, |count| random.below(count)) {
-                open += usize::from(found != Some(Conditions::ALL));
+                open += usize::from(!state.conditions.no_call_open);
                 others += ended.others;
-                met.add(&state, ended);
+                met.call(state.size, ended);
             }
         }
     }
@@ -161,16 +171,41 @@ fn a_stopped_server_may_have_voted_higher() {
 
 #[test]
 fn with_higher_votes_a_call_may_end_as_notdone_or_unknown() {
-    let mut bench = led(3);
-    bench.quiet(&["elect 1", "elect 2"]);
-    bench.lose_all();
     let failed = Conditions {
         number_no_lower_than_a_vote: false,
         ..Conditions::ALL
     };
-    assert_eq!(bench.conditions(0), failed);
-    bench.quiet(&["get 0 61", "deliver 0", "deliver 0", "deliver 0"]);
-    assert_eq!(bench.line("deliver 0"), "1 notdone 1");
+    // A check is refused, and on a recovered bucket a write.
+    for (recovers, call, answer) in [
+        ("", "get 0 61", "1 notdone 1"),
+        ("get 0 61", "set 0 61 01", "2 unknown 1"),
+    ] {
+        let mut bench = led(3);
+        if !recovers.is_empty() {
+            bench.quiet(&[recovers]);
+            let out: String = (0..12).map(|_| bench.line("deliver 0")).collect();
+            assert_eq!(out, "1 value 3 -");
+        }
+        bench.quiet(&["elect 1", "elect 2"]);
+        bench.lose_all();
+        assert_eq!(bench.conditions(0), failed);
+        bench.quiet(&[call, "deliver 0", "deliver 0", "deliver 0"]);
+        assert_eq!(bench.line("deliver 0"), answer);
+    }
+}
+
+#[test]
+fn a_call_stays_open_at_a_stopped_server() {
+    let mut bench = led(3);
+    bench.quiet(&["get 0 61", "stop 0"]);
+    bench.lose_all();
+    bench.elect(1, &[2]);
+    bench.lose_all();
+    let failed = Conditions {
+        no_call_open: false,
+        ..Conditions::ALL
+    };
+    assert_eq!(bench.conditions(1), failed);
 }
 
 #[test]

@@ -3,6 +3,7 @@
 //! where a majority of them runs. So most of them end in a quiet state.
 
 use super::maker::Maker;
+use crate::cluster::majority;
 use crate::quiet::Conditions;
 
 impl Maker {
@@ -18,6 +19,7 @@ impl Maker {
         }
         self.rough_part();
         self.settle();
+        self.stop_some();
     }
 
     fn rough_part(&mut self) {
@@ -40,6 +42,27 @@ impl Maker {
                 self.add(format!("elect {winner}"));
                 self.empty_list(0);
             }
+        }
+    }
+
+    /// Stops servers other than the leader, as long as a majority is left. Some
+    /// of them vote higher before, and nobody hears of it.
+    fn stop_some(&mut self) {
+        let Some(leader) = self.settled_leader() else {
+            return;
+        };
+        while self.random.chance(500) {
+            let others = self.servers(|_| true).into_iter();
+            let others: Vec<usize> = others.filter(|&server| server != leader).collect();
+            if (others.len() as u32) < majority(self.cluster().size()) {
+                return;
+            }
+            let server = *self.random.pick(&others);
+            if self.random.chance(300) {
+                self.add(format!("elect {server}"));
+                self.empty_list(1000);
+            }
+            self.add(format!("stop {server}"));
         }
     }
 
