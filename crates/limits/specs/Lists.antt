@@ -1,6 +1,6 @@
 -- `All P l`: P of every element of a list, and of the lists that are made of it; and a map over equal elements.
-use mathlib.Core.Path.{_≡_, refl, ap}
-use mathlib.Core.List.{List, [], _∷_, _++_, map}
+use mathlib.Core.Path.{_≡_, refl, ap, subst⁻¹}
+use mathlib.Core.List.{List, [], _∷_, _++_, map, List·Memᴰ, List·Memᴰ·head, List·Memᴰ·tail}
 use Prim.Native.Nat.{ℕ, zero, suc, _<_}
 use native.Mathlib.Nat.{le-of-suc-le-suc, not-suc-le-zero}
 use lib.ListN.{length, getD, set, take, drop, replicate}
@@ -43,6 +43,10 @@ module _ {A : Type 0} {P : A → Type 0} where
   all-at i d k nil = absurd (not-suc-le-zero k)
   all-at zero d k (cons p h) = p
   all-at (suc i) d k (cons p h) = all-at i d (le-of-suc-le-suc k) h
+
+  pub all-in : {x : A} {l : List A} → List·Memᴰ x l → All P l → P x
+  all-in (List·Memᴰ·head e) (cons p h) = subst⁻¹ P e p
+  all-in (List·Memᴰ·tail m) (cons p h) = all-in m h
 
   pub all-replicate : (n : ℕ) (a : A) → P a → All P (replicate n a)
   all-replicate zero a p = nil

@@ -35,12 +35,12 @@ role-elected leading number x h = h
 
 -- ---- broadcasts
 
-pub below-less : (n : ℕ) → All (λ q. q < n) (below n)
+below-less : (n : ℕ) → All (λ q. q < n) (below n)
 unfolding below
 below-less zero = nil
 below-less (suc n) = all-append (all-imply (λ q h. omega arith) (below-less n)) (cons {x = n} (omega arith) nil)
 
-pub without-apart : {P : ℕ → Type 0} (me : ℕ) {l : List ℕ} → All P l → All (λ q. P q × (me ≢ q)) (without me l)
+without-apart : {P : ℕ → Type 0} (me : ℕ) {l : List ℕ} → All P l → All (λ q. P q × (me ≢ q)) (without me l)
 unfolding without
 without-apart me nil = nil
 without-apart {P} me (cons {x = q} {l = l} p h) = go (eqb q me) refl (without-apart me h)
@@ -49,13 +49,19 @@ without-apart {P} me (cons {x = q} {l = l} p h) = go (eqb q me) refl (without-ap
     go true e k = rw (without, e) k
     go false e k = rw (without, e) (cons (p, λ s. eqb-false q me e (sym s)) k)
 
+-- what holds of the message to each other server holds of every message of the broadcast
+pub all-broadcast : {P : Message → Type 0} (n me i e k : ℕ) (body : Body) →
+    ((q : ℕ) → q < n → me ≢ q → P (record { sender = me; receiver = q; bucket = i; election = e; round = k; body = body })) →
+    All P (broadcast n me i e k body)
+unfolding broadcast
+all-broadcast n me i e k body h = all-map _ (λ q d. h q (d .0) (d .1)) (without-apart me (below-less n))
+
 module _ (n b : ℕ) (l : Limits) where
   broadcast-within : (me i e k : ℕ) (body : Body) → me < n → i < b → 1 ≤ e → e ≤ l .elections →
       ((q : ℕ) → BodyWithin l (record { sender = me; receiver = q; bucket = i; election = e; round = k; body = body }) body) →
       All (MessageWithin n b l) (broadcast n me i e k body)
-  unfolding broadcast
   broadcast-within me i e k body h j low high w =
-      all-map _ (λ q d. record { sender = h; receiver = d .0; apart = d .1; bucket = j; elected = low; election = high; body = w q }) (without-apart me (below-less n))
+      all-broadcast n me i e k body (λ q there apart. record { sender = h; receiver = there; apart = apart; bucket = j; elected = low; election = high; body = w q })
 
   -- ---- what a server stores
 

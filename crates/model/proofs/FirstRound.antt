@@ -1,5 +1,5 @@
 -- Laws of a call's first round. On a recovered bucket a call that writes opens its own write at once, and one that does not opens the
--- checking round; on any other bucket every call reads. The proofs of `limits` and `consistency` go by `first-round`.
+-- checking round; on any other bucket every call reads. The proofs of `limits`, `consistency` and `quiet` go by `first-round`.
 use mathlib.Core.Path.{_≡_, refl, ap, _∙_}
 use mathlib.Core.List.{List}
 use mathlib.Core.Bool.{Bool, true, false}

@@ -19,16 +19,16 @@ use Rattle.quiet.specs.Statement.{running, Answered}
 use Rattle.quiet.proofs.Counting.{running-set}
 use Rattle.quiet.proofs.Weights.{weighs, weigh, weigh-append, weighs-some}
 use Rattle.quiet.proofs.Messages.{Followed, OursBody, Ours, Concerns, Awaited, here, later, awaited-left, awaited-right}
-use Rattle.quiet.proofs.Rounds.{Slot, slot-among, rest, owed, Seat}
+use Rattle.quiet.proofs.Rounds.{Slot, slot-among, rest, owed, IsLeader}
 use Rattle.quiet.proofs.Handing.{Moves, on-reply-moves, Replies, request-replies}
 
--- the call is open or over, all messages are its own, and no server that runs has voted higher than its leader
+-- the call is open or over, all messages are its own, and no other running server's vote is above the leader's number
 pub record Going (f : Followed) (c : Cluster) : Type 0 where
   pub size : length (c .servers) ≡ f .servers
   pub flags : (q : ℕ) → stoppedAt c q ≡ f .stops q
   pub votes : (q : ℕ) → q < f .servers → q ≢ f .leader → f .stops q ≡ false → serverAt c q .stored .vote ≤ f .election
   pub most : majority (f .servers) ≤ running (c .servers)
-  pub seat : Seat f (serverAt c (f .leader))
+  pub is-leader : IsLeader f (serverAt c (f .leader))
   pub round : Option Round
   pub call : Option Call
   pub round-is : roundAt (serverAt c (f .leader) .volatile) (f .bucket) ≡ round
@@ -96,7 +96,7 @@ module _ (f : Followed) (c : Cluster) (g : Going f c) (m : Message) (ms : List M
               flags = g .flags;
               votes = g .votes;
               most = g .most;
-              seat = g .seat;
+              is-leader = g .is-leader;
               round = g .round;
               call = g .call;
               round-is = g .round-is;
@@ -150,7 +150,7 @@ module _ (f : Followed) (c : Cluster) (g : Going f c) (m : Message) (ms : List M
                 flags = λ q. flags-set (c .servers) x new there d (r .stopped) q ∙ g .flags q;
                 votes = votes-after;
                 most = rw (running-set (c .servers) x new d (r .stopped)) (g .most);
-                seat = rw same (g .seat);
+                is-leader = rw same (g .is-leader);
                 round = g .round;
                 call = g .call;
                 round-is = ap (λ y. roundAt (y .volatile) (f .bucket)) same ∙ g .round-is;
@@ -169,7 +169,7 @@ module _ (f : Followed) (c : Cluster) (g : Going f c) (m : Message) (ms : List M
       Onward f c (g .round) most (deliveredTo c m ms 0 (onReply (f .servers) (m .receiver) m acknowledged report (serverAt c (m .receiver))))
   unfolding weigh onReply
   told-onward report to from light tells =
-      rw to (told (on-reply-moves f m ms report from tells (serverAt c (f .leader)) (g .seat) (g .round) (g .call) (g .round-is) (g .call-is) slot o))
+      rw to (told (on-reply-moves f m ms report from tells (serverAt c (f .leader)) (g .is-leader) (g .round) (g .call) (g .round-is) (g .call-is) slot o))
     where
       told : {r : Reaction} → Moves f ms (g .round) r →
           Onward f c (g .round) most (record { cluster = afterStep c (f .leader) ms (c .calls) r; sent = length (r .sends); copied = 0; delivered = 1; lost = 0; answers = r .answers })
@@ -178,7 +178,7 @@ module _ (f : Followed) (c : Cluster) (g : Going f c) (m : Message) (ms : List M
           let p = f .leader in
           let there : p < length (c .servers) = omega (arith, g .size, f .inside) in
           let same : getD (set (c .servers) p (r .server)) p d ≡ r .server = getD-set-same (c .servers) p (r .server) d there in
-          let as-before : r .server .stopped ≡ serverAt c p .stopped = v .seat .stopped ∙ sym (g .flags p) in
+          let as-before : r .server .stopped ≡ serverAt c p .stopped = v .is-leader .stopped ∙ sym (g .flags p) in
           record {
             going =
                 record {
@@ -186,7 +186,7 @@ module _ (f : Followed) (c : Cluster) (g : Going f c) (m : Message) (ms : List M
                   flags = λ q. flags-set (c .servers) p (r .server) there d as-before q ∙ g .flags q;
                   votes = λ q h k runs. rw (getD-set-other (c .servers) p q (r .server) d k) (g .votes q h k runs);
                   most = rw (running-set (c .servers) p (r .server) d as-before) (g .most);
-                  seat = rw same (v .seat);
+                  is-leader = rw same (v .is-leader);
                   round = v .round;
                   call = v .call;
                   round-is = ap (λ y. roundAt (y .volatile) (f .bucket)) same ∙ v .round-is;

@@ -22,7 +22,7 @@ use Rattle.quiet.specs.Statement.{Answered}
 use Rattle.quiet.proofs.Counting.{none-refused, refusals-set}
 use Rattle.quiet.proofs.Weights.{weighs, weigh}
 use Rattle.quiet.proofs.Messages.{Followed, OursBody, Ours, Concerns, Awaited, here, later}
-use Rattle.quiet.proofs.Rounds.{Waits, waits-among, Slot, slot-more, rest, owed, Seat, Amid, closed-goes}
+use Rattle.quiet.proofs.Rounds.{Waits, waits-among, Slot, slot-more, rest, owed, IsLeader, Amid, closed-goes}
 
 -- ---- a mark is set
 
@@ -54,7 +54,7 @@ marked q marks h e = go (getD marks q refused) refl
 
 -- a step of the leader whose round was `before`, with the messages ms still in flight
 pub record Moves (f : Followed) (ms : List Message) (before : Option Round) (r : Reaction) : Type 0 where
-  pub seat : Seat f (r .server)
+  pub is-leader : IsLeader f (r .server)
   pub round : Option Round
   pub call : Option Call
   pub round-is : roundAt (r .server .volatile) (f .bucket) ≡ round
@@ -66,7 +66,7 @@ pub record Moves (f : Followed) (ms : List Message) (before : Option Round) (r :
 
 -- m is the acknowledgement of server `m .sender`, with what it reports, and s the leader
 module _ (f : Followed) (m : Message) (ms : List Message) (report : Copy) (from : m .sender < f .servers) (tells : (q : ℕ) → Concerns q m (m .body) → m .sender ≡ q)
-    (s : Server) (seat : Seat f s) where
+    (s : Server) (is-leader : IsLeader f s) where
   abbrev now : Round → Round
   now r = counted (m .sender) acknowledged report r
 
@@ -76,7 +76,7 @@ module _ (f : Followed) (m : Message) (ms : List Message) (report : Copy) (from 
   unfolding weigh
   still ro co ri ci slot =
       record {
-        seat = seat;
+        is-leader = is-leader;
         round = ro;
         call = co;
         round-is = ri;
@@ -101,7 +101,7 @@ module _ (f : Followed) (m : Message) (ms : List Message) (report : Copy) (from 
     now-amid : Amid f (withRound s (f .bucket) (now r))
     now-amid =
         record {
-          seat = record { number = seat .number; stopped = seat .stopped; rounds = rw length-set (seat .rounds); calls = seat .calls };
+          is-leader = record { number = is-leader .number; stopped = is-leader .stopped; rounds = rw length-set (is-leader .rounds); calls = is-leader .calls };
           call = c;
           there = call-is;
           number = mine;
@@ -141,7 +141,7 @@ module _ (f : Followed) (m : Message) (ms : List Message) (report : Copy) (from 
         go true shut =
             let g = closed-goes f (now r) now-amid in
             record {
-              seat = g .seat;
+              is-leader = g .is-leader;
               round = g .round;
               call = g .call;
               round-is = g .round-is;
@@ -154,10 +154,10 @@ module _ (f : Followed) (m : Message) (ms : List Message) (report : Copy) (from 
         go false shut =
             rw does-not-fail
             (record {
-              seat = now-amid .seat;
+              is-leader = now-amid .is-leader;
               round = some (now r);
               call = some c;
-              round-is = getD-set-same (s .volatile .rounds) (f .bucket) (some (now r)) none (seat .rounds);
+              round-is = getD-set-same (s .volatile .rounds) (f .bucket) (some (now r)) none (is-leader .rounds);
               call-is = call-is;
               ours = nil;
               slot = rw (append-nil ms) (mine, still-waits shut);

@@ -5,7 +5,7 @@ use mathlib.Core.Logic.{_≢_}
 use mathlib.Core.List.{List, [], _∷_, _++_}
 use mathlib.Core.Bool.{Bool, true, false, not}
 use mathlib.Core.Option.{Option, none, some}
-use Prim.Native.Nat.{ℕ, zero, suc, _+_, _-_, _*_}
+use Prim.Native.Nat.{ℕ, zero, suc, _-_, _*_}
 use native.Mathlib.Omega.{arith}
 use lib.Dec.{eqb, leb}
 use lib.ListN.{length, replicate}
@@ -15,6 +15,7 @@ use Rattle.model.specs.Cluster.{Message, Cluster}
 use Rattle.model.specs.Lines.{State, initialState, Outcome, refusal, printed, call, noMessage}
 use Rattle.model.specs.Text.{bytes}
 use Rattle.model.specs.Parse.{parse}
+use Rattle.model.specs.Print.{decimal}
 use Rattle.model.specs.Run.{step, stateAfter}
 use Rattle.model.specs.Compute.{computing}
 use Rattle.model.specs.Rows.{every}
@@ -78,7 +79,7 @@ drains-in (suc k) s h =
 -- ---- the scripts: server 0 of n is elected by all, then sets a key in the one bucket, which it has not recovered
 
 abbrev elected : ℕ → List (List ℕ)
-elected n = (bytes "cluster " ++ ((48 + n) ∷ bytes " 1")) ∷ (bytes "elect 0" ∷ replicate (2 * (n - 1)) oldestFirst)
+elected n = (bytes "cluster " ++ (decimal n ++ bytes " 1")) ∷ (bytes "elect 0" ∷ replicate (2 * (n - 1)) oldestFirst)
 
 abbrev setting : List ℕ
 setting = bytes "set 0 61 01"

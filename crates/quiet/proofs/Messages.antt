@@ -11,8 +11,8 @@ use Rattle.model.specs.Replica.{Request, reading, writing, requestBody}
 use Rattle.model.specs.Leader.{broadcast}
 use Rattle.model.specs.Lines.{dropAt}
 use Rattle.model.proofs.Broadcasts.{each-other-in}
-use Rattle.limits.specs.Lists.{All, all-map}
-use Rattle.limits.specs.Rules.{below-less, without-apart}
+use Rattle.limits.specs.Lists.{All}
+use Rattle.limits.specs.Rules.{all-broadcast}
 use Rattle.quiet.proofs.Weights.{dropAt-later}
 
 -- the call: how many servers there are, the number under which the leader leads, the leader, the bucket and the call's own
@@ -104,14 +104,13 @@ module _ (f : Followed) (r : Request) (v k : ℕ) where
   unfolding broadcast
   asked q h d = all-asked q (each-other-in (f .leader) (f .servers) q h d)
 
-  to-ours : v ≡ f .election → (q : ℕ) → (q < f .servers) × (f .leader ≢ q) → Ours f (to q)
+  to-ours : v ≡ f .election → (q : ℕ) → q < f .servers → f .leader ≢ q → Ours f (to q)
   unfolding requestBody
-  to-ours e q (h, d) = record { bucket = refl; election = e; kind = go r }
+  to-ours e q h d = record { bucket = refl; election = e; kind = go r }
     where
       go : (y : Request) → OursBody f (to q) (requestBody y)
       go reading = (refl, h, λ i. d (sym i))
       go (writing w t) = (refl, h, λ i. d (sym i))
 
   pub broadcast-ours : v ≡ f .election → All (Ours f) (broadcast (f .servers) (f .leader) (f .bucket) v k (requestBody r))
-  unfolding broadcast
-  broadcast-ours e = all-map to (to-ours e) (without-apart (f .leader) (below-less (f .servers)))
+  broadcast-ours e = all-broadcast (f .servers) (f .leader) (f .bucket) v k (requestBody r) (to-ours e)

@@ -76,7 +76,8 @@ owed f (suc k) = 2 * (f .servers - 1) + owed f k
 
 -- ---- the leader
 
-pub record Seat (f : Followed) (s : Server) : Type 0 where
+-- s is the server that f names leader: its number, whether it has stopped, its places for the bucket. Its role is not looked at
+pub record IsLeader (f : Followed) (s : Server) : Type 0 where
   pub number : s .stored .number ≡ f .election
   pub stopped : s .stopped ≡ f .stops (f .leader)
   pub rounds : f .bucket < length (s .volatile .rounds)
@@ -84,14 +85,14 @@ pub record Seat (f : Followed) (s : Server) : Type 0 where
 
 -- with the call open
 pub record Amid (f : Followed) (s : Server) : Type 0 where
-  pub seat : Seat f s
+  pub is-leader : IsLeader f s
   pub call : Call
   pub there : callAt (s .volatile) (f .bucket) ≡ some call
   pub number : call .number ≡ f .call
 
 -- a step of it, when at most k more rounds may be made
 pub record Goes (f : Followed) (k : ℕ) (r : Reaction) : Type 0 where
-  pub seat : Seat f (r .server)
+  pub is-leader : IsLeader f (r .server)
   pub round : Option Round
   pub call : Option Call
   pub round-is : roundAt (r .server .volatile) (f .bucket) ≡ round
@@ -162,15 +163,15 @@ module _ (f : Followed) where
   opening-amid u r {s} a =
       let w = s .volatile in
       record {
-        seat =
+        is-leader =
             record {
-              number = accepting-keeps i (s .stored .number) p r (s .stored) .0 ∙ a .seat .number;
-              stopped = a .seat .stopped;
-              rounds = rw length-set (a .seat .rounds);
-              calls = rw length-set (a .seat .calls);
+              number = accepting-keeps i (s .stored .number) p r (s .stored) .0 ∙ a .is-leader .number;
+              stopped = a .is-leader .stopped;
+              rounds = rw length-set (a .is-leader .rounds);
+              calls = rw length-set (a .is-leader .calls);
             };
         call = more (isOwn u) (a .call);
-        there = getD-set-same (w .calls) i (oneMore (isOwn u) (callAt w i)) none (a .seat .calls) ∙ rw (a .there) refl;
+        there = getD-set-same (w .calls) i (oneMore (isOwn u) (callAt w i)) none (a .is-leader .calls) ∙ rw (a .there) refl;
         number = a .number;
       }
 
@@ -182,7 +183,7 @@ module _ (f : Followed) where
   unfolding newRound
   new-waits u r {s} a shut =
       record {
-        election = a .seat .number;
+        election = a .is-leader .number;
         marks = rw (length-set, length-replicate);
         unrefused = refusals-set (replicate n silent) p (refusals-silent n);
         unclosed = shut;
@@ -205,14 +206,14 @@ module _ (f : Followed) where
         few = weigh-broadcast n p i (s .stored .number) (s .volatile .lastRound + 1) (requestBody r) (f .inside)
 
         mine : All (Ours f) (sent s)
-        mine = broadcast-ours f r (s .stored .number) (s .volatile .lastRound + 1) (a .seat .number)
+        mine = broadcast-ours f r (s .stored .number) (s .volatile .lastRound + 1) (a .is-leader .number)
 
         go : (t : Bool) → closes n (newRound n p i u s) ≡ t →
             Goes f (suc (left u)) (elim t as (λ _. Reaction) [ true ↦ after (sent s) (next (opening n p i u r s)) | false ↦ reaction (opening n p i u r s) (sent s) [] ])
         go true shut =
             let g = follows (opening n p i u r s) (opening-amid u r a) in
             record {
-              seat = g .seat;
+              is-leader = g .is-leader;
               round = g .round;
               call = g .call;
               round-is = g .round-is;
@@ -225,10 +226,10 @@ module _ (f : Followed) where
         go false shut =
             let o = opening-amid u r a in
             record {
-              seat = o .seat;
+              is-leader = o .is-leader;
               round = some (newRound n p i u s);
               call = some (o .call);
-              round-is = unfold opening in getD-set-same (s .volatile .rounds) i (some (newRound n p i u s)) none (a .seat .rounds);
+              round-is = unfold opening in getD-set-same (s .volatile .rounds) i (some (newRound n p i u s)) none (a .is-leader .rounds);
               call-is = o .there;
               ours = mine;
               slot = (o .number, new-waits u r a shut);
@@ -243,11 +244,11 @@ module _ (f : Followed) where
   finish-goes k r good {s} a =
       let w = s .volatile in
       record {
-        seat = record { number = a .seat .number; stopped = a .seat .stopped; rounds = rw length-set (a .seat .rounds); calls = rw length-set (a .seat .calls) };
+        is-leader = record { number = a .is-leader .number; stopped = a .is-leader .stopped; rounds = rw length-set (a .is-leader .rounds); calls = rw length-set (a .is-leader .calls) };
         round = none;
         call = none;
-        round-is = getD-set-same (w .rounds) i none none (a .seat .rounds);
-        call-is = getD-set-same (w .calls) i none none (a .seat .calls);
+        round-is = getD-set-same (w .rounds) i none none (a .is-leader .rounds);
+        call-is = getD-set-same (w .calls) i none none (a .is-leader .calls);
         ours = nil;
         slot = tt;
         ended = λ x.
@@ -282,7 +283,7 @@ module _ (f : Followed) where
   -- fewer rounds than may be made
   goes-within : {k m : ℕ} {r : Reaction} → owed f k ≤ owed f m → Goes f k r → Goes f m r
   goes-within h g =
-      record { seat = g .seat; round = g .round; call = g .call; round-is = g .round-is; call-is = g .call-is; ours = g .ours; slot = g .slot; ended = g .ended; weight = omega (arith, g .weight) }
+      record { is-leader = g .is-leader; round = g .round; call = g .call; round-is = g .round-is; call-is = g .call-is; ours = g .ours; slot = g .slot; ended = g .ended; weight = omega (arith, g .weight) }
 
   start-read-goes : {s : Server} → Amid f s → Goes f 4 (startRead n p i s)
   unfolding startRead owed
@@ -297,14 +298,14 @@ module _ (f : Followed) where
   start-call-goes w {s} a =
       first-round n p i w s (Goes f 4) (λ t e h. goes-within (omega arith) (applying-goes (writes t) tt a)) (start-read-goes a)
 
-  pub begin-goes : (w : Words) {s : Server} → Seat f s → Goes f 4 (beginCall n p i (f .call) w s)
+  pub begin-goes : (w : Words) {s : Server} → IsLeader f s → Goes f 4 (beginCall n p i (f .call) w s)
   unfolding beginCall
-  begin-goes w {s} seat =
+  begin-goes w {s} is-leader =
       start-call-goes w
       (record {
-        seat = record { number = seat .number; stopped = seat .stopped; rounds = seat .rounds; calls = rw length-set (seat .calls) };
+        is-leader = record { number = is-leader .number; stopped = is-leader .stopped; rounds = is-leader .rounds; calls = rw length-set (is-leader .calls) };
         call = record { number = f .call; words = w; rounds = 0; sent = false };
-        there = getD-set-same (s .volatile .calls) i _ none (seat .calls);
+        there = getD-set-same (s .volatile .calls) i _ none (is-leader .calls);
         number = refl;
       })
 

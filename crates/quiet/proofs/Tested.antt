@@ -69,7 +69,7 @@ is-quiet c p h =
     let (g, h7) = every-parts (leb (c .accepted + (deliveries (serversOf c) + 1)) maxAccepted) _ h6 in
     record {
       leads = leads _ a;
-      highest = λ q k up. votes-up-to (serverAt c p .stored .number) (serverAt c q) (every-at (votesUpTo (serverAt c p .stored .number)) (c .servers) q (freshServer 0 0) b k) up;
+      highest = λ q k up. let yes = every-at (votesUpTo (serverAt c p .stored .number)) (c .servers) q (freshServer 0 0) b k in omega (arith, votes-up-to (serverAt c p .stored .number) (serverAt c q) yes up);
       majority-runs = omega (arith, leb-true (majority (serversOf c)) (running (c .servers)) d);
       none-in-flight = empty-list (c .messages) e;
       none-open = none-open (c .servers) f;

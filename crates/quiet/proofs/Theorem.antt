@@ -102,13 +102,13 @@ module _ (c : Cluster) (p : ℕ) (w : Words) (few : serversOf c ≤ maxServers) 
       let d = freshServer 0 0 in
       let s = begun .server in
       let same : getD (set (c .servers) p s) p d ≡ s = getD-set-same (c .servers) p s d there in
-      let as-before : s .stopped ≡ serverAt c p .stopped = begins .seat .stopped in
+      let as-before : s .stopped ≡ serverAt c p .stopped = begins .is-leader .stopped in
       record {
         size = length-set (c .servers) p s;
         flags = λ q. flags-set (c .servers) p s there d as-before q;
         votes = λ q h k up. rw (getD-set-other (c .servers) p q s d k) (omega (arith, needed .highest q h up));
         most = omega (arith, running-set (c .servers) p s d as-before, needed .majority-runs);
-        seat = rw same (begins .seat);
+        is-leader = rw same (begins .is-leader);
         round = begins .round;
         call = begins .call;
         round-is = ap (λ y. roundAt (y .volatile) (f .bucket)) same ∙ begins .round-is;
@@ -235,9 +235,9 @@ module _ (n i : ℕ) (out : List Answer) (s : State) (orders : (k : ℕ) (more :
 
 -- the stronger theorem gives document 02's
 pub stronger : InAnyOrder → QuietCall
-stronger h s c is stands p quiet l out x =
+stronger h s c is shaped p quiet l out x =
     let needed : Needed c p = record { highest = quiet .highest; majority-runs = quiet .majority-runs; none-in-flight = quiet .none-in-flight; lines-left = quiet .lines-left } in
-    ends-by-orders (serversOf c) (c .calls + 1) out (step s l .state) (h s c is stands p needed l out x)
+    ends-by-orders (serversOf c) (c .calls + 1) out (step s l .state) (h s c is shaped p needed l out x)
 
 pub quiet-call : QuietCall
 quiet-call = stronger quiet-call-in-any-order

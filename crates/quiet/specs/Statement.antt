@@ -3,7 +3,7 @@
 -- `InAnyOrderOfAScript` are stronger; `NoSmaller` says that no smaller figure will do. Theorems: `quiet-call`,
 -- `quiet-call-of-a-script`, `quiet-call-in-any-order`, `quiet-call-in-any-order-of-a-script` in proofs/Theorem.antt, `least` in
 -- proofs/Least.antt. Of the rules of the bench the claims use `majority`, `parse`, which reads a line, and `step`, which runs it
--- (`stateAfter` is `step` line after line); the rest are fields of a cluster. A line is any list of bytes.
+-- (`stateAfter` is `step` line after line); the rest are measures, text and parts of a state. A line is any list of bytes.
 use mathlib.Core.Path.{_≡_}
 use mathlib.Core.Logic.{_≢_}
 use mathlib.Core.List.{List, [], _∷_, _++_, List·Memᴰ}
@@ -33,8 +33,8 @@ running (s ∷ l) = elim (s .stopped) [ true ↦ running l | false ↦ suc (runn
 abbrev pub deliveries : ℕ → ℕ
 deliveries n = 8 * (n - 1)
 
--- what document 01's measures give every cluster: at most 7 servers, each with a place for the round and for the call of each
--- bucket
+-- what document 01's measures give every cluster: at most 7 servers, at least one bucket, and at each server a place for the
+-- round and for the call of each bucket
 pub record Shaped (c : Cluster) : Type 0 where
   pub few-servers : serversOf c ≤ maxServers
   pub some-buckets : 1 ≤ c .buckets
@@ -143,7 +143,7 @@ pub record Underway (n i k : ℕ) (out : List Answer) (s : State) : Type 0 where
       (more : List Answer) × (step s l .outcome ≡ printed more)
   pub answered : NoneInFlight cluster → Answered i out
 
--- an open call may have any number here; those that a script opened have lower ones
+-- in a state that no script reaches an open call could already have the number `c .calls + 1`; in a script each call has its own
 abbrev pub InAnyOrder : Type 0
 InAnyOrder =
     (s : State) (c : Cluster) → s .cluster ≡ some c → Shaped c → (p : ℕ) → Needed c p →

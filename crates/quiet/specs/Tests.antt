@@ -27,7 +27,7 @@ tests c p =
     leb (c .accepted + (deliveries (serversOf c) + 1)) maxAccepted ∷
     []
 
--- opens them and what they use, for the files that compute with them
+-- opens them, for the files that compute with them; `computing` opens the rules that they use
 unfoldable pub testing : Unit {0}
 unfolding running every votesUpTo noneOpen tests
 testing = tt

@@ -8,7 +8,7 @@ use reference::quiet::{after, most_deliveries, Conditions, State};
 use reference::script::MOST_ACCEPTED;
 use std::collections::BTreeMap;
 
-/// A script after which `lose 0` tells whether the list is empty.
+/// A script whose last line, `lose 0`, tells whether the list is empty.
 fn probed(before: &[u8], call: &str, size: usize) -> Vec<u8> {
     let mut text = before.to_vec();
     text.extend_from_slice(call.as_bytes());

@@ -103,8 +103,8 @@ impl State {
         })
     }
 
-    /// The calls of its script, made anew at its leader, and one for scripts
-    /// that have none.
+    /// The calls of its script, made anew at its leader, and one more, so that
+    /// there always is one.
     pub fn calls(&self) -> Vec<String> {
         let text = String::from_utf8_lossy(&self.text);
         let again = |line: &str| {

@@ -51,8 +51,9 @@ struct Met {
     calls: [usize; SERVERS + 1],
     most: [usize; SERVERS + 1],
     results: BTreeSet<String>,
-    /// States in which no more than a majority runs, and in which a server has
-    /// stopped that voted above the leader's number.
+    /// States of three servers or more in which no more than a majority runs,
+    /// and states in which a server has stopped that voted above the leader's
+    /// number.
     bare: usize,
     stopped_above: usize,
 }
@@ -175,7 +176,7 @@ fn with_higher_votes_a_call_may_end_as_notdone_or_unknown() {
         number_no_lower_than_a_vote: false,
         ..Conditions::ALL
     };
-    // A check is refused, and on a recovered bucket a write.
+    // A recovery read is refused, and on a recovered bucket a write.
     for (recovers, call, answer) in [
         ("", "get 0 61", "1 notdone 1"),
         ("get 0 61", "set 0 61 01", "2 unknown 1"),

@@ -1,6 +1,6 @@
 //! Scripts that come to rest: again and again, after rough lines, nothing is
 //! under way any more and a server leads that nobody running has voted above,
-//! where a majority of them runs. So most of them end in a quiet state.
+//! where a majority of the servers runs. So most scripts end in a quiet state.
 
 use super::maker::Maker;
 use crate::cluster::majority;
