@@ -13,6 +13,6 @@ pub majority-least : (n m : ℕ) → n < 2 * m → majority n ≤ m
 unfolding majority
 majority-least n m h = omega arith
 
--- where there are servers, all of them have one
+-- where there are servers, all of them together are a majority
 pub majority-within : (n : ℕ) → 1 ≤ n → majority n ≤ n
 majority-within n h = majority-least n n (omega arith)

@@ -134,18 +134,22 @@ fn led(size: u8) -> Bench {
     bench
 }
 
+/// In a quiet state, a set on an unrecovered bucket: so many deliveries empty
+/// the list, no fewer, and it is done.
+fn set_takes(mut bench: Bench, deliveries: usize) {
+    assert_eq!(bench.conditions(0), Conditions::ALL);
+    let mut out = bench.line("set 0 61 01");
+    for _ in 0..deliveries {
+        assert!(bench.under_way() > 0);
+        out += &bench.line("deliver 0");
+    }
+    assert_eq!((out.as_str(), bench.under_way()), ("1 done 4", 0));
+}
+
 #[test]
 fn every_size_has_a_call_that_takes_them_all() {
     for size in 1..=SERVERS {
-        let mut bench = led(size as u8);
-        assert_eq!(bench.conditions(0), Conditions::ALL);
-        let mut out = bench.line("set 0 61 01");
-        for _ in 0..most_deliveries(size) {
-            assert!(bench.under_way() > 0);
-            out += &bench.line("deliver 0");
-        }
-        assert_eq!(bench.under_way(), 0);
-        assert_eq!(out, "1 done 4");
+        set_takes(led(size as u8), most_deliveries(size));
     }
 }
 
@@ -153,10 +157,7 @@ fn every_size_has_a_call_that_takes_them_all() {
 fn messages_to_stopped_servers_are_deliveries_too() {
     let mut bench = led(5);
     bench.quiet(&["stop 3", "stop 4"]);
-    assert_eq!(bench.conditions(0), Conditions::ALL);
-    bench.quiet(&["set 0 61 01"]);
-    let out: String = (0..24).map(|_| bench.line("deliver 0")).collect();
-    assert_eq!((out.as_str(), bench.under_way()), ("1 done 4", 0));
+    set_takes(bench, 24);
 }
 
 #[test]
@@ -164,10 +165,7 @@ fn a_stopped_server_may_have_voted_higher() {
     let mut bench = led(3);
     bench.quiet(&["elect 2", "lose 0", "lose 0", "stop 2"]);
     assert_eq!(bench.cluster().server(2).vote, 2);
-    assert_eq!(bench.conditions(0), Conditions::ALL);
-    bench.quiet(&["set 0 61 01"]);
-    let out: String = (0..12).map(|_| bench.line("deliver 0")).collect();
-    assert_eq!((out.as_str(), bench.under_way()), ("1 done 4", 0));
+    set_takes(bench, 12);
 }
 
 #[test]
