@@ -15,10 +15,10 @@ use Rattle.entries.specs.Decoded.{keyBytes, blank}
 use Rattle.entries.proofs.Lists.{cut-length, take-as-many}
 use Rattle.table.specs.Form.{readBucket}
 use Rattle.table.proofs.Filling.{sets-append}
-use Rattle.bucket.specs.Answers.{answer}
+use Rattle.bucket.specs.Answers.{Answer, answer}
 use Rattle.bucket_calls.specs.declared.Listing.{Listing}
-use Rattle.bucket_calls.specs.Answers.{lookOf, listed, listOf, keysIn}
-use Rattle.bucket_c.specs.Exports.{getOf, keysBytes, keysOut, KeysPut}
+use Rattle.bucket_calls.specs.Answers.{looked, lookOf, listed, listOf, keysIn}
+use Rattle.bucket_c.specs.Exports.{valueOut, absentNumber, getOf, keysBytes, keysOut, KeysPut}
 
 -- a run of stores at the front
 front : (out w after : List ℕ) → length w ≤ length out → after ≡ sets out 0 w → after ≡ w ++ drop (length w) out
@@ -26,8 +26,8 @@ front out w after h e = e ∙ sets-eq w out 0 (rw zero-add h) ∙ rw zero-add
 
 -- ---- what a look-up's answer says of the bucket
 
-module _ (b k v : List ℕ) where
-  look-none : answer 13 v ≡ lookOf b k → readBucket 4 16 b ≡ none
+module _ (b k : List ℕ) (v : Option (List ℕ)) where
+  look-none : looked 13 v ≡ lookOf b k → readBucket 4 16 b ≡ none
   unfolding lookOf
   look-none e = go (readBucket 4 16 b) refl
     where
@@ -37,31 +37,41 @@ module _ (b k v : List ℕ) where
           let z : _≡_ {A = ℕ} 13 0 = ap (λ a. a .number) (rw (lookOf, q) at e) in
           absurd (omega arith)
 
-  look-some : answer 0 v ≡ lookOf b k → (t : List Entry) × ((readBucket 4 16 b ≡ some t) × (v ≡ valueOf k t))
+  look-some : looked 0 v ≡ lookOf b k → (t : List Entry) × ((readBucket 4 16 b ≡ some t) × (v ≡ valueOf k t))
   unfolding lookOf
   look-some e = go (readBucket 4 16 b) refl
     where
       go : (r : Option (List Entry)) → readBucket 4 16 b ≡ r → (t : List Entry) × ((r ≡ some t) × (v ≡ valueOf k t))
       go none q = let z : _≡_ {A = ℕ} 0 13 = ap (λ a. a .number) (rw (lookOf, q) at e) in absurd (omega arith)
-      go (some t) q = (t, (refl, ap (λ a. a .bytes) (rw (lookOf, q) at e)))
+      go (some t) q = (t, (refl, ap (λ a. a .value) (rw (lookOf, q) at e)))
 
-module _ (b k v out : List ℕ) where
-  pub get-refused : answer 13 v ≡ lookOf b k → answer 113 out ≡ getOf b k out
+module _ (v out : List ℕ) where
+  pub value-short : (n : ℕ) → n ≡ length v → length out < n → answer 115 out ≡ valueOut v out
+  unfolding valueOut
+  value-short n l h = rw (valueOut, lt-leb (length v) (length out) (omega arith))
+
+  pub value-done : (n : ℕ) (after : List ℕ) → n ≡ length v → n ≤ length out → after ≡ sets out 0 v → answer n after ≡ valueOut v out
+  unfolding valueOut
+  value-done n after l h w =
+      let m : length v ≤ length out = omega arith in
+      rw (valueOut, le-leb (length v) (length out) m, l, front out v after m w)
+
+module _ (b k : List ℕ) (v : Option (List ℕ)) (out : List ℕ) where
+  pub get-refused : looked 13 v ≡ lookOf b k → answer 113 out ≡ getOf b k out
   unfolding getOf
   get-refused e = rw (getOf, look-none b k v e)
 
-  pub get-short : (n : ℕ) → answer 0 v ≡ lookOf b k → n ≡ length v → length out < n → answer 115 out ≡ getOf b k out
+  pub get-absent : looked 0 v ≡ lookOf b k → v ≡ none → answer absentNumber out ≡ getOf b k out
   unfolding getOf
-  get-short n e l h =
+  get-absent e n =
       let (t, (q, s)) = look-some b k v e in
-      rw (getOf, q, ← s, lt-leb (length v) (length out) (omega arith))
+      rw (getOf, q, ← s, n)
 
-  pub get-done : (n : ℕ) (after : List ℕ) → answer 0 v ≡ lookOf b k → n ≡ length v → n ≤ length out → after ≡ sets out 0 v → answer n after ≡ getOf b k out
+  pub get-found : (u : List ℕ) (a : Answer) → looked 0 v ≡ lookOf b k → v ≡ some u → a ≡ valueOut u out → a ≡ getOf b k out
   unfolding getOf
-  get-done n after e l h w =
+  get-found u a e n d =
       let (t, (q, s)) = look-some b k v e in
-      let m : length v ≤ length out = omega arith in
-      rw (getOf, q, ← s, le-leb (length v) (length out) m, ← s, l, front out v after m w)
+      d ∙ rw (getOf, q, ← s, n)
 
 -- ---- what a listing says of the bucket
 

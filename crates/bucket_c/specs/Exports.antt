@@ -36,17 +36,22 @@ tableFrom n h l = record { count = n; slots = slotFrom h l 0 ∷ (slotFrom h l 1
 
 -- ---- a value, written out
 
--- the value's length and the value before what stood behind it; 113 where the bucket is refused, 115 where there is no room
+-- the value's length and the value before what stood behind it; 115 where there is no room
+unfoldable pub valueOut : List ℕ → List ℕ → Answer
+valueOut v out =
+    elim (leb (length v) (length out)) [ false ↦ answer 115 out | true ↦ answer (length v) (v ++ drop (length v) out) ]
+
+-- an absent key is no refusal: its number is above those of documents 01 and 02, and no length of a value
+abbrev pub absentNumber : ℕ
+absentNumber = 254
+
+-- a key's value, written out; 113 where the bucket is refused
 unfoldable pub getOf : List ℕ → List ℕ → List ℕ → Answer
 getOf b k out =
     elim (readBucket 4 16 b) [
       | none ↦ answer 113 out
       | some t ↦
-          elim (leb (length (valueOf k t)) (length out)) [
-            | false ↦ answer 115 out
-            | true ↦
-                answer (length (valueOf k t)) (valueOf k t ++ drop (length (valueOf k t)) out)
-          ]
+          elim (valueOf k t) [ none ↦ answer absentNumber out | some v ↦ valueOut v out ]
     ]
 
 -- ---- the keys, written out

@@ -21,11 +21,16 @@ use entries::keys::value_length;
 ghost use mathlib.Core.Path.{_≡_};
 ghost use Prim.Native.Nat.{_≤_, _<_, _+_, _*_};
 ghost use lib.ListN.{length, getD};
-ghost use Rattle.entries.specs.Decoded.{keyBytes, valueBytes};
+ghost use Rattle.entries.specs.Decoded.{valueBytes};
 ghost use Rattle.table.specs.Form.{readNumber};
 ghost use Rattle.bucket.specs.Answers.{answer, outcomeNumber, writtenNumber, writeOf};
 ghost use Rattle.bucket_calls.specs.Answers.{changeNumber, putOf, removeOf, keysIn};
-ghost use Rattle.bucket_c.specs.Exports.{keyFrom, valueFrom, slotFrom, tableFrom, getOf, KeysPut, keysOut};
+ghost use Rattle.bucket_c.specs.Exports.{keyFrom, valueFrom, slotFrom, tableFrom, valueOut, getOf, KeysPut, keysOut};
+
+// `full` and an absent key are no refusals: their numbers are above those of documents 01 and 02.
+const FULL: u32 = 255;
+
+const ABSENT: u32 = 254;
 
 // The numbers of the answers.
 fn outcome_number(o: Outcome) -> u32
@@ -52,7 +57,7 @@ fn change_number(c: Change) -> u32
 {
     match c {
         Change::Done => 0,
-        Change::Full => 16,
+        Change::Full => FULL,
         Change::Malformed => 13,
     }
 }
@@ -147,28 +152,39 @@ pub extern "C" fn bucket_write(count: usize, lengths: &[u8], bytes: &[u8], out: 
     written_number(w)
 }
 
-// The value of a key, written to `out`: its length, 113 where the bucket is refused, 115 where `out` is too short.
+// A value, written to `out`: its length, 115 where `out` is too short.
+fn put_found(v: Value, out: &mut [u8]) -> u32
+    ensures { λ r. ⌜ answer r (now (out .exit)) ≡ valueOut (valueBytes v) (now (out .entry)) ⌝ }
+{
+    let n = value_length(v);
+    if out.len() < n {
+        return 115;
+    }
+    put_value(out, 0, v);
+    n as u32
+}
+
+// The value of a key, written to `out`: its length, 254 where the key is absent, 113 where the bucket is refused, 115 where
+// `out` is too short.
 #[no_mangle]
 pub extern "C" fn bucket_get(bucket: &[u8], key: &[u8], out: &mut [u8]) -> u32
     ensures { λ r. ⌜ answer r (now (out .exit)) ≡ getOf (now (bucket .entry)) (now (key .entry)) (now (out .entry)) ⌝ }
 {
     let f = look_up(bucket, key);
-    let v = f.value;
+    let i = f.item;
     let o = f.outcome;
     match o {
         Outcome::Accepted => {
-            let n = value_length(v);
-            if out.len() < n {
-                return 115;
+            if i.there {
+                return put_found(i.value, out);
             }
-            put_value(out, 0, v);
-            n as u32
+            ABSENT
         }
         Outcome::Malformed => 113,
     }
 }
 
-// A key's new value: 0, or 16 where there is no room, or 13.
+// A key's new value, which may have no bytes: 0, or 255 where there is no room, or 13.
 #[no_mangle]
 pub extern "C" fn bucket_put(bucket: &mut [u8], key: &[u8], value: &[u8]) -> u32
     ensures { λ r. ⌜ answer r (now (bucket .exit)) ≡ putOf (now (bucket .entry)) (now (key .entry)) (now (value .entry)) ⌝ }

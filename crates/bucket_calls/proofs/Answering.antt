@@ -23,7 +23,7 @@ use Rattle.table.specs.Form.{maxKey, bucketSize, within, bucketBytes, readBucke
 use Rattle.table.proofs.Fitting.{within-parts, within-from, fits-parts}
 use Rattle.table.proofs.Reading.{Capped, sized-capped, length-bucket, one-form}
 use Rattle.bucket.specs.Answers.{answer, tableRead}
-use Rattle.bucket_calls.specs.Answers.{lookOf, storable, putIn, putOf, removeOf, listed, listOf, slotKeys}
+use Rattle.bucket_calls.specs.Answers.{looked, lookOf, fullNumber, storable, putIn, putOf, removeOf, listed, listOf, slotKeys}
 
 -- ---- bytes that are taken
 
@@ -55,15 +55,15 @@ long-not-held b k t e h =
 -- ---- searching
 
 module _ (b k : List ℕ) where
-  pub look-found : (n : ℕ) (v : List ℕ) → n ≡ readNumber 4 16 b → v ≡ valueOf k (tableRead b) → answer n v ≡ lookOf b k
+  pub look-found : (n : ℕ) (v : Option (List ℕ)) → n ≡ readNumber 4 16 b → v ≡ valueOf k (tableRead b) → looked n v ≡ lookOf b k
   unfolding readNumber tableRead lookOf valueOf
-  look-found n v e f = ap₂ answer e f ∙ go (readBucket 4 16 b) refl
+  look-found n v e f = ap₂ looked e f ∙ go (readBucket 4 16 b) refl
     where
-      go : (r : Option (List Entry)) → readBucket 4 16 b ≡ r → answer (readNumber 4 16 b) (valueOf k (tableRead b)) ≡ lookOf b k
+      go : (r : Option (List Entry)) → readBucket 4 16 b ≡ r → looked (readNumber 4 16 b) (valueOf k (tableRead b)) ≡ lookOf b k
       go none q = rw (readNumber, tableRead, lookOf, q)
       go (some t) q = rw (readNumber, tableRead, lookOf, q)
 
-  pub look-long : (n : ℕ) (v : List ℕ) → n ≡ readNumber 4 16 b → v ≡ [] → 8 < length k → answer n v ≡ lookOf b k
+  pub look-long : (n : ℕ) (v : Option (List ℕ)) → n ≡ readNumber 4 16 b → v ≡ none → 8 < length k → looked n v ≡ lookOf b k
   unfolding readNumber tableRead holds
   look-long n v e f h = look-found n v e (f ∙ sym (absent-value k (tableRead b) (go (readBucket 4 16 b) refl)))
     where
@@ -94,7 +94,7 @@ storable-parts k v h = go (within maxKey (length k)) refl
     go false p = let z : _≡_ {A = ℕ} 0 1 = cc (rw (storable, p) at h) in absurd (omega arith)
 
 -- a change of a decoded table, by the mark for no room
-module _ {k v : List ℕ} {t : Decoded} (s : Stored) (c : Storing k v t s) where
+module _ {k : List ℕ} {v : Option (List ℕ)} {t : Decoded} (s : Stored) (c : Storing k v t s) where
   pub was-full : s .full ≡ true → stored 4 k v (tableIn t) ≡ none
   unfolding storedIn
   was-full h = sym (c .is) ∙ rw (storedIn, h)
@@ -108,11 +108,11 @@ module _ (b k v : List ℕ) where
   unfolding putIn
   put-refused e = rw (putIn, e)
 
-  pub put-full : (t : List Entry) → readBucket 4 16 b ≡ some t → stored 4 k v t ≡ none → answer 16 b ≡ putIn b k v
+  pub put-full : (t : List Entry) → readBucket 4 16 b ≡ some t → stored 4 k (some v) t ≡ none → answer fullNumber b ≡ putIn b k v
   unfolding putIn
   put-full t e s = rw (putIn, e, s)
 
-  pub put-done : (t u : List Entry) (after : List ℕ) → readBucket 4 16 b ≡ some t → stored 4 k v t ≡ some u → after ≡ bucketBytes 4 16 u ++ drop 113 b → answer 0 after ≡ putIn b k v
+  pub put-done : (t u : List Entry) (after : List ℕ) → readBucket 4 16 b ≡ some t → stored 4 k (some v) t ≡ some u → after ≡ bucketBytes 4 16 u ++ drop 113 b → answer 0 after ≡ putIn b k v
   unfolding putIn
   put-done t u after e s w = rw (putIn, e, s, w, over-all b (bucketBytes 4 16 u) t e)
 

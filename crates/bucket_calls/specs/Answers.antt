@@ -1,7 +1,7 @@
 -- What the calls on lent bytes answer, and what the lent bytes hold afterwards.
 use mathlib.Core.List.{List, [], map}
 use mathlib.Core.Bool.{Bool, true, false}
-use mathlib.Core.Option.{none, some}
+use mathlib.Core.Option.{Option, none, some}
 use Prim.Native.Nat.{ℕ}
 use lib.Dec.{leb}
 use lib.ListN.{length, take}
@@ -17,29 +17,41 @@ use Rattle.bucket_calls.specs.declared.Listing.{Listing}
 
 -- ---- searching
 
--- the value of key k in bucket b
-unfoldable pub lookOf : List ℕ → List ℕ → Answer
-lookOf b k = elim (readBucket 4 16 b) [ none ↦ answer 13 [] | some t ↦ answer 0 (valueOf k t) ]
+-- a number with the value that was found
+pub record Looked : Type 0 where
+  pub number : ℕ
+  pub value : Option (List ℕ)
+
+abbrev pub looked : ℕ → Option (List ℕ) → Looked
+looked n v = record { number = n; value = v }
+
+-- the value of key k in bucket b, none where k is absent
+unfoldable pub lookOf : List ℕ → List ℕ → Looked
+lookOf b k = elim (readBucket 4 16 b) [ none ↦ looked 13 none | some t ↦ looked 0 (valueOf k t) ]
 
 -- ---- changing
 
--- 0 for `done` and document 01's refusal 13; `full` is no refusal, and 16 is the first number that document 01 leaves free
+-- `full` is no refusal: its number is above those of documents 01 and 02, which end at 20
+abbrev pub fullNumber : ℕ
+fullNumber = 255
+
+-- 0 for `done`, and document 01's refusal 13
 unfoldable pub changeNumber : Change → ℕ
 changeNumber Done = 0
-changeNumber Full = 16
+changeNumber Full = fullNumber
 changeNumber Malformed = 13
 
 -- a key of 1 to 8 bytes, a value of at most 16
 unfoldable pub storable : List ℕ → List ℕ → Bool
 storable k v = elim (within maxKey (length k)) [ false ↦ false | true ↦ leb (length v) 16 ]
 
--- `set` of document 01 on bucket b
+-- `set` on bucket b, with a value that is there and may have no bytes
 unfoldable pub putIn : List ℕ → List ℕ → List ℕ → Answer
 putIn b k v =
     elim (readBucket 4 16 b) [
       | none ↦ answer 13 b
       | some t ↦
-          elim (stored 4 k v t) [ none ↦ answer 16 b | some u ↦ answer 0 (bucketBytes 4 16 u) ]
+          elim (stored 4 k (some v) t) [ none ↦ answer fullNumber b | some u ↦ answer 0 (bucketBytes 4 16 u) ]
     ]
 
 unfoldable pub putOf : List ℕ → List ℕ → List ℕ → Answer

@@ -3,19 +3,20 @@ use bucket::Outcome;
 use bucket::read;
 use encoding::encode;
 use entries::Decoded;
+use entries::Item;
 use entries::Key;
 use entries::Value;
 use entries::keys::key_of;
 use entries::keys::value_of;
 use entries::slots;
+use entries::slots::absent;
 use entries::slots::count_of;
 use entries::slots::find;
-use entries::slots::no_value;
 use entries::slots::store;
 ghost use mathlib.Core.Path.{_≡_};
-ghost use Rattle.entries.specs.Decoded.{keyBytes, valueBytes};
+ghost use Rattle.entries.specs.Decoded.{keyBytes, valueBytes, itemIn};
 ghost use Rattle.bucket.specs.Answers.{answer, outcomeNumber};
-ghost use Rattle.bucket_calls.specs.Answers.{changeNumber, lookOf, storable, putIn, putOf, removeOf, keysIn, listed, listOf, slotKeys};
+ghost use Rattle.bucket_calls.specs.Answers.{changeNumber, looked, lookOf, storable, putIn, putOf, removeOf, keysIn, listed, listOf, slotKeys};
 
 // What became of a change. The number for each case is `changeNumber`.
 pub enum Change {
@@ -24,10 +25,10 @@ pub enum Change {
     Malformed,
 }
 
-// The value that was found, of no bytes where the key is absent or the bucket is refused.
+// The value that was found, none where the key is absent or the bucket is refused.
 pub struct Found {
     pub outcome: Outcome,
-    pub value: Value,
+    pub item: Item,
 }
 
 // The first `count` keys; none where the bucket is refused.
@@ -39,21 +40,21 @@ pub struct Listing {
 
 // The value of a key; 13 where the bucket is refused, which is read as a table of no entries.
 pub fn look_up(bucket: &[u8], key: &[u8]) -> Found
-    ensures { λ r. ⌜ answer (outcomeNumber (r .outcome)) (valueBytes (r .value)) ≡ lookOf (now (bucket .entry)) (now (key .entry)) ⌝ }
+    ensures { λ r. ⌜ looked (outcomeNumber (r .outcome)) (itemIn (r .item)) ≡ lookOf (now (bucket .entry)) (now (key .entry)) ⌝ }
 {
     let r = read(bucket);
     let outcome = r.outcome;
     let t = r.table;
     if 8 < key.len() {
-        let value = no_value();
-        return Found { outcome, value };
+        let item = absent();
+        return Found { outcome, item };
     }
-    let value = find(t, key_of(key));
-    Found { outcome, value }
+    let item = find(t, key_of(key));
+    Found { outcome, item }
 }
 
-// A key's new value, in place; of no bytes, the key is taken away. 13 where the bucket is refused, or the key or the value
-// has a length that no bucket holds.
+// A key's new value, in place; it may have no bytes. 13 where the bucket is refused, or the key or the value has a length
+// that no bucket holds.
 pub fn put(bucket: &mut [u8], key: &[u8], value: &[u8]) -> Change
     ensures { λ r. ⌜ answer (changeNumber r) (now (bucket .exit)) ≡ putOf (now (bucket .entry)) (now (key .entry)) (now (value .entry)) ⌝ }
 {
@@ -85,7 +86,8 @@ fn put_in(bucket: &mut [u8], key: Key, value: Value) -> Change
     let o = r.outcome;
     match o {
         Outcome::Accepted => {
-            let s = store(t, key, value);
+            let item = Item { there: true, value };
+            let s = store(t, key, item);
             if s.full {
                 return Change::Full;
             }

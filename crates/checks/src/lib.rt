@@ -4,7 +4,6 @@ use entries::Order;
 use entries::Slot;
 use entries::keys::compare;
 use entries::keys::key_length;
-use entries::keys::value_length;
 use entries::slots::count_of;
 ghost use mathlib.Core.Path.{_≡_};
 ghost use mathlib.Core.List.{_∷_, []};
@@ -12,16 +11,12 @@ ghost use Rattle.entries.specs.Decoded.{entryIn, tableIn};
 ghost use Rattle.table.specs.Form.{sized, rising, fits};
 ghost use Rattle.checks.specs.Tests.{soundSlots, sound, Sized};
 
-// A key of 1 to 8 bytes and a value of 1 to 16.
+// A key of 1 to 8 bytes; no value has more than 16.
 fn entry_sized(s: Slot) -> bool
     ensures { λ r. ⌜ r ≡ sized 16 (entryIn s ∷ []) ⌝ }
 {
     let key = s.key;
-    let value = s.value;
     if key_length(key) == 0 {
-        return false;
-    }
-    if value_length(value) == 0 {
         return false;
     }
     true

@@ -4,19 +4,20 @@
 -- call 3 with 02. Then call 2 ends as `unknown`: it took effect.
 use mathlib.Core.Path.{_≡_, refl, sym, ap, subst, subst⁻¹}
 use mathlib.Core.Logic.{_⊎_, inl, inr}
+use mathlib.Core.Option.{none, some}
 use mathlib.Core.List.{List, [], _∷_, List·Memᴰ·head, List·Memᴰ·tail, Memᴰ·append-right, List·Memᴰ·cases-cons}
 use Prim.Native.Nat.{ℕ}
 use native.Mathlib.Omega.{arith}
 use lib.ListN.{take}
 use Rattle.entries.specs.Entries.{Entry, entry}
-use Rattle.model.specs.Calls.{get, set, Result, value, listed, done, mismatch, full, notdone, unknown}
+use Rattle.model.specs.Calls.{get, set, setif, Result, value, listed, done, mismatch, full, notdone, unknown}
 use Rattle.model.specs.Cluster.{version, copyAt}
 use Rattle.model.specs.Lines.{initialState}
 use Rattle.model.specs.Text.{bytes}
 use Rattle.model.specs.Run.{stateAfter, linesOf, run}
 use Rattle.model.specs.Compute.{computing}
 use Rattle.history.specs.Members.{_∈_, none-in, each-cons, clash}
-use Rattle.consistency.specs.Statement.{Begin, End, same, lookup, stands, without, plainSet, plain, meaning, beginsFrom, endsFrom, begins, ends, Distinct, Before, Fed, OneOrder}
+use Rattle.consistency.specs.Statement.{Begin, End, same, lookup, alike, stands, without, plainSet, plain, meaning, beginsFrom, endsFrom, begins, ends, Distinct, Before, Fed, OneOrder}
 use Rattle.consistency.specs.Reached.{serverIn, LeadsIn}
 use Rattle.consistency.specs.Theorem.{one-order-for-every-script}
 
@@ -54,10 +55,10 @@ abbrev key : List ℕ
 key = 0x61 ∷ []
 
 abbrev b1 : Begin
-b1 = record { number = 1; words = set key (1 ∷ []); bucket = 0; line = 5 }
+b1 = record { number = 1; words = set key (some (1 ∷ [])); bucket = 0; line = 5 }
 
 abbrev b2 : Begin
-b2 = record { number = 2; words = set key (2 ∷ []); bucket = 0; line = 14 }
+b2 = record { number = 2; words = set key (some (2 ∷ [])); bucket = 0; line = 14 }
 
 abbrev b3 : Begin
 b3 = record { number = 3; words = get key; bucket = 0; line = 20 }
@@ -69,7 +70,7 @@ abbrev e2 : End
 e2 = record { number = 2; result = unknown; line = 27 }
 
 abbrev e3 : End
-e3 = record { number = 3; result = value (2 ∷ []); line = 26 }
+e3 = record { number = 3; result = value (some (2 ∷ [])); line = 26 }
 
 begun : begins script ≡ b1 ∷ b2 ∷ b3 ∷ []
 unfolding computing beginsFrom meaning
@@ -90,9 +91,9 @@ es = e1 ∷ e3 ∷ e2 ∷ []
 -- what a table that holds t is fed next
 abbrev Next : List Entry → ℕ → List ℕ → Type 0
 Next t i l =
-    ((i ≡ 1) × Fed bs es (plainSet key (1 ∷ []) t .table) l)
-    ⊎ (((i ≡ 2) × Fed bs es (plainSet key (2 ∷ []) t .table) l)
-    ⊎ ((i ≡ 3) × (value (lookup key t) ≡ value (2 ∷ [])) × Fed bs es t l))
+    ((i ≡ 1) × Fed bs es (plainSet key (some (1 ∷ [])) t .table) l)
+    ⊎ (((i ≡ 2) × Fed bs es (plainSet key (some (2 ∷ [])) t .table) l)
+    ⊎ ((i ≡ 3) × (value (lookup key t) ≡ value (some (2 ∷ []))) × Fed bs es t l))
 
 next : (t : List Entry) (i : ℕ) (l : List ℕ) → Fed bs es t (i ∷ l) → Next t i l
 unfolding plain
@@ -120,8 +121,9 @@ not-first i j l ([], m, e, k) d = d .0 (subst (λ x. j ∈ rest x) e k)
 not-first i j l (a ∷ h, m, e, k) d = d .0 (subst (λ x. j ∈ rest x) e (Memᴰ·append-right h (List·Memᴰ·tail k)))
 
 abbrev firstByte : Result → ℕ
-firstByte (value []) = 0
-firstByte (value (b ∷ v)) = b
+firstByte (value none) = 0
+firstByte (value (some [])) = 0
+firstByte (value (some (b ∷ v))) = b
 firstByte (listed l) = 0
 firstByte done = 0
 firstByte mismatch = 0
@@ -202,3 +204,18 @@ the-order = go begun ended
 -- the order of the theorem
 order-of-the-theorem : one-order-for-every-script script 0 .order ≡ 1 ∷ 2 ∷ 3 ∷ []
 order-of-the-theorem = the-order (one-order-for-every-script script 0)
+
+-- ---- the plain table by itself: a value of no bytes is stored and found, and told from an absent key both ways
+
+abbrev marked : List Entry
+marked = entry key [] ∷ []
+
+told-apart :
+    (plain (set key (some [])) [] .table ≡ marked)
+    × (plain (get key) marked .result ≡ value (some []))
+    × (plain (get key) [] .result ≡ value none)
+    × (plain (setif key none none) marked .result ≡ mismatch)
+    × (plain (setif key (some []) none) [] .result ≡ mismatch)
+    × (plain (setif key (some []) none) marked .table ≡ [])
+unfolding plain plainSet lookup alike same stands without
+told-apart = (refl, refl, refl, refl, refl, refl)

@@ -2,6 +2,7 @@
 use mathlib.Core.Path.{_≡_, refl, sym, _∙_, ap}
 use mathlib.Core.List.{List, [], _∷_}
 use mathlib.Core.Bool.{Bool, true, false}
+use mathlib.Core.Option.{Option, none, some}
 use Prim.Native.Nat.{ℕ, suc, _<_}
 use native.Mathlib.Omega.{arith}
 use native.Mathlib.Decide.{decLt}
@@ -13,11 +14,11 @@ use Rattle.entries.specs.declared.Order.the-variants.{Before, Same, After}
 use Rattle.entries.specs.Entries.{Entry, entry, order, valueOf, holds, put, remove, stored, keysOf}
 use Rattle.entries.proofs.Comparison.{order-less, order-more, order-next, order-refl, order-same, before-trans}
 use Rattle.entries.proofs.Changes.{by-order, absent-remove}
-use Rattle.table.specs.Form.{rising, sameBytes}
+use Rattle.table.specs.Form.{rising, sameBytes, sameValue}
 use Rattle.table.proofs.Fitting.{rising-parts, rising-from, rising-tail}
 use Rattle.table.proofs.Changes.{rising-skip, rising-put, rising-remove}
 use Rattle.model.specs.Calls.{Words, get, set, setif, del, keys, value, listed, Effect, setting, effect}
-use Rattle.consistency.specs.Statement.{same, lookup, stands, without, after, place, allKeys, Reply, plainSet, plain}
+use Rattle.consistency.specs.Statement.{same, lookup, alike, stands, without, after, place, allKeys, Reply, plainSet, plain}
 use Rattle.consistency.specs.OneBucket.{left, said}
 
 -- ---- the tests on bytes
@@ -135,10 +136,10 @@ keys-sorted (e ∷ p) = keys-insert e (sorted p) ∙ ap (place (e .key)) (keys-s
 -- ---- what is found in a sorted table
 
 -- what the machine finds under a key: its value, and whether it is there
-abbrev Finds : List ℕ → List Entry → List ℕ → Bool → Type 0
+abbrev Finds : List ℕ → List Entry → Option (List ℕ) → Bool → Type 0
 Finds k t v b = (valueOf k t ≡ v) × (holds k t ≡ b)
 
-find-own : (e : Entry) (t : List Entry) → Finds (e .key) (insert e t) (e .value) true
+find-own : (e : Entry) (t : List Entry) → Finds (e .key) (insert e t) (some (e .value)) true
 unfolding insert valueOf holds
 find-own e [] = rw (valueOf, holds, order-refl (e .key)) (refl, refl)
 find-own e (f ∷ t) =
@@ -289,34 +290,41 @@ abbrev Agree : Reply → Effect → List Entry → Type 0
 Agree r f t = (r .result ≡ said f) × Alike (r .table) (left f t)
 
 set-agrees :
-    (k v : List ℕ) (p : List Entry) → rising (sorted p) ≡ true → Agree (plainSet k v p) (setting k v (sorted p)) (sorted p)
+    (k : List ℕ) (v : Option (List ℕ)) (p : List Entry) → rising (sorted p) ≡ true → Agree (plainSet k v p) (setting k v (sorted p)) (sorted p)
 unfolding plainSet setting stored left said
-set-agrees k [] p r = (refl, record { sorts = sym (remove-sorted k p r); rises = rising-remove k (sorted p) r })
-set-agrees k (b ∷ v) p r =
+set-agrees k none p r = (refl, record { sorts = sym (remove-sorted k p r); rises = rising-remove k (sorted p) r })
+set-agrees k (some v) p r =
     by-test (stands k p) (λ s. rw (plainSet, setting, stored, held, s) (refl, taken)) new
   where
     held : holds k (sorted p) ≡ stands k p
     held = find-sorted k p .1
 
-    taken : Alike (entry k (b ∷ v) ∷ without k p) (put k (b ∷ v) (sorted p))
-    taken = record { sorts = sym (put-sorted k (b ∷ v) p r); rises = rising-put k (b ∷ v) (sorted p) r }
+    taken : Alike (entry k v ∷ without k p) (put k v (sorted p))
+    taken = record { sorts = sym (put-sorted k v p r); rises = rising-put k v (sorted p) r }
 
-    new : stands k p ≡ false → Agree (plainSet k (b ∷ v) p) (setting k (b ∷ v) (sorted p)) (sorted p)
+    new : stands k p ≡ false → Agree (plainSet k (some v) p) (setting k (some v) (sorted p)) (sorted p)
     new s =
         by-test (ltb (length p) 4)
         (λ l. rw (plainSet, setting, stored, held, s, length-sorted p, l) (refl, taken))
         (λ l. rw (plainSet, setting, stored, held, s, length-sorted p, l) (refl, record { sorts = refl; rises = r }))
 
+alike-same : (u v : Option (List ℕ)) → alike u v ≡ sameValue u v
+unfolding alike sameValue sameBytes
+alike-same none none = refl
+alike-same none (some v) = refl
+alike-same (some u) none = refl
+alike-same (some u) (some v) = tests u v .0
+
 agrees : (w : Words) (p : List Entry) → rising (sorted p) ≡ true → Agree (plain w p) (effect w (sorted p)) (sorted p)
-unfolding plain effect sameBytes left said
+unfolding plain effect left said
 agrees (get k) p r = (ap value (sym (find-sorted k p .0)), record { sorts = refl; rises = r })
 agrees (set k v) p r = set-agrees k v p r
 agrees (setif k e v) p r =
-    let test = tests (lookup k p) e .0 in
-    by-test (same (lookup k p) e)
-    (λ s. rw (plain, effect, find-sorted k p .0, sameBytes, ← test, s) (set-agrees k v p r))
-    (λ s. rw (plain, effect, find-sorted k p .0, sameBytes, ← test, s) (refl, record { sorts = refl; rises = r }))
-agrees (del k) p r = set-agrees k [] p r
+    let test = alike-same (lookup k p) e in
+    by-test (alike (lookup k p) e)
+    (λ s. rw (plain, effect, find-sorted k p .0, ← test, s) (set-agrees k v p r))
+    (λ s. rw (plain, effect, find-sorted k p .0, ← test, s) (refl, record { sorts = refl; rises = r }))
+agrees (del k) p r = set-agrees k none p r
 agrees (keys b) p r = (ap listed (sym (keys-sorted p)), record { sorts = refl; rises = r })
 
 pub plain-agrees :

@@ -23,7 +23,8 @@ infix 4 _∈_
 abbrev pub _∈_ : {A : Type 0} → A → List A → Type 0
 a ∈ l = List·Memᴰ a l
 
--- ---- the plain table (document 01, 'The plain table of demand 3'): entries in any order, one for each key, at first none
+-- ---- the plain table (document 01, 'The plain table of demand 3', with document 02's Change 2): entries in any order, one for each
+-- key, at first none
 
 -- whether two lists have the same bytes
 unfoldable pub same : List ℕ → List ℕ → Bool
@@ -32,10 +33,17 @@ same [] (b ∷ m) = false
 same (a ∷ l) [] = false
 same (a ∷ l) (b ∷ m) = eqb a b && same l m
 
--- K's value, no bytes where K is absent
-unfoldable pub lookup : List ℕ → List Entry → List ℕ
-lookup k [] = []
-lookup k (e ∷ t) = elim (same k (e .key)) [ true ↦ e .value | false ↦ lookup k t ]
+-- K's value, none where K is absent
+unfoldable pub lookup : List ℕ → List Entry → Option (List ℕ)
+lookup k [] = none
+lookup k (e ∷ t) = elim (same k (e .key)) [ true ↦ some (e .value) | false ↦ lookup k t ]
+
+-- whether two values are the same; an absent one is the same as an absent one alone
+unfoldable pub alike : Option (List ℕ) → Option (List ℕ) → Bool
+alike none none = true
+alike none (some v) = false
+alike (some u) none = false
+alike (some u) (some v) = same u v
 
 -- whether K stands there
 unfoldable pub stands : List ℕ → List Entry → Bool
@@ -70,12 +78,12 @@ pub record Reply : Type 0 where
 abbrev pub reply : List Entry → Result → Reply
 reply t r = record { table = t; result = r }
 
--- `set K V`: no bytes take K away; K has the value if K stands there or fewer than four keys do; else the table stays
-unfoldable pub plainSet : List ℕ → List ℕ → List Entry → Reply
-plainSet k [] t = reply (without k t) done
-plainSet k (b ∷ v) t =
+-- `set K V`: an absent value takes K away; K has the value if K stands there or fewer than four keys do; else the table stays
+unfoldable pub plainSet : List ℕ → Option (List ℕ) → List Entry → Reply
+plainSet k none t = reply (without k t) done
+plainSet k (some v) t =
     elim (stands k t || ltb (length t) 4) [
-      | true ↦ reply (entry k (b ∷ v) ∷ without k t) done
+      | true ↦ reply (entry k v ∷ without k t) done
       | false ↦ reply t full
     ]
 
@@ -83,8 +91,8 @@ unfoldable pub plain : Words → List Entry → Reply
 plain (get k) t = reply t (value (lookup k t))
 plain (keys b) t = reply t (listed (allKeys t))
 plain (set k v) t = plainSet k v t
-plain (setif k e v) t = elim (same (lookup k t) e) [ true ↦ plainSet k v t | false ↦ reply t mismatch ]
-plain (del k) t = plainSet k [] t
+plain (setif k e v) t = elim (alike (lookup k t) e) [ true ↦ plainSet k v t | false ↦ reply t mismatch ]
+plain (del k) t = plainSet k none t
 
 -- ---- what is read off a script
 

@@ -19,6 +19,6 @@ by-room true u = refl
 by-room false u = refl
 
 -- `set K V` by whether there was room for the change
-pub setting-of : {k v : List ℕ} {t : Decoded} {r : Stored} → Storing k v t r → setting k v (tableIn t) ≡ elim (r .full) [ true ↦ answers full | false ↦ writes (tableIn (r .table)) ]
+pub setting-of : {k : List ℕ} {v : Option (List ℕ)} {t : Decoded} {r : Stored} → Storing k v t r → setting k v (tableIn t) ≡ elim (r .full) [ true ↦ answers full | false ↦ writes (tableIn (r .table)) ]
 unfolding setting storedIn
 setting-of {k} {v} {t} {r} s = ap settled (sym (s .is)) ∙ by-room (r .full) (tableIn (r .table))

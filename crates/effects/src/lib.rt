@@ -1,17 +1,19 @@
 // What a call does to its bucket's table.
 use entries::Decoded;
+use entries::Item;
 use entries::Key;
 use entries::Value;
 use entries::keys::value_length;
+use entries::slots::absent;
+use entries::slots::empty_value;
 use entries::slots::find;
-use entries::slots::no_value;
 use entries::slots::store;
 use server::Effect;
 use server::Words;
 ghost use mathlib.Core.Path.{_≡_};
 ghost use Prim.Native.Nat.{ℕ};
-ghost use Rattle.entries.specs.Decoded.{keyBytes, valueBytes, tableIn};
-ghost use Rattle.table.specs.Form.{sameBytes};
+ghost use Rattle.entries.specs.Decoded.{keyBytes, valueBytes, itemIn, tableIn};
+ghost use Rattle.table.specs.Form.{sameBytes, sameValue};
 ghost use Rattle.model.specs.Calls as calls;
 ghost use Rattle.model.specs.Calls.{effect, setting};
 ghost use Rattle.server.specs.Views.{wordsIn, effectIn};
@@ -40,13 +42,34 @@ pub fn same_value(a: Value, b: Value) -> bool
     if n < m { false } else { true }
 }
 
+// Whether two values are the same; an absent one is the same as an absent one alone.
+fn same_item(a: Item, b: Item) -> bool
+    ensures { λ r. ⌜ r ≡ sameValue (itemIn a) (itemIn b) ⌝ }
+{
+    if a.there {
+        if b.there {
+            return same_value(a.value, b.value);
+        }
+        return false;
+    }
+    if b.there { false } else { true }
+}
+
 // `get K`
 fn getting(k: Key, t: Decoded) -> Effect
     ensures { λ r. ⌜ effectIn r ≡ effect (calls.get (keyBytes k)) (tableIn t) ⌝ }
 {
-    let value = find(t, k);
+    let found = find(t, k);
+    let value = found.value;
+    if found.there {
+        return Effect {
+            result: 1,
+            value,
+            table: t,
+        };
+    }
     Effect {
-        result: 1,
+        result: 8,
         value,
         table: t,
     }
@@ -56,7 +79,7 @@ fn getting(k: Key, t: Decoded) -> Effect
 fn listing(t: Decoded) -> Effect
     ensures { λ r. ⌜ ((b : ℕ) → effectIn r ≡ effect (calls.keys b) (tableIn t)) ⌝ }
 {
-    let value = no_value();
+    let value = empty_value();
     Effect {
         result: 2,
         value,
@@ -65,10 +88,10 @@ fn listing(t: Decoded) -> Effect
 }
 
 // `set K V`: the new table is to be written, or there is no room.
-pub fn setting(k: Key, v: Value, t: Decoded) -> Effect
-    ensures { λ r. ⌜ effectIn r ≡ setting (keyBytes k) (valueBytes v) (tableIn t) ⌝ }
+pub fn setting(k: Key, v: Item, t: Decoded) -> Effect
+    ensures { λ r. ⌜ effectIn r ≡ setting (keyBytes k) (itemIn v) (tableIn t) ⌝ }
 {
-    let value = no_value();
+    let value = empty_value();
     let s = store(t, k, v);
     let table = s.table;
     if s.full {
@@ -86,14 +109,14 @@ pub fn setting(k: Key, v: Value, t: Decoded) -> Effect
 }
 
 // `setif K E V`: the present value is looked at before there is found to be no room.
-fn setting_if(k: Key, e: Value, v: Value, t: Decoded) -> Effect
-    ensures { λ r. ⌜ effectIn r ≡ effect (calls.setif (keyBytes k) (valueBytes e) (valueBytes v)) (tableIn t) ⌝ }
+fn setting_if(k: Key, e: Item, v: Item, t: Decoded) -> Effect
+    ensures { λ r. ⌜ effectIn r ≡ effect (calls.setif (keyBytes k) (itemIn e) (itemIn v)) (tableIn t) ⌝ }
 {
     let present = find(t, k);
-    if same_value(present, e) {
+    if same_item(present, e) {
         return setting(k, v, t);
     }
-    let value = no_value();
+    let value = empty_value();
     Effect {
         result: 4,
         value,
@@ -105,7 +128,7 @@ fn setting_if(k: Key, e: Value, v: Value, t: Decoded) -> Effect
 fn deleting(k: Key, t: Decoded) -> Effect
     ensures { λ r. ⌜ effectIn r ≡ effect (calls.del (keyBytes k)) (tableIn t) ⌝ }
 {
-    let nothing = no_value();
+    let nothing = absent();
     setting(k, nothing, t)
 }
 

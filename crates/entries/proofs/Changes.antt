@@ -51,23 +51,23 @@ length-remove k (e ∷ t) =
 -- ---- when a key is stored, and when not
 
 -- a key that is held is never refused
-pub held-stored : (most : ℕ) (k : List ℕ) (b : ℕ) (v : List ℕ) (t : List Entry) → holds k t ≡ true → stored most k (b ∷ v) t ≡ some (put k (b ∷ v) t)
+pub held-stored : (most : ℕ) (k v : List ℕ) (t : List Entry) → holds k t ≡ true → stored most k (some v) t ≡ some (put k v t)
 unfolding stored
-held-stored most k b v t h = rw (stored, h)
+held-stored most k v t h = rw (stored, h)
 
 -- nor is one for which there is room, such as a fourth
-pub room-stored : (most : ℕ) (k : List ℕ) (b : ℕ) (v : List ℕ) (t : List Entry) → length t < most → stored most k (b ∷ v) t ≡ some (put k (b ∷ v) t)
+pub room-stored : (most : ℕ) (k v : List ℕ) (t : List Entry) → length t < most → stored most k (some v) t ≡ some (put k v t)
 unfolding stored
-room-stored most k b v t h = go (holds k t) refl
+room-stored most k v t h = go (holds k t) refl
   where
-    go : (p : Bool) → holds k t ≡ p → stored most k (b ∷ v) t ≡ some (put k (b ∷ v) t)
+    go : (p : Bool) → holds k t ≡ p → stored most k (some v) t ≡ some (put k v t)
     go true p = rw (stored, p)
     go false p = rw (stored, p, lt-ltb _ _ h)
 
 -- a new one is where there is none, such as a fifth
-pub full-refused : (most : ℕ) (k : List ℕ) (b : ℕ) (v : List ℕ) (t : List Entry) → holds k t ≡ false → most ≤ length t → stored most k (b ∷ v) t ≡ none
+pub full-refused : (most : ℕ) (k v : List ℕ) (t : List Entry) → holds k t ≡ false → most ≤ length t → stored most k (some v) t ≡ none
 unfolding stored
-full-refused most k b v t h n = rw (stored, h, le-ltb _ _ n)
+full-refused most k v t h n = rw (stored, h, le-ltb _ _ n)
 
 -- ---- a key's value afterwards
 
@@ -80,7 +80,7 @@ absent-remove k (e ∷ t) h =
     (λ o. let z : _≡_ {A = ℕ} 0 1 = cc (rw (holds, o) at h) in absurd (omega arith))
     (λ o. rw (remove, o, ih (rw (holds, o) at h)))
 
-pub absent-value : (k : List ℕ) (t : List Entry) → holds k t ≡ false → valueOf k t ≡ []
+pub absent-value : (k : List ℕ) (t : List Entry) → holds k t ≡ false → valueOf k t ≡ none
 unfolding holds valueOf
 absent-value k [] h = refl
 absent-value k (e ∷ t) h =
@@ -89,7 +89,7 @@ absent-value k (e ∷ t) h =
     (λ o. let z : _≡_ {A = ℕ} 0 1 = cc (rw (holds, o) at h) in absurd (omega arith))
     (λ o. rw (valueOf, o) (ih (rw (holds, o) at h)))
 
-pub put-value : (k v : List ℕ) (t : List Entry) → valueOf k (put k v t) ≡ v
+pub put-value : (k v : List ℕ) (t : List Entry) → valueOf k (put k v t) ≡ some v
 unfolding put valueOf
 put-value k v [] = rw (valueOf, order-refl k)
 put-value k v (e ∷ t) =

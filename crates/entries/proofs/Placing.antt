@@ -2,6 +2,7 @@
 use mathlib.Core.Path.{_≡_, refl, sym, ap, _∙_}
 use mathlib.Core.List.{List, [], _∷_, _++_}
 use mathlib.Core.Bool.{Bool, true, false}
+use mathlib.Core.Option.{some}
 use Prim.Native.Nat.{ℕ, suc, _≤_, _<_, _+_}
 use native.Mathlib.Omega.{arith}
 use lib.ListN.{length, take, drop, getD, set, drop-of-length-le}
@@ -57,7 +58,7 @@ held-remove k (e ∷ t) h =
     by-order k (e .key) (λ o. clash h (rw (holds, o))) (λ o. rw (remove, leading, o))
     (λ o. rw (remove, leading, o) (ap (λ r. e ∷ r) (ih (rw (holds, o) at h))))
 
-pub held-value : (k : List ℕ) (t : List Entry) (d : Entry) → holds k t ≡ true → valueOf k t ≡ getD t (leading k t) d .value
+pub held-value : (k : List ℕ) (t : List Entry) (d : Entry) → holds k t ≡ true → valueOf k t ≡ some (getD t (leading k t) d .value)
 unfolding holds valueOf leading
 held-value k [] d h = clash h refl
 held-value k (e ∷ t) d h =

@@ -1,6 +1,7 @@
 -- What is known of a decoded key, value or table from its length.
-use mathlib.Core.Path.{_≡_, _∙_}
+use mathlib.Core.Path.{_≡_, refl, _∙_}
 use mathlib.Core.List.{List, _∷_, map}
+use mathlib.Core.Option.{none}
 use Prim.Native.Nat.{ℕ, _≤_, _<_, _+_}
 use native.Mathlib.Omega.{arith}
 use native.Mathlib.Numerals.{add-one}
@@ -11,7 +12,7 @@ use Rattle.entries.specs.declared.Value.{Value}
 use Rattle.entries.specs.declared.Slot.{Slot}
 use Rattle.entries.specs.declared.Decoded.{Decoded}
 use Rattle.entries.specs.Entries.{Entry}
-use Rattle.entries.specs.Decoded.{Cut, Counted, keyBytes, valueBytes, entryIn, tableIn, blank}
+use Rattle.entries.specs.Decoded.{Cut, Counted, keyBytes, valueBytes, itemIn, absentItem, entryIn, tableIn, blank}
 use Rattle.entries.proofs.Lists.{take-as-many, as-many-within}
 
 -- as many of its bytes as a key is long are the key, and it has as many
@@ -30,6 +31,10 @@ value-whole v {top} {n} c = take-as-many n (v .len) (v .bytes) (c .is)
 pub value-within : (v : Value) {top n : ℕ} → Cut top (valueBytes v) n → n ≤ length (v .bytes)
 unfolding valueBytes
 value-within v {top} {n} c = as-many-within n (v .len) (v .bytes) (c .is)
+
+pub absent-none : itemIn absentItem ≡ none
+unfolding itemIn
+absent-none = refl
 
 -- the entries of the first n slots
 abbrev pub entriesIn : ℕ → List Slot → List Entry

@@ -1,10 +1,13 @@
 -- What decoded keys, values and tables stand for, whatever numbers they hold: a length or a count above the room counts as all of it.
 use mathlib.Core.Path.{_≡_}
 use mathlib.Core.List.{List, [], map}
+use mathlib.Core.Bool.{true, false}
+use mathlib.Core.Option.{Option, none, some}
 use Prim.Native.Nat.{ℕ, _≤_}
-use lib.ListN.{length, take}
+use lib.ListN.{length, take, replicate}
 use Rattle.entries.specs.declared.Key.{Key}
 use Rattle.entries.specs.declared.Value.{Value}
+use Rattle.entries.specs.declared.Item.{Item}
 use Rattle.entries.specs.declared.Slot.{Slot}
 use Rattle.entries.specs.declared.Decoded.{Decoded}
 use Rattle.entries.specs.Entries.{Entry, entry}
@@ -14,6 +17,14 @@ keyBytes k = take (k .len) (k .bytes)
 
 unfoldable pub valueBytes : Value → List ℕ
 valueBytes v = take (v .len) (v .bytes)
+
+-- an absent value is none, whatever its bytes
+unfoldable pub itemIn : Item → Option (List ℕ)
+itemIn i = elim (i .there) [ true ↦ some (valueBytes (i .value)) | false ↦ none ]
+
+-- the absent value that the code makes
+abbrev pub absentItem : Item
+absentItem = record { value = record { bytes = replicate 16 0; len = 0 }; there = false }
 
 unfoldable pub entryIn : Slot → Entry
 entryIn s = entry (keyBytes (s .key)) (valueBytes (s .value))

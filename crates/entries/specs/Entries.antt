@@ -1,5 +1,5 @@
 -- A table: keys with their values, in rising order of key bytes. Keys and values are lists of bytes.
--- A value of no bytes means that the key is absent (document 01, 'Bucket bytes'), so `stored` puts none into a table.
+-- A value may have no bytes (document 02, Change 2): `none` means that the key is absent.
 use mathlib.Core.List.{List, [], _∷_, map}
 use mathlib.Core.Bool.{Bool, true, false}
 use mathlib.Core.Option.{Option, none, some}
@@ -23,10 +23,10 @@ order [] (b ∷ m) = Before
 order (a ∷ l) [] = After
 order (a ∷ l) (b ∷ m) = elim (ltb a b) [ true ↦ Before | false ↦ elim (ltb b a) [ true ↦ After | false ↦ order l m ] ]
 
--- the value of a key, no bytes where it is absent; the search ends at the first key that is not before it
-unfoldable pub valueOf : List ℕ → List Entry → List ℕ
-valueOf k [] = []
-valueOf k (e ∷ t) = elim (order k (e .key)) [ Before ↦ [] | Same ↦ e .value | After ↦ valueOf k t ]
+-- the value of a key, none where it is absent; the search ends at the first key that is not before it
+unfoldable pub valueOf : List ℕ → List Entry → Option (List ℕ)
+valueOf k [] = none
+valueOf k (e ∷ t) = elim (order k (e .key)) [ Before ↦ none | Same ↦ some (e .value) | After ↦ valueOf k t ]
 
 -- whether a key stands in the table
 unfoldable pub holds : List ℕ → List Entry → Bool
@@ -43,15 +43,15 @@ unfoldable pub remove : List ℕ → List Entry → List Entry
 remove k [] = []
 remove k (e ∷ t) = elim (order k (e .key)) [ Before ↦ e ∷ t | Same ↦ t | After ↦ e ∷ remove k t ]
 
--- `set K V` of document 01, with at most `most` keys: no bytes take the key away; a new key where `most`
--- others stand is none, which is answered `full`
-unfoldable pub stored : ℕ → List ℕ → List ℕ → List Entry → Option (List Entry)
-stored most k [] t = some (remove k t)
-stored most k (b ∷ v) t =
+-- `set K V`, with at most `most` keys: an absent value takes the key away; a new key where `most` others stand gives none,
+-- which is answered `full`
+unfoldable pub stored : ℕ → List ℕ → Option (List ℕ) → List Entry → Option (List Entry)
+stored most k none t = some (remove k t)
+stored most k (some v) t =
     elim (holds k t) [
-      | true ↦ some (put k (b ∷ v) t)
+      | true ↦ some (put k v t)
       | false ↦
-          elim (ltb (length t) most) [ true ↦ some (put k (b ∷ v) t) | false ↦ none ]
+          elim (ltb (length t) most) [ true ↦ some (put k v t) | false ↦ none ]
     ]
 
 -- all keys, rising

@@ -26,7 +26,7 @@ pub record Placed (k : List ℕ) (t : List Entry) (p : Place) : Type 0 where
 unfoldable pub storedIn : Stored → Option (List Entry)
 storedIn r = elim (r .full) [ true ↦ none | false ↦ some (tableIn (r .table)) ]
 
--- `set` of document 01 on a decoded table; where there is no room, the table is the one that was passed
-pub record Storing (k v : List ℕ) (t : Decoded) (r : Stored) : Type 0 where
+-- `set K V` on a decoded table; where there is no room, the table is the one that was passed
+pub record Storing (k : List ℕ) (v : Option (List ℕ)) (t : Decoded) (r : Stored) : Type 0 where
   pub is : storedIn r ≡ stored 4 k v (tableIn t)
   pub kept : r .full ≡ true → r .table ≡ t

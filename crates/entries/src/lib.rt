@@ -21,6 +21,12 @@ pub struct Value {
     pub len: usize,
 }
 
+// A value, or its absence: `value` counts where `there` holds. A value that is there may have no bytes.
+pub struct Item {
+    pub value: Value,
+    pub there: bool,
+}
+
 // A key with its value.
 pub struct Slot {
     pub key: Key,

@@ -1,5 +1,6 @@
 // Decoded tables by value: a key is looked up, stored and removed.
 use crate::Decoded;
+use crate::Item;
 use crate::Key;
 use crate::Order;
 use crate::Place;
@@ -8,13 +9,13 @@ use crate::Stored;
 use crate::Value;
 use crate::keys::at_most;
 use crate::keys::compare;
-use crate::keys::value_length;
 ghost use mathlib.Core.Path.{_≡_};
 ghost use mathlib.Core.List.{_++_, _∷_, []};
-ghost use Prim.Native.Nat.{_≤_, _<_, _+_};
-ghost use lib.ListN.{length, take, drop, set};
-ghost use Rattle.entries.specs.Entries.{valueOf, stored, remove};
-ghost use Rattle.entries.specs.Decoded.{Counted, keyBytes, valueBytes, tableIn};
+ghost use mathlib.Core.Option.{some};
+ghost use Prim.Native.Nat.{_<_, _+_};
+ghost use lib.ListN.{take, drop, set};
+ghost use Rattle.entries.specs.Entries.{valueOf, remove};
+ghost use Rattle.entries.specs.Decoded.{Counted, keyBytes, valueBytes, itemIn, absentItem, tableIn};
 ghost use Rattle.entries.specs.Places.{Placed, Storing};
 
 // How many slots of a table count: all four where its count says more.
@@ -47,25 +48,40 @@ pub fn place(t: Decoded, k: Key) -> Place
 }
 
 // A value of no bytes.
-pub fn no_value() -> Value
+pub fn empty_value() -> Value
     ensures { λ r. ⌜ valueBytes r ≡ [] ⌝ }
 {
     let b = [0u8; 16];
     Value { bytes: b, len: 0 }
 }
 
-// The value of k, of no bytes where k is absent.
-pub fn find(t: Decoded, k: Key) -> Value
-    ensures { λ r. ⌜ valueBytes r ≡ valueOf (keyBytes k) (tableIn t) ⌝ }
+// An absent value.
+pub fn absent() -> Item
+    ensures { λ r. ⌜ r ≡ absentItem ⌝ }
+{
+    let value = Value {
+        bytes: [0u8; 16],
+        len: 0,
+    };
+    Item {
+        value,
+        there: false,
+    }
+}
+
+// The value of k, none where k is absent.
+pub fn find(t: Decoded, k: Key) -> Item
+    ensures { λ r. ⌜ itemIn r ≡ valueOf (keyBytes k) (tableIn t) ⌝ }
 {
     let p = place(t, k);
     if p.held {
         let at = p.at;
         let slots = t.slots;
         let s = slots[at];
-        return s.value;
+        let value = s.value;
+        return Item { there: true, value };
     }
-    no_value()
+    absent()
 }
 
 // The slots with s at p; those from p on move up by one, and the last falls out.
@@ -126,24 +142,23 @@ pub fn remove(t: Decoded, k: Key) -> Decoded
     t
 }
 
-// The table in which k has the value v; of no bytes, k is taken away. A new key is refused where four others stand.
-pub fn store(t: Decoded, k: Key, v: Value) -> Stored
-    ensures { λ r. ⌜ Storing (keyBytes k) (valueBytes v) t r ⌝ }
+// The table in which k has the value v; an absent one takes k away. A new key is refused where four others stand.
+pub fn store(t: Decoded, k: Key, v: Item) -> Stored
+    ensures { λ r. ⌜ Storing (keyBytes k) (itemIn v) t r ⌝ }
 {
-    if value_length(v) == 0 {
-        let without = remove(t, k);
-        return Stored {
-            full: false,
-            table: without,
-        };
+    if v.there {
+        return put(t, k, v.value);
     }
-    put(t, k, v)
+    let without = remove(t, k);
+    Stored {
+        full: false,
+        table: without,
+    }
 }
 
-// The same, for a value of one byte or more.
+// The same, for a value that is there. It may have no bytes.
 fn put(t: Decoded, k: Key, v: Value) -> Stored
-    requires { ⌜ 1 ≤ length (valueBytes v) ⌝ }
-    ensures { λ r. ⌜ Storing (keyBytes k) (valueBytes v) t r ⌝ }
+    ensures { λ r. ⌜ Storing (keyBytes k) (some (valueBytes v)) t r ⌝ }
 {
     let p = place(t, k);
     let n = count_of(t);

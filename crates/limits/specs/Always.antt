@@ -23,7 +23,7 @@ use Rattle.model.specs.Run.{step, stateAfter, stateAfterUpTo}
 use Rattle.limits.specs.Lists.{All, nil, cons, all-head, all-tail, all-imply, all-append, all-take, all-drop, all-set, all-at, all-replicate, map-replicate}
 use Rattle.limits.specs.Refusals.{ComesOut, refused-by, founded, took, comes-out}
 use Rattle.limits.specs.Tally.{none-applies, message-there, work-counts}
-use Rattle.limits.specs.Measures.{limitsAfter, one-above-within, KeySized, WordsSized, idle, ServerWithin, MessageWithin, AnswersWithin, endings, ReactionWithin, ClusterWithin, Grows, next-line, server-grows, message-grows}
+use Rattle.limits.specs.Measures.{limitsAfter, one-above-within, KeySized, ValueSized, WordsSized, idle, ServerWithin, MessageWithin, AnswersWithin, endings, ReactionWithin, ClusterWithin, Grows, next-line, server-grows, message-grows}
 use Rattle.limits.specs.Tables.{fresh-copy-within}
 use Rattle.limits.specs.Rules.{role-elected, cease-within, elect-within, beginCall-within, handle-within}
 
@@ -40,16 +40,21 @@ key-sized k e =
     let (x, y) = either-false _ _ e in
     (omega (arith, eqb-false (length k) 0 x), ltb-false _ _ y)
 
+value-sized : (v : Option (List ℕ)) → badValue v ≡ false → ValueSized v
+unfolding badValue
+value-sized none e = tt
+value-sized (some v) e = ltb-false _ _ e
+
 words-sized : (w : Words) → badWords w ≡ false → WordsSized w
 unfolding badWords badValue
 words-sized (get k) e = key-sized k e
 words-sized (set k v) e =
     let (x, y) = either-false _ _ e in
-    (key-sized k x, ltb-false _ _ y)
+    (key-sized k x, value-sized v y)
 words-sized (setif k x v) e =
     let (y, r) = either-false _ _ e in
     let (z, u) = either-false _ _ r in
-    (key-sized k y, ltb-false _ _ z, ltb-false _ _ u)
+    (key-sized k y, value-sized x z, value-sized v u)
 words-sized (del k) e = key-sized k e
 words-sized (keys i) e = tt
 

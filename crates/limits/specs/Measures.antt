@@ -9,7 +9,7 @@ use Prim.Native.Nat.{ℕ, _+_, _-_, _*_, _≤_, _<_, min}
 use native.Mathlib.Omega.{arith}
 use lib.ListN.{length}
 use Rattle.entries.specs.Entries.{Entry}
-use Rattle.table.specs.Form.{fits}
+use Rattle.table.specs.Form.{ValueAtMost, fits}
 use Rattle.model.specs.Measures.{maxEntries, maxKeyBytes, maxValueBytes, maxElection}
 use Rattle.model.specs.Calls.{Words, get, set, setif, del, keys, bucketFor, Result, value, listed, done, mismatch, full, notdone, unknown, Answer}
 use Rattle.model.specs.Cluster.{Copy, Stored, Role, follower, candidate, leading, Purpose, recoveryRead, recoveryWrite, check, ownWrite, Round, Call, Volatile, Server, Body, pleaseVote, ackVote, nackVote, replicaWrite, ackWrite, nackWrite, replicaRead, ackRead, nackRead, Message, Cluster, roundAt, callAt}
@@ -34,7 +34,7 @@ one-above-within k calls e h l top = omega arith
 
 -- ---- copies. `q` is the number of rounds that may still be made in the same line: at rest it is 0
 
--- a table with a bucket form: at most 4 rising keys of 1 to 8 bytes, with values of 1 to 16
+-- a table with a bucket form: at most 4 rising keys of 1 to 8 bytes, with values of at most 16
 abbrev pub Fits : List Entry → Type 0
 Fits t = fits maxEntries maxValueBytes t ≡ true
 
@@ -58,8 +58,8 @@ pub record StoredWithin (n b : ℕ) (l : Limits) (q : ℕ) (st : Stored) : Type 
 abbrev pub KeySized : List ℕ → Type 0
 KeySized k = (1 ≤ length k) × (length k ≤ maxKeyBytes)
 
-abbrev pub ValueSized : List ℕ → Type 0
-ValueSized v = length v ≤ maxValueBytes
+abbrev pub ValueSized : Option (List ℕ) → Type 0
+ValueSized v = ValueAtMost maxValueBytes v
 
 abbrev pub WordsSized : Words → Type 0
 WordsSized (get k) = KeySized k

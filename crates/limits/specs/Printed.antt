@@ -10,18 +10,18 @@ use native.Mathlib.Decide.{decLt}
 use lib.Dec.{ltb}
 use lib.ListN.{length, take, length-append, length-take}
 use borrow.Author.Tests.{ltb-false}
-use Rattle.model.specs.Measures.{maxBuckets, maxKeyBytes, maxValueBytes, maxMessages, maxAccepted, maxLines}
+use Rattle.model.specs.Measures.{maxBuckets, maxValueBytes, maxMessages, maxAccepted, maxLines}
 use Rattle.model.specs.Calls.{Result, value, listed, done, mismatch, full, notdone, unknown, Answer}
 use Rattle.model.specs.Cluster.{Cluster}
 use Rattle.model.specs.Lines.{Line, State, initialState, Tally, refusal, LineResult, work}
 use Rattle.model.specs.Text.{bytes}
-use Rattle.model.specs.Print.{decimalInto, decimal, hexPairs, hexadecimal, keyList, keysText, wordOf, dataOf, answerText, answerTexts, outcomeText, tallyText}
+use Rattle.model.specs.Print.{decimalInto, decimal, hexPairs, valueText, keyList, keysText, wordOf, dataOf, answerText, answerTexts, outcomeText, tallyText}
 use Rattle.model.specs.Parse.{parse}
 use Rattle.model.specs.Run.{step, stateAfter, linesFrom, linesOf, printedFrom, run}
 use Rattle.limits.specs.Lists.{All, nil, cons}
 use Rattle.limits.specs.Refusals.{ComesOut, refused-by, founded, took, comes-out}
 use Rattle.limits.specs.Tally.{Tallied, line-keeps-tally, tallied-always, tallied-nothing}
-use Rattle.limits.specs.Measures.{Limits, KeySized, ResultWithin, AnswerWithin, Ending, AnswersWithin, single, endings}
+use Rattle.limits.specs.Measures.{Limits, KeySized, ValueSized, ResultWithin, AnswerWithin, Ending, AnswersWithin, single, endings}
 use Rattle.limits.specs.Always.{Measured, room-for-line, line-taken, line-keeps-measures, within-always}
 
 -- eight answers of 17 bytes
@@ -59,10 +59,11 @@ unfolding hexPairs
 hex-length [] = omega arith
 hex-length (x ∷ l) = omega (arith, hex-length l)
 
-hexadecimal-length : (m : ℕ) (l : List ℕ) → length l ≤ m → 1 ≤ m → length (hexadecimal l) ≤ 2 * m
-unfolding hexadecimal bytes
-hexadecimal-length m [] h k = omega arith
-hexadecimal-length m (x ∷ l) h k = omega (arith, hex-length (x ∷ l))
+value-length : (v : Option (List ℕ)) → ValueSized v → length (valueText v) ≤ 2 * maxValueBytes
+unfolding valueText bytes
+value-length none h = omega arith
+value-length (some []) h = omega arith
+value-length (some (x ∷ l)) h = omega (arith, hex-length (x ∷ l))
 
 -- ---- answers
 
@@ -70,12 +71,12 @@ keyList-length : (l : List (List ℕ)) → All KeySized l → length (keyList l)
 unfolding keyList bytes
 keyList-length [] nil = omega arith
 keyList-length (k ∷ l) (cons p h) =
-    simp length-append (omega (arith, hexadecimal-length maxKeyBytes k (p .1) (omega arith), keyList-length l h))
+    simp length-append (omega (arith, hex-length k, p .1, keyList-length l h))
 
 -- the result's word and its data
 result-length : (r : Result) → ResultWithin r → length (wordOf r) + length (dataOf r) ≤ 72
 unfolding wordOf dataOf keysText bytes
-result-length (value v) h = simp length-append (omega (arith, hexadecimal-length maxValueBytes v h (omega arith)))
+result-length (value v) h = simp length-append (omega (arith, value-length v h))
 result-length (listed []) h = omega arith
 result-length (listed (k ∷ l)) h = omega (arith, keyList-length (k ∷ l) (h .1), h .0)
 result-length done h = omega arith

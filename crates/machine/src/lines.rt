@@ -5,8 +5,9 @@ use crate::fresh::create;
 use crate::handing::hand_line;
 use crate::numbers::standing;
 use crate::numbers::within;
+use entries::Item;
 use entries::Key;
-use entries::Value;
+use entries::slots::absent;
 use memory::Counts;
 use parse::Kind;
 use parse::Line;
@@ -24,7 +25,7 @@ use runs::Report;
 use server::Words;
 ghost use mathlib.Core.Path.{_≡_};
 ghost use Rattle.views.specs.Memory.{memory};
-ghost use Rattle.plans.specs.Plans.{noKey, noValue};
+ghost use Rattle.plans.specs.Plans.{noKey};
 ghost use Rattle.plans.specs.Arrays.{Measured};
 ghost use Rattle.runs.specs.Runs.{wordsWith, wordsOf};
 ghost use Rattle.machine.specs.Contracts.{LinePlanned, Clustered, RanPlan, RanLine, sortOf};
@@ -38,16 +39,7 @@ fn no_key() -> Key
     }
 }
 
-fn no_value() -> Value
-    ensures { λ r. ⌜ r ≡ noValue ⌝ }
-{
-    Value {
-        bytes: [0u8; 16],
-        len: 0,
-    }
-}
-
-fn words(kind: u32, bucket: u32, key: Key, expected: Value, value: Value) -> Words
+fn words(kind: u32, bucket: u32, key: Key, expected: Item, value: Item) -> Words
     ensures { λ r. ⌜ r ≡ wordsWith kind bucket key expected value ⌝ }
 {
     Words {
@@ -65,9 +57,17 @@ fn words_of(line: Line) -> Words
 {
     let kind = line.kind;
     let key = line.key;
-    let expected = line.expected;
-    let value = line.value;
-    let none = no_value();
+    let e = line.expected;
+    let v = line.value;
+    let expected = Item {
+        value: e,
+        there: line.has_expected,
+    };
+    let value = Item {
+        value: v,
+        there: line.has_value,
+    };
+    let none = absent();
     match kind {
         Kind::Malformed => no_words(),
         Kind::Cluster => no_words(),

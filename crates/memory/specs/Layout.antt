@@ -3,12 +3,15 @@
 -- `..At` is the record of block k and `put..` the array with that record replaced. `..Fields` and `..Stores` are the same, written out.
 use mathlib.Core.Path.{_≡_}
 use mathlib.Core.List.{List, [], _∷_, _++_}
-use Prim.Native.Nat.{ℕ, _+_, _*_, _≤_}
+use mathlib.Core.Bool.{true, false}
+use Prim.Native.Nat.{ℕ, _+_, _-_, _*_}
+use lib.Dec.{ltb}
 use lib.ListN.{length, getD, take, drop, set}
 use lib.Seq.{paste}
 use Rattle.blocks.specs.Blocks.{blocks, block, refilled}
 use Rattle.entries.specs.declared.Key.{Key}
 use Rattle.entries.specs.declared.Value.{Value}
+use Rattle.entries.specs.declared.Item.{Item}
 use Rattle.entries.specs.Decoded.{keyBytes, valueBytes}
 use Rattle.server.specs.declared.Version.{Version}
 use Rattle.server.specs.declared.Head.{Head}
@@ -192,7 +195,7 @@ callAt l k = callFields l k
 unfoldable pub putCall : List ℕ → ℕ → Call → List ℕ
 putCall l k c = callStores l k c
 
--- kind, bucket, and the lengths of the key, the expected value and the new value
+-- kind, bucket, the length of the key, and for the expected value and the new value the word that `itemWord` says
 abbrev pub numbersRow : Numbers → List ℕ
 numbersRow n = n .kind ∷ n .bucket ∷ n .key ∷ n .expected ∷ n .value ∷ []
 
@@ -211,6 +214,10 @@ numbersAt l k = numbersFields l k
 unfoldable pub putNumbers : List ℕ → ℕ → Numbers → List ℕ
 putNumbers l k n = numbersStores l k n
 
+-- the word of a value: 0 where there is none, else one above its length
+unfoldable pub itemWord : Item → ℕ
+itemWord i = elim (i .there) [ true ↦ length (valueBytes (i .value)) + 1 | false ↦ 0 ]
+
 -- the numbers of a call's words: a length above the room is stored as all of it
 abbrev pub numbersIn : Words → Numbers
 numbersIn w =
@@ -218,8 +225,8 @@ numbersIn w =
       kind = w .kind;
       bucket = w .bucket;
       key = length (keyBytes (w .key));
-      expected = length (valueBytes (w .expected));
-      value = length (valueBytes (w .value));
+      expected = itemWord (w .expected);
+      value = itemWord (w .value);
     }
 
 -- ---- the words of open calls: their numbers in the slots, their bytes (eight, sixteen and sixteen) in blocks of their own
@@ -230,6 +237,10 @@ keyFrom m p len = record { bytes = take keyRoom (drop p m); len = len }
 abbrev pub valueFrom : List ℕ → ℕ → ℕ → Value
 valueFrom m p len = record { bytes = take valueRoom (drop p m); len = len }
 
+-- a value by its word, with its bytes from p on: none for 0, else of a length one below it
+abbrev pub itemFrom : List ℕ → ℕ → ℕ → Item
+itemFrom m p x = record { there = ltb 0 x; value = valueFrom m p (x - 1) }
+
 unfoldable pub wordsAt : List ℕ → List ℕ → ℕ → Words
 wordsAt l m k =
     let n = numbersAt l k in
@@ -237,8 +248,8 @@ wordsAt l m k =
       kind = n .kind;
       bucket = n .bucket;
       key = keyFrom m (k * textSize + keyPlace) (n .key);
-      expected = valueFrom m (k * textSize + expectedPlace) (n .expected);
-      value = valueFrom m (k * textSize + valuePlace) (n .value);
+      expected = itemFrom m (k * textSize + expectedPlace) (n .expected);
+      value = itemFrom m (k * textSize + valuePlace) (n .value);
     }
 
 -- the slots and the bytes with the words of slot k replaced
@@ -248,19 +259,16 @@ putWords l k w = putNumbers l k (numbersIn w)
 unfoldable pub putTexts : List ℕ → ℕ → Words → List ℕ
 putTexts m k w =
     paste
-    (paste (paste m (k * textSize + keyPlace) (w .key .bytes) keyRoom) (k * textSize + expectedPlace) (w .expected .bytes) valueRoom)
+    (paste (paste m (k * textSize + keyPlace) (w .key .bytes) keyRoom) (k * textSize + expectedPlace) (w .expected .value .bytes) valueRoom)
     (k * textSize + valuePlace)
-    (w .value .bytes)
+    (w .value .value .bytes)
     valueRoom
 
--- words whose arrays have eight, sixteen and sixteen bytes, with lengths in this room
+-- words whose arrays have eight, sixteen and sixteen bytes
 pub record Whole (w : Words) : Type 0 where
   pub key-room : length (w .key .bytes) ≡ keyRoom
-  pub key-length : w .key .len ≤ keyRoom
-  pub expected-room : length (w .expected .bytes) ≡ valueRoom
-  pub expected-length : w .expected .len ≤ valueRoom
-  pub value-room : length (w .value .bytes) ≡ valueRoom
-  pub value-length : w .value .len ≤ valueRoom
+  pub expected-room : length (w .expected .value .bytes) ≡ valueRoom
+  pub value-room : length (w .value .value .bytes) ≡ valueRoom
 
 -- ---- contents: those of the copies and of the best reported copies, at the slot; those of the messages, at the message
 

@@ -13,7 +13,8 @@ pub const CONTENT: usize = 128;
 
 pub const TEXT: usize = 64;
 
-// The words of a call without their bytes: kind, bucket, and how long the key, the expected value and the new value are.
+// The words of a call without their bytes: kind, bucket, how long the key is, and for the expected value and the new value
+// 0 where there is none, else one above its length.
 pub struct Numbers {
     pub kind: u32,
     pub bucket: u32,

@@ -3,13 +3,13 @@
 use mathlib.Core.Path.{_≡_, refl, ap, _∙_}
 use mathlib.Core.List.{List}
 use mathlib.Core.Bool.{Bool, true, false}
-use mathlib.Core.Option.{none, some}
+use mathlib.Core.Option.{Option, none, some}
 use Prim.Native.Nat.{ℕ, _<_}
 use native.Mathlib.Omega.{arith}
 use lib.ListN.{length}
 use lib.Seq.{getD-set-same}
 use Rattle.entries.specs.Entries.{Entry, valueOf, remove, stored}
-use Rattle.table.specs.Form.{sameBytes}
+use Rattle.table.specs.Form.{sameValue}
 use Rattle.model.specs.Measures.{maxEntries}
 use Rattle.model.specs.Calls.{Words, set, setif, del, Result, done, mismatch, full, Effect, answers, writes, effectWrites, setting, effect}
 use Rattle.model.specs.Cluster.{copyAt, ownWrite, Call, callAt, Server}
@@ -71,7 +71,7 @@ module _ (n me b : ℕ) (s : Server) (so : recovered (s .stored .number) (copyAt
   abbrev table : List Entry
   table = copyAt (s .stored) b .table
 
-  pub set-at-once : (k v : List ℕ) (t : List Entry) → stored maxEntries k v table ≡ some t → startCall n me b (set k v) s ≡ ownWriteOf n me b t s
+  pub set-at-once : (k : List ℕ) (v : Option (List ℕ)) (t : List Entry) → stored maxEntries k v table ≡ some t → startCall n me b (set k v) s ≡ ownWriteOf n me b t s
   unfolding effect setting
   set-at-once k v t e = writes-at-once n me b (set k v) s t so (rw (setting, e))
 
@@ -79,22 +79,22 @@ module _ (n me b : ℕ) (s : Server) (so : recovered (s .stored .number) (copyAt
   unfolding effect setting stored
   del-at-once k = writes-at-once n me b (del k) s (remove k table) so refl
 
-  pub setif-at-once : (k e v : List ℕ) (t : List Entry) → sameBytes (valueOf k table) e ≡ true → stored maxEntries k v table ≡ some t
+  pub setif-at-once : (k : List ℕ) (e v : Option (List ℕ)) (t : List Entry) → sameValue (valueOf k table) e ≡ true → stored maxEntries k v table ≡ some t
       → startCall n me b (setif k e v) s ≡ ownWriteOf n me b t s
   unfolding effect setting
   setif-at-once k e v t same h = writes-at-once n me b (setif k e v) s t so (rw (effect, same, setting, h))
 
-  pub full-checks : (k v : List ℕ) → stored maxEntries k v table ≡ none → startCall n me b (set k v) s ≡ checking n me b s
+  pub full-checks : (k : List ℕ) (v : Option (List ℕ)) → stored maxEntries k v table ≡ none → startCall n me b (set k v) s ≡ checking n me b s
   unfolding effect setting
   full-checks k v e = checks-first n me b (set k v) s full so (rw (setting, e))
 
-  pub setif-full-checks : (k e v : List ℕ) → sameBytes (valueOf k table) e ≡ true → stored maxEntries k v table ≡ none
+  pub setif-full-checks : (k : List ℕ) (e v : Option (List ℕ)) → sameValue (valueOf k table) e ≡ true → stored maxEntries k v table ≡ none
       → startCall n me b (setif k e v) s ≡ checking n me b s
   unfolding effect setting
   setif-full-checks k e v same h = checks-first n me b (setif k e v) s full so (rw (effect, same, setting, h))
 
   -- whatever room there is
-  pub mismatch-checks : (k e v : List ℕ) → sameBytes (valueOf k table) e ≡ false → startCall n me b (setif k e v) s ≡ checking n me b s
+  pub mismatch-checks : (k : List ℕ) (e v : Option (List ℕ)) → sameValue (valueOf k table) e ≡ false → startCall n me b (setif k e v) s ≡ checking n me b s
   unfolding effect
   mismatch-checks k e v other = checks-first n me b (setif k e v) s mismatch so (rw (effect, other))
 

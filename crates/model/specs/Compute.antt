@@ -1,7 +1,7 @@
 -- Opens every definition at once, for the files that compute with them: `unfolding computing`.
 use Rattle.hash.specs.Fnv.{bucketOf}
 use Rattle.entries.specs.Entries.{order, valueOf, holds, put, remove, stored}
-use Rattle.table.specs.Form.{bucketSize, within, rising, sized, fits, header, body, packed, bucketBytes, entriesOf, tableOf, sameBytes, readBucket}
+use Rattle.table.specs.Form.{bucketSize, within, rising, sized, fits, header, body, packed, bucketBytes, entriesOf, tableOf, sameBytes, sameValue, readBucket}
 use Rattle.model.specs.Measures.{majority}
 use Rattle.model.specs.Calls.{bucketFor, effectWrites, setting, effect}
 use Rattle.model.specs.Cluster.{above, kindNumber, freshServer, freshCluster}
@@ -14,5 +14,5 @@ use Rattle.model.specs.Print
 use Rattle.model.specs.Run.{stepUpTo, stateAfterUpTo, outcomesUpTo, lastLine, linesFrom, linesOf, printedFrom, run}
 
 unfoldable pub computing : Unit {0}
-unfolding bucketSize within rising sized fits header body packed bucketBytes entriesOf tableOf readBucket bucketOf order valueOf holds put remove stored sameBytes majority bucketFor effectWrites setting effect above kindNumber freshServer freshCluster grants afterVote requestBody mayAccept storing accepting acknowledging refusing Leader.below Leader.without Leader.broadcast Leader.ended Leader.endings Leader.ceased Leader.cease Leader.stepDown Leader.votesFor Leader.standing Leader.standForElection Leader.nextNumber Leader.elect Leader.onAckVote Leader.acknowledgements Leader.refusals Leader.closes Leader.fails Leader.oneMore Leader.isOwn Leader.reportTo Leader.newRound Leader.opening Leader.openRound Leader.answerOf Leader.finish Leader.nextVersion Leader.applying Leader.afterRead Leader.checking Leader.recovering Leader.startRead Leader.straight Leader.startCall Leader.beginCall Leader.closed Leader.better Leader.markedBy Leader.counted Leader.counting Leader.onReply Leader.onPleaseVote Leader.onRequest Leader.handle Lines.firstOf Lines.either Lines.noServer Lines.noBucket Lines.noBucketFor Lines.badKey Lines.badValue Lines.badWords Lines.limitReached Lines.noMessage Lines.isLeading Lines.present Lines.lastNumber Lines.conditionsUpTo Lines.delivery Lines.work Lines.acceptLine Lines.inClusterUpTo Lines.createCluster Lines.performUpTo bytes Parse.parse Print.decimalInto Print.decimal Print.hexDigit Print.hexPairs Print.hexadecimal Print.keyList Print.keysText Print.wordOf Print.dataOf Print.answerText Print.answerTexts Print.outcomeText Print.tallyText stepUpTo stateAfterUpTo outcomesUpTo lastLine linesFrom linesOf printedFrom run
+unfolding bucketSize within rising sized fits header body packed bucketBytes entriesOf tableOf readBucket bucketOf order valueOf holds put remove stored sameBytes sameValue majority bucketFor effectWrites setting effect above kindNumber freshServer freshCluster grants afterVote requestBody mayAccept storing accepting acknowledging refusing Leader.below Leader.without Leader.broadcast Leader.ended Leader.endings Leader.ceased Leader.cease Leader.stepDown Leader.votesFor Leader.standing Leader.standForElection Leader.nextNumber Leader.elect Leader.onAckVote Leader.acknowledgements Leader.refusals Leader.closes Leader.fails Leader.oneMore Leader.isOwn Leader.reportTo Leader.newRound Leader.opening Leader.openRound Leader.answerOf Leader.finish Leader.nextVersion Leader.applying Leader.afterRead Leader.checking Leader.recovering Leader.startRead Leader.straight Leader.startCall Leader.beginCall Leader.closed Leader.better Leader.markedBy Leader.counted Leader.counting Leader.onReply Leader.onPleaseVote Leader.onRequest Leader.handle Lines.firstOf Lines.either Lines.noServer Lines.noBucket Lines.noBucketFor Lines.badKey Lines.badValue Lines.badWords Lines.limitReached Lines.noMessage Lines.isLeading Lines.present Lines.lastNumber Lines.conditionsUpTo Lines.delivery Lines.work Lines.acceptLine Lines.inClusterUpTo Lines.createCluster Lines.performUpTo bytes Parse.parse Print.decimalInto Print.decimal Print.hexDigit Print.hexPairs Print.valueText Print.keyList Print.keysText Print.wordOf Print.dataOf Print.answerText Print.answerTexts Print.outcomeText Print.tallyText stepUpTo stateAfterUpTo outcomesUpTo lastLine linesFrom linesOf printedFrom run
 computing = tt

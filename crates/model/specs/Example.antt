@@ -17,6 +17,18 @@ fourth-and-fifth-key : run (bytes "cluster 1 1\nelect 0\nset 0 61 01\nset 0 62 0
 unfolding computing
 fourth-and-fifth-key = refl
 
+-- a value of no bytes is a value: it is printed as `.`, listed, compared, and told from an absent key; `.` is no key
+empty-values : run (bytes "cluster 1 1\nelect 0\nset 0 61 .\nget 0 61\nget 0 62\nkeys 0 0\nsetif 0 61 - 01\nsetif 0 61 . 02\nsetif 0 61 02 .\nget 0 61\nset 0 61 -\nget 0 61\nsetif 0 61 . 01\nsetif 0 61 - .\nget 0 61\ndel 0 61\nget 0 61\nget 0 .\nset 0 . 01\nget 0 -\nset 0 61 ..\nset 0 61 .1\n")
+    ≡ bytes "1 done 4\n2 value 1 .\n3 value 1 -\n4 keys 1 61\n5 mismatch 1\n6 done 1\n7 done 1\n8 value 1 .\n9 done 1\n10 value 1 -\n11 mismatch 1\n12 done 1\n13 value 1 .\n14 done 1\n15 value 1 -\nline 18 refused 1\nline 19 refused 1\nline 20 refused 4\nline 21 refused 1\nline 22 refused 1\nmessages 0 0 0 0 0\n"
+unfolding computing
+empty-values = refl
+
+-- four keys with values of no bytes leave no room for a fifth
+empty-values-count : run (bytes "cluster 1 1\nelect 0\nset 0 61 .\nset 0 62 .\nset 0 63 .\nset 0 64 .\nset 0 65 .\nset 0 65 -\nset 0 61 01\nkeys 0 0\n")
+    ≡ bytes "1 done 4\n2 done 1\n3 done 1\n4 done 1\n5 full 1\n6 done 1\n7 done 1\n8 keys 1 61 62 63 64\nmessages 0 0 0 0 0\n"
+unfolding computing
+empty-values-count = refl
+
 -- 58 in flight let `elect 0` of 7 through
 with-58-in-flight : run (bytes "cluster 7 1\nelect 0\nelect 0\nelect 0\nelect 0\nelect 0\nelect 0\nelect 0\nelect 0\nelect 0\ncopy 0\ncopy 0\ncopy 0\ncopy 0\nelect 0")
     ≡ bytes "messages 64 4 4 0 64\n"

@@ -92,8 +92,9 @@ noBucketFor c (Calls.keys b) = noBucket c b
 unfoldable pub badKey : List ℕ → Bool
 badKey k = either (eqb (length k) 0) (ltb maxKeyBytes (length k))
 
-unfoldable pub badValue : List ℕ → Bool
-badValue v = ltb maxValueBytes (length v)
+unfoldable pub badValue : Option (List ℕ) → Bool
+badValue none = false
+badValue (some v) = ltb maxValueBytes (length v)
 
 unfoldable pub badWords : Words → Bool
 badWords (Calls.get k) = badKey k

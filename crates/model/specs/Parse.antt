@@ -41,7 +41,7 @@ number (b ∷ (c ∷ l)) =
           elim (leb (length l) 7) [ false ↦ none | true ↦ decimalFrom 0 (b ∷ (c ∷ l)) ]
     ]
 
--- ---- keys and values: pairs of lower-case hexadecimal digits; `-` is no bytes
+-- ---- keys and values: pairs of lower-case hexadecimal digits
 
 unfoldable pub hexDigit : ℕ → Option ℕ
 hexDigit b =
@@ -65,9 +65,24 @@ pairs (a ∷ (b ∷ l)) =
           ]
     ]
 
+-- a key: `-` is one of no bytes, well formed and then out of range
 unfoldable pub hexadecimal : List ℕ → Option (List ℕ)
 hexadecimal [] = none
 hexadecimal (b ∷ l) = elim (sameBytes (b ∷ l) (bytes "-")) [ true ↦ some [] | false ↦ pairs (b ∷ l) ]
+
+-- a value: `-` is none, `.` is one of no bytes
+unfoldable pub item : List ℕ → Option (Option (List ℕ))
+item [] = none
+item (b ∷ l) =
+    elim (sameBytes (b ∷ l) (bytes "-")) [
+      | true ↦ some none
+      | false ↦
+          elim (sameBytes (b ∷ l) (bytes ".")) [
+            | true ↦ some (some [])
+            | false ↦
+                elim (pairs (b ∷ l)) [ none ↦ none | some v ↦ some (some v) ]
+          ]
+    ]
 
 -- ---- lines
 
@@ -132,14 +147,14 @@ lineOf2 w a b =
 unfoldable pub lineOf3 : List ℕ → List ℕ → List ℕ → List ℕ → Option Line
 lineOf3 w a b c =
     elim (sameBytes w (bytes "set")) [
-      | true ↦ made3 (λ s k v. call s (set k v)) (number a) (hexadecimal b) (hexadecimal c)
+      | true ↦ made3 (λ s k v. call s (set k v)) (number a) (hexadecimal b) (item c)
       | false ↦ none
     ]
 
 unfoldable pub lineOf4 : List ℕ → List ℕ → List ℕ → List ℕ → List ℕ → Option Line
 lineOf4 w a b c d =
     elim (sameBytes w (bytes "setif")) [
-      | true ↦ made4 (λ s k e v. call s (setif k e v)) (number a) (hexadecimal b) (hexadecimal c) (hexadecimal d)
+      | true ↦ made4 (λ s k e v. call s (setif k e v)) (number a) (hexadecimal b) (item c) (item d)
       | false ↦ none
     ]
 
@@ -154,5 +169,5 @@ lineOf (w ∷ (a ∷ (b ∷ (c ∷ (d ∷ (e ∷ r)))))) = none
 
 -- at most 120 bytes
 unfoldable pub parse : List ℕ → Option Line
-unfolding bytes wordsFrom words digit decimalFrom number hexDigit pairs hexadecimal made made2 made3 made4 lineOf1 lineOf2 lineOf3 lineOf4 lineOf
+unfolding bytes wordsFrom words digit decimalFrom number hexDigit pairs hexadecimal item made made2 made3 made4 lineOf1 lineOf2 lineOf3 lineOf4 lineOf
 parse l = elim (leb (length l) maxLineBytes) [ true ↦ lineOf (words l) | false ↦ none ]

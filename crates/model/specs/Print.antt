@@ -1,6 +1,7 @@
 -- What is printed (document 01, 'Script lines', Output): answers, refusals and the tally line, as bytes.
 use mathlib.Core.List.{List, [], _∷_, _++_}
 use mathlib.Core.Bool.{true, false}
+use mathlib.Core.Option.{Option, none, some}
 use Prim.Native.Nat.{ℕ, zero, suc, _+_, _/_, _%_}
 use lib.Dec.{ltb}
 use Rattle.model.specs.Calls.{Result, value, listed, done, mismatch, full, notdone, unknown, Answer}
@@ -23,15 +24,16 @@ unfoldable pub hexPairs : List ℕ → List ℕ
 hexPairs [] = []
 hexPairs (b ∷ l) = hexDigit (b / 16) ∷ (hexDigit (b % 16) ∷ hexPairs l)
 
--- `-` for none
-unfoldable pub hexadecimal : List ℕ → List ℕ
-hexadecimal [] = bytes "-"
-hexadecimal (b ∷ l) = hexPairs (b ∷ l)
+-- a value: `-` where the key is absent, `.` for a value of no bytes
+unfoldable pub valueText : Option (List ℕ) → List ℕ
+valueText none = bytes "-"
+valueText (some []) = bytes "."
+valueText (some (b ∷ l)) = hexPairs (b ∷ l)
 
 -- keys, each with a space before it
 unfoldable pub keyList : List (List ℕ) → List ℕ
 keyList [] = []
-keyList (k ∷ l) = bytes " " ++ (hexadecimal k ++ keyList l)
+keyList (k ∷ l) = bytes " " ++ (hexPairs k ++ keyList l)
 
 unfoldable pub keysText : List (List ℕ) → List ℕ
 keysText [] = bytes " -"
@@ -48,7 +50,7 @@ wordOf notdone = bytes "notdone"
 wordOf unknown = bytes "unknown"
 
 unfoldable pub dataOf : Result → List ℕ
-dataOf (value v) = bytes " " ++ hexadecimal v
+dataOf (value v) = bytes " " ++ valueText v
 dataOf (listed l) = keysText l
 dataOf done = []
 dataOf mismatch = []

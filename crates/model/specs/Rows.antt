@@ -2,12 +2,13 @@
 use mathlib.Core.Path.{_≡_, refl}
 use mathlib.Core.List.{List, [], _∷_, _++_}
 use mathlib.Core.Bool.{Bool, true, false, not}
+use mathlib.Core.Option.{some}
 use Prim.Native.Nat.{ℕ}
 use lib.Dec.{eqb}
 use lib.ListN.{replicate}
 use Rattle.hash.specs.Fnv.{fnv, bucketOf}
 use Rattle.entries.specs.Entries.{Entry, entry, valueOf}
-use Rattle.table.specs.Form.{bucketBytes, readNumber, sameBytes}
+use Rattle.table.specs.Form.{bucketBytes, readNumber, sameBytes, sameValue}
 use Rattle.model.specs.Measures.{majority, maxEntries, maxValueBytes}
 use Rattle.model.specs.Cluster.{Version, version, copyAt, Server, ackVote, replicaWrite, kindNumber, Message, freshServer}
 use Rattle.model.specs.Lines.{isLeading}
@@ -73,7 +74,7 @@ rows =
     (eqb (firstKind (written 5 (version 5 3) (version 5 2) .sends)) 5
     ∷ eqb (copyAt (written 5 (version 5 3) (version 5 2) .server .stored) 0 .version .election) 5
     ∷ eqb (copyAt (written 5 (version 5 3) (version 5 2) .server .stored) 0 .version .counter) 3
-    ∷ sameBytes (valueOf (0x61 ∷ []) (copyAt (written 5 (version 5 3) (version 5 2) .server .stored) 0 .table)) (0x68 ∷ 0x69 ∷ [])
+    ∷ sameValue (valueOf (0x61 ∷ []) (copyAt (written 5 (version 5 3) (version 5 2) .server .stored) 0 .table)) (some (0x68 ∷ 0x69 ∷ []))
     ∷ [])
     -- P9: vote 6, write under 5: NACKWRITE
     ∷ eqb (firstKind (written 6 (version 5 3) (version 5 4) .sends)) 6

@@ -12,7 +12,7 @@ use Rattle.entries.specs.Entries.{Entry}
 use Rattle.model.specs.Calls as calls
 use Rattle.server.specs.declared.Words.{Words}
 use Rattle.server.specs.declared.Effect.{Effect}
-use Rattle.server.specs.Views.{wordsBy, wordsIn, effectIn}
+use Rattle.server.specs.Views.{wordsOfKind, wordsBy, wordsIn, effectIn}
 use Rattle.moves.specs.declared.Local.{Local}
 use Rattle.moves.specs.Moves.{recovered, mayWrite, needsEffect}
 use Rattle.moves.specs.Reactions.{EffectNeeded}
@@ -37,8 +37,8 @@ only-answers w t h = go (eqb (w .kind) 1) refl
     other k low high = ne-eqb (w .kind) k (λ e. elim (other-kinds (w .kind) h) [ inl x ↦ omega (arith, x, e) | inr x ↦ omega (arith, x, e) ])
 
     go : (z : Bool) → eqb (w .kind) 1 ≡ z → calls.effectWrites (calls.effect (wordsIn w) t) ≡ none
-    go true e = rw (wordsBy, e)
-    go false e = rw (wordsBy, e, other 2 (omega arith) (omega arith), other 3 (omega arith) (omega arith), other 4 (omega arith) (omega arith))
+    go true e = rw (wordsOfKind, e)
+    go false e = rw (wordsOfKind, e, other 2 (omega arith) (omega arith), other 3 (omega arith) (omega arith), other 4 (omega arith) (omega arith))
 
 pub unneeded : (n : ℕ) (l : Local) (w : Words) (copy : List Entry) (f : Effect) → needsEffect n (w .kind) l ≡ false → calls.effectWrites (effectIn f) ≡ none
     → EffectNeeded n l (wordsIn w) copy f

@@ -1,6 +1,7 @@
 -- The keys of a table as a list by value, and how long they are in print.
 use mathlib.Core.Path.{_≡_, refl, ap}
 use mathlib.Core.List.{List, [], _∷_, map}
+use mathlib.Core.Option.{some}
 use Prim.Native.Nat.{ℕ, zero, suc, _≤_, _*_}
 use native.Mathlib.Omega.{arith}
 use lib.ListN.{length, take, getD, length-append}
@@ -10,7 +11,7 @@ use Rattle.entries.specs.declared.Key.{Key}
 use Rattle.entries.specs.declared.Slot.{Slot}
 use Rattle.entries.specs.declared.Decoded.{Decoded}
 use Rattle.model.specs.Text.{bytes}
-use Rattle.model.specs.Print.{hexPairs, hexadecimal, keyList, keysText}
+use Rattle.model.specs.Print.{hexPairs, valueText, keyList, keysText}
 use Rattle.print.specs.declared.KeyList.{KeyList}
 use Rattle.print.specs.Answers.{keysIn}
 use Rattle.output.specs.Told.{KeyOf, KeysOf}
@@ -22,11 +23,11 @@ unfolding hexPairs
 length-pairs [] = refl
 length-pairs (b ∷ l) = omega (arith, length-pairs l)
 
--- at most k bytes have at most 2 k digits, and none have one
-pub hexadecimal-room : (k : ℕ) (l : List ℕ) → 1 ≤ k → length l ≤ k → length (hexadecimal l) ≤ 2 * k
-unfolding hexadecimal bytes
-hexadecimal-room k [] h g = omega arith
-hexadecimal-room k (b ∷ l) h g = omega (arith, length-pairs (b ∷ l))
+-- at most k bytes have at most 2 k digits, and no bytes are printed as `.`
+pub value-room : (k : ℕ) (l : List ℕ) → 1 ≤ k → length l ≤ k → length (valueText (some l)) ≤ 2 * k
+unfolding valueText bytes
+value-room k [] h g = omega arith
+value-room k (b ∷ l) h g = omega (arith, length-pairs (b ∷ l))
 
 -- ---- four keys
 
@@ -36,17 +37,17 @@ no-keys zero = refl
 no-keys (suc n) = refl
 
 module _ (a b c d : List ℕ) (short-a : length a ≤ 8) (short-b : length b ≤ 8) (short-c : length c ≤ 8) (short-d : length d ≤ 8) where
-  ha : length (hexadecimal a) ≤ 16
-  ha = hexadecimal-room 8 a (omega arith) short-a
+  ha : length (hexPairs a) ≤ 16
+  ha = omega (arith, length-pairs a)
 
-  hb : length (hexadecimal b) ≤ 16
-  hb = hexadecimal-room 8 b (omega arith) short-b
+  hb : length (hexPairs b) ≤ 16
+  hb = omega (arith, length-pairs b)
 
-  hc : length (hexadecimal c) ≤ 16
-  hc = hexadecimal-room 8 c (omega arith) short-c
+  hc : length (hexPairs c) ≤ 16
+  hc = omega (arith, length-pairs c)
 
-  hd : length (hexadecimal d) ≤ 16
-  hd = hexadecimal-room 8 d (omega arith) short-d
+  hd : length (hexPairs d) ≤ 16
+  hd = omega (arith, length-pairs d)
 
   pub keys-room : (n : ℕ) → length (keysText (take n (a ∷ (b ∷ (c ∷ (d ∷ [])))))) ≤ 68
   unfolding keysText keyList bytes

@@ -8,7 +8,7 @@ use Rattle.entries.specs.Decoded.{valueBytes, tableIn}
 use Rattle.entries.specs.declared.Value.{Value}
 use Rattle.entries.specs.declared.Decoded.{Decoded}
 use Rattle.model.specs.Text.{bytes}
-use Rattle.model.specs.Print.{keysText, dataOf, answerText}
+use Rattle.model.specs.Print.{valueText, keysText, dataOf, answerText}
 use Rattle.server.specs.declared.Answer.{Answer}
 use Rattle.server.specs.Views.{answerIn}
 use Rattle.print.specs.declared.Outcome.{Outcome}
@@ -18,7 +18,7 @@ use Rattle.print.specs.declared.Answer as printer
 use Rattle.print.specs.Answers as printed
 use Rattle.print.proofs.Room.{answer-room}
 use Rattle.output.specs.Told.{OutcomeOf, KeysOf}
-use Rattle.output.proofs.Keys.{hexadecimal-room}
+use Rattle.output.proofs.Keys.{value-room}
 
 abbrev pub withData : Answer → Outcome → Value → KeyList → printer.Answer
 withData a o v k = record { call = a .call; outcome = o; rounds = a .rounds; value = v; keys = k }
@@ -28,14 +28,15 @@ unfolding printed.answerIn
 same-answer a o v t k named listed = rw (listed .is, named .is (valueBytes v) (tableIn t))
 
 data-room : (o : Outcome) (v : List ℕ) (l : List (List ℕ)) → length v ≤ 16 → length (keysText l) ≤ 68 → length (dataOf (printed.resultFor o v l)) ≤ 68
-unfolding dataOf printed.resultFor bytes
-data-room O.Value v l h g = simp length-append (omega (arith, hexadecimal-room 16 v (omega arith) h))
+unfolding dataOf printed.resultFor valueText bytes
+data-room O.Value v l h g = simp length-append (omega (arith, value-room 16 v (omega arith) h))
 data-room O.Keys v l h g = g
 data-room O.Done v l h g = omega arith
 data-room O.Mismatch v l h g = omega arith
 data-room O.Full v l h g = omega arith
 data-room O.NotDone v l h g = omega arith
 data-room O.Unknown v l h g = omega arith
+data-room O.Absent v l h g = omega arith
 
 pub one-room : (a : Answer) (o : Outcome) (v : Value) (k : KeyList) → a .call < 2 ^ 32 → a .rounds < 2 ^ 32 → length (valueBytes v) ≤ 16 → length (keysText (printed.keysIn k)) ≤ 68 → length (answerText (printed.answerIn (withData a o v k))) ≤ 128
 unfolding printed.answerIn

@@ -17,7 +17,7 @@ ghost use Rattle.views.specs.Changes.{answerAt, answersAt};
 ghost use Rattle.print.specs.Printed.{Printed};
 ghost use Rattle.output.specs.Told.{Told, OutcomeOf, KeyOf, KeysOf, answerFields};
 
-// The kind of a result; a number that is none of 1 to 6 stands for `unknown`, as in the definition.
+// The kind of a result; a number that is none of 1 to 6 and 8 stands for `unknown`, as in the definition.
 fn outcome(result: u32) -> Outcome
     ensures { λ r. ⌜ OutcomeOf result r ⌝ }
 {
@@ -28,6 +28,7 @@ fn outcome(result: u32) -> Outcome
         4 => Outcome::Mismatch,
         5 => Outcome::Full,
         6 => Outcome::NotDone,
+        8 => Outcome::Absent,
         _ => Outcome::Unknown,
     }
 }

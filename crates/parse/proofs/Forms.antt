@@ -5,19 +5,20 @@ use mathlib.Core.Bool.{Bool, true, false}
 use mathlib.Core.Option.{Option, none, some}
 use Prim.Native.Nat.{ℕ, _+_, _*_}
 use native.Mathlib.Omega.{arith}
+use lib.ListN.{length}
 use Rattle.entries.specs.Entries.{order}
 use Rattle.table.specs.Form.{sameBytes}
 use Rattle.model.specs.Text.{bytes}
 use Rattle.model.specs.Calls.{get, set, setif, del, keys}
 use Rattle.model.specs.Lines.{Line, cluster, elect, call, deliver, copy, lose, timeout, stop}
-use Rattle.model.specs.Parse.{number, hexDigit, pairs, hexadecimal, made, made2, made3, made4, lineOf1}
+use Rattle.model.specs.Parse.{number, hexDigit, pairs, hexadecimal, item, made, made2, made3, made4, lineOf1}
 use Rattle.parse.specs.declared.Kind.{Kind}
 use Rattle.parse.specs.declared.Kind.the-variants as K
-use Rattle.parse.specs.Digits.{present, allThree, nibble, pairBytes}
-use Rattle.parse.specs.Kept.{kept}
+use Rattle.parse.specs.Digits.{present, allThree, nibble, pairBytes, itemBytes}
+use Rattle.parse.specs.Kept.{kept, keptItem}
 use Rattle.parse.specs.Meaning.{kindOf1, lineFor, keptWords, keptLine, keptOf, numbersFor, numberFor, callFor}
 use Rattle.parse.proofs.Sameness.{same-true}
-use Rattle.parse.proofs.Pairs.{joined, pair-step, hexadecimal-pairs}
+use Rattle.parse.proofs.Pairs.{joined, pair-step, hexadecimal-pairs, item-dash, item-dot, item-pairs, present-value}
 
 -- ---- the bytes of a word that is hexadecimal
 
@@ -54,6 +55,37 @@ hexadecimal-bytes (b ∷ l) h = go (sameBytes (b ∷ l) (bytes "-")) refl
         let f : hexadecimal (b ∷ l) ≡ pairs (b ∷ l) = hexadecimal-pairs (b ∷ l) (λ z. absurd (omega arith)) e in
         f ∙ pairs-bytes (b ∷ l) (sym (ap present f) ∙ h)
 
+dot-bytes : pairBytes (bytes ".") ≡ []
+unfolding pairBytes bytes
+dot-bytes = refl
+
+-- the value of a word that is one
+pub item-bytes : (l : List ℕ) → present (item l) ≡ true → item l ≡ some (itemBytes l)
+item-bytes [] h = unfold item present in cc
+item-bytes (b ∷ l) h = go (sameBytes (b ∷ l) (bytes "-")) refl
+  where
+    some-byte : length (b ∷ l) ≡ 0 → ⊥
+    some-byte z = absurd (omega arith)
+
+    is-there : sameBytes (b ∷ l) (bytes "-") ≡ false → itemBytes (b ∷ l) ≡ some (pairBytes (b ∷ l))
+    is-there e = unfold itemBytes in rw (itemBytes, e)
+
+    other : sameBytes (b ∷ l) (bytes "-") ≡ false → (t : Bool) → sameBytes (b ∷ l) (bytes ".") ≡ t → item (b ∷ l) ≡ some (itemBytes (b ∷ l))
+    other e true f =
+        item-dot (b ∷ l) some-byte e f
+        ∙ ap (λ v. some (some v)) (sym dot-bytes ∙ ap pairBytes (sym (same-true (b ∷ l) (bytes ".") f)))
+        ∙ ap some (sym (is-there e))
+    other e false f =
+        let g = item-pairs (b ∷ l) some-byte e f in
+        let p = pairs-bytes (b ∷ l) (sym (present-value (pairs (b ∷ l))) ∙ sym (ap present g) ∙ h) in
+        g ∙ rw (p, is-there e)
+
+    go : (t : Bool) → sameBytes (b ∷ l) (bytes "-") ≡ t → item (b ∷ l) ≡ some (itemBytes (b ∷ l))
+    go true e =
+        let f : itemBytes (b ∷ l) ≡ none = unfold itemBytes in rw (itemBytes, e) in
+        item-dash (b ∷ l) some-byte e ∙ ap some (sym f)
+    go false e = other e (sameBytes (b ∷ l) (bytes ".")) refl
+
 -- ---- lines with two numbers, or with a number, a key and two values
 
 pub all-three : (p q r : Bool) → allThree p q r ≡ true → (p ≡ true) × ((q ≡ true) × (r ≡ true))
@@ -63,13 +95,13 @@ all-three true true false h = (refl, (refl, h))
 all-three true false r h = (refl, (h, cc))
 all-three false q r h = (h, (cc, cc))
 
-pub call-reads : (c : Kind) {x : Option ℕ} {s : ℕ} (k e v : List ℕ) → some s ≡ x → allThree (present (hexadecimal k)) (present (hexadecimal e)) (present (hexadecimal v)) ≡ true → lineFor c s 0 (kept 8 (pairBytes k)) (kept 16 (pairBytes e)) (kept 16 (pairBytes v)) ≡ callFor c x (hexadecimal k) (hexadecimal e) (hexadecimal v)
+pub call-reads : (c : Kind) {x : Option ℕ} {s : ℕ} (k e v : List ℕ) → some s ≡ x → allThree (present (hexadecimal k)) (present (item e)) (present (item v)) ≡ true → lineFor c s 0 (kept 8 (pairBytes k)) (keptItem (itemBytes e)) (keptItem (itemBytes v)) ≡ callFor c x (hexadecimal k) (item e) (item v)
 unfolding callFor
 call-reads c k e v f h =
     let t = all-three _ _ _ h in
-    rw (← f, hexadecimal-bytes k (t .0), hexadecimal-bytes e (t .1 .0), hexadecimal-bytes v (t .1 .1))
+    rw (← f, hexadecimal-bytes k (t .0), item-bytes e (t .1 .0), item-bytes v (t .1 .1))
 
-pub call-fails : (c : Kind) (x : Option ℕ) (k e v : Option (List ℕ)) → allThree (present k) (present e) (present v) ≡ false → none ≡ callFor c x k e v
+pub call-fails : (c : Kind) (x : Option ℕ) (k : Option (List ℕ)) (e v : Option (Option (List ℕ))) → allThree (present k) (present e) (present v) ≡ false → none ≡ callFor c x k e v
 unfolding callFor allThree present
 call-fails c none k e v h = refl
 call-fails c (some s) none e v h = refl
@@ -79,19 +111,19 @@ call-fails c (some s) (some k) (some e) (some v) h = cc
 
 -- ---- the model's readings, by kinds: `f` makes the line of kind c
 
-one-number : (c : Kind) (f : ℕ → Line) → ((n : ℕ) → lineFor c n 0 [] [] [] ≡ some (keptLine (f n))) → (x : Option ℕ) → numberFor c x ≡ keptOf (made f x)
+one-number : (c : Kind) (f : ℕ → Line) → ((n : ℕ) → lineFor c n 0 [] none none ≡ some (keptLine (f n))) → (x : Option ℕ) → numberFor c x ≡ keptOf (made f x)
 unfolding numberFor keptOf made
 one-number c f h none = refl
 one-number c f h (some n) = h n
 
-two-numbers : (c : Kind) (f : ℕ → ℕ → Line) → ((n m : ℕ) → lineFor c n m [] [] [] ≡ some (keptLine (f n m))) → (x y : Option ℕ) → numbersFor c x y ≡ keptOf (made2 f x y)
+two-numbers : (c : Kind) (f : ℕ → ℕ → Line) → ((n m : ℕ) → lineFor c n m [] none none ≡ some (keptLine (f n m))) → (x y : Option ℕ) → numbersFor c x y ≡ keptOf (made2 f x y)
 unfolding numbersFor keptOf made made2
 two-numbers c f h none y = refl
 two-numbers c f h (some n) none = refl
 two-numbers c f h (some n) (some m) = h n m
 
-with-key : (c : Kind) (f : ℕ → List ℕ → Line) → ((s : ℕ) (k e v : List ℕ) → lineFor c s 0 (kept 8 k) e v ≡ some (keptLine (f s k))) → (x : Option ℕ) (y : Option (List ℕ)) → callFor c x y (hexadecimal (bytes "-")) (hexadecimal (bytes "-")) ≡ keptOf (made2 f x y)
-unfolding callFor keptOf made made2 hexadecimal sameBytes order bytes
+with-key : (c : Kind) (f : ℕ → List ℕ → Line) → ((s : ℕ) (k : List ℕ) (e v : Option (List ℕ)) → lineFor c s 0 (kept 8 k) e v ≡ some (keptLine (f s k))) → (x : Option ℕ) (y : Option (List ℕ)) → callFor c x y (item (bytes "-")) (item (bytes "-")) ≡ keptOf (made2 f x y)
+unfolding callFor keptOf made made2 item sameBytes order bytes
 with-key c f h none y = refl
 with-key c f h (some s) none = refl
 with-key c f h (some s) (some k) = h s k _ _
@@ -148,22 +180,22 @@ pub keys-line : (x y : Option ℕ) → numbersFor K.Keys x y ≡ keptOf (made2 (
 unfolding lineFor keptLine keptWords
 keys-line = two-numbers K.Keys (λ s n. call s (keys n)) (λ n m. refl)
 
-pub get-line : (x : Option ℕ) (y : Option (List ℕ)) → callFor K.Get x y (hexadecimal (bytes "-")) (hexadecimal (bytes "-")) ≡ keptOf (made2 (λ s k. call s (get k)) x y)
+pub get-line : (x : Option ℕ) (y : Option (List ℕ)) → callFor K.Get x y (item (bytes "-")) (item (bytes "-")) ≡ keptOf (made2 (λ s k. call s (get k)) x y)
 unfolding lineFor keptLine keptWords
 get-line = with-key K.Get (λ s k. call s (get k)) (λ s k e v. refl)
 
-pub del-line : (x : Option ℕ) (y : Option (List ℕ)) → callFor K.Del x y (hexadecimal (bytes "-")) (hexadecimal (bytes "-")) ≡ keptOf (made2 (λ s k. call s (del k)) x y)
+pub del-line : (x : Option ℕ) (y : Option (List ℕ)) → callFor K.Del x y (item (bytes "-")) (item (bytes "-")) ≡ keptOf (made2 (λ s k. call s (del k)) x y)
 unfolding lineFor keptLine keptWords
 del-line = with-key K.Del (λ s k. call s (del k)) (λ s k e v. refl)
 
-pub set-line : (x : Option ℕ) (y z : Option (List ℕ)) → callFor K.Set x y (hexadecimal (bytes "-")) z ≡ keptOf (made3 (λ s k v. call s (set k v)) x y z)
-unfolding callFor keptOf made made2 made3 lineFor keptLine keptWords hexadecimal sameBytes order bytes
+pub set-line : (x : Option ℕ) (y : Option (List ℕ)) (z : Option (Option (List ℕ))) → callFor K.Set x y (item (bytes "-")) z ≡ keptOf (made3 (λ s k v. call s (set k v)) x y z)
+unfolding callFor keptOf made made2 made3 lineFor keptLine keptWords keptItem item sameBytes order bytes
 set-line none y z = refl
 set-line (some s) none z = refl
 set-line (some s) (some k) none = refl
 set-line (some s) (some k) (some v) = refl
 
-pub setif-line : (x : Option ℕ) (y z u : Option (List ℕ)) → callFor K.SetIf x y z u ≡ keptOf (made4 (λ s k e v. call s (setif k e v)) x y z u)
+pub setif-line : (x : Option ℕ) (y : Option (List ℕ)) (z u : Option (Option (List ℕ))) → callFor K.SetIf x y z u ≡ keptOf (made4 (λ s k e v. call s (setif k e v)) x y z u)
 unfolding callFor keptOf made made2 made3 made4 lineFor keptLine keptWords
 setif-line none y z u = refl
 setif-line (some s) none z u = refl

@@ -11,7 +11,7 @@ use borrow.Author.Tests.{ltb-false}
 use Rattle.model.specs.Calls.{Words, get, set, setif, del, keys}
 use Rattle.model.specs.Cluster.{Cluster}
 use Rattle.model.specs.Lines.{Line, cluster, elect, call, deliver, copy, lose, timeout, stop, State, either, noServer, noBucketFor, badKey, badValue, badWords, firstOf, conditions, conditionsUpTo, inCluster, inClusterUpTo, createCluster, perform, performUpTo}
-use Rattle.parse.specs.Kept.{kept}
+use Rattle.parse.specs.Kept.{kept, keptItem}
 use Rattle.parse.specs.Meaning.{keptWords, keptLine}
 
 -- ---- a key or value
@@ -31,9 +31,10 @@ key-refused : (k : List ℕ) → badKey (kept 8 k) ≡ badKey k
 unfolding badKey
 key-refused k = rw (length-kept 8 k)
 
-value-refused : (v : List ℕ) → badValue (kept 16 v) ≡ badValue v
-unfolding badValue
-value-refused v = rw (length-kept 16 v)
+value-refused : (v : Option (List ℕ)) → badValue (keptItem v) ≡ badValue v
+unfolding badValue keptItem
+value-refused none = refl
+value-refused (some v) = rw (length-kept 16 v)
 
 either-false : (a b : Bool) → either a b ≡ false → (a ≡ false) × (b ≡ false)
 unfolding either
@@ -45,9 +46,10 @@ key-whole : (k : List ℕ) → badKey k ≡ false → kept 8 k ≡ k
 unfolding badKey
 key-whole k h = kept-whole 8 k (ltb-false 8 (length k) (either-false _ _ h .1))
 
-value-whole : (v : List ℕ) → badValue v ≡ false → kept 16 v ≡ v
-unfolding badValue
-value-whole v h = kept-whole 16 v (ltb-false 16 (length v) h)
+value-whole : (v : Option (List ℕ)) → badValue v ≡ false → keptItem v ≡ v
+unfolding badValue keptItem
+value-whole none h = refl
+value-whole (some v) h = ap some (kept-whole 16 v (ltb-false 16 (length v) h))
 
 -- ---- a call's words
 

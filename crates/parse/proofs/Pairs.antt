@@ -1,5 +1,5 @@
 -- Keys and values: which words are pairs of hexadecimal digits, and the bytes that pairs stand for.
-use mathlib.Core.Path.{_≡_, refl, sym, _∙_}
+use mathlib.Core.Path.{_≡_, refl, sym, ap, _∙_}
 use mathlib.Core.List.{List, [], _∷_}
 use mathlib.Core.Bool.{true, false}
 use mathlib.Core.Option.{Option, none, some}
@@ -14,9 +14,9 @@ use Rattle.entries.specs.Decoded.{keyBytes, valueBytes}
 use Rattle.entries.proofs.Lists.{Copying, copying-ends, take-min}
 use Rattle.table.specs.Form.{sameBytes}
 use Rattle.model.specs.Text.{bytes}
-use Rattle.model.specs.Parse.{hexDigit, pairs, hexadecimal}
-use Rattle.parse.specs.Digits.{digitOf, present, nibble, Nibble, pairBytes}
-use Rattle.parse.specs.Kept.{kept, keyIn, valueIn}
+use Rattle.model.specs.Parse.{hexDigit, pairs, hexadecimal, item}
+use Rattle.parse.specs.Digits.{digitOf, present, nibble, Nibble, pairBytes, itemBytes}
+use Rattle.parse.specs.Kept.{kept, keptItem, keyIn, valueIn, givenIn}
 use Rattle.parse.proofs.Numbers.{is-digit, no-digit}
 
 -- ---- a byte as a digit, 0 where it is none
@@ -111,6 +111,31 @@ unfolding hexadecimal
 hexadecimal-pairs [] h e = absurd (h refl)
 hexadecimal-pairs (b ∷ l) h e = rw (hexadecimal, e)
 
+pub item-empty : (l : List ℕ) → length l ≡ 0 → present (item l) ≡ false
+unfolding item present
+item-empty [] h = refl
+item-empty (b ∷ l) h = absurd (omega arith)
+
+pub item-dash : (l : List ℕ) → (length l ≡ 0 → ⊥) → sameBytes l (bytes "-") ≡ true → item l ≡ some none
+unfolding item
+item-dash [] h e = absurd (h refl)
+item-dash (b ∷ l) h e = rw (item, e)
+
+pub item-dot : (l : List ℕ) → (length l ≡ 0 → ⊥) → sameBytes l (bytes "-") ≡ false → sameBytes l (bytes ".") ≡ true → item l ≡ some (some [])
+unfolding item
+item-dot [] h e f = absurd (h refl)
+item-dot (b ∷ l) h e f = rw (item, e, f)
+
+pub item-pairs : (l : List ℕ) → (length l ≡ 0 → ⊥) → sameBytes l (bytes "-") ≡ false → sameBytes l (bytes ".") ≡ false → item l ≡ elim (pairs l) [ none ↦ none | some v ↦ some (some v) ]
+unfolding item
+item-pairs [] h e f = absurd (h refl)
+item-pairs (b ∷ l) h e f = rw (item, e, f)
+
+pub present-value : (o : Option (List ℕ)) → present {A = Option (List ℕ)} (elim o [ none ↦ none | some v ↦ some (some v) ]) ≡ present o
+unfolding present
+present-value none = refl
+present-value (some v) = refl
+
 -- ---- the bytes of pairs
 
 pub length-pairs : (l : List ℕ) → length (pairBytes l) ≡ length l / 2
@@ -144,3 +169,11 @@ key-kept s k c h e = rw (e, copied 8 s c h)
 pub value-kept : (s : List ℕ) {n i : ℕ} (v : Value) → Copying 16 s n (v .bytes) i → n ≤ i → v .len ≡ length s → valueIn v ≡ kept 16 s
 unfolding valueIn kept valueBytes
 value-kept s v c h e = rw (e, copied 16 s c h)
+
+pub given-there : (w : List ℕ) (v : Value) → sameBytes w (bytes "-") ≡ false → valueIn v ≡ kept 16 (pairBytes w) → givenIn (record { there = true; value = v }) ≡ keptItem (itemBytes w)
+unfolding givenIn keptItem itemBytes
+given-there w v h e = rw (itemBytes, h) (ap some e)
+
+pub given-none : (w : List ℕ) (v : Value) → sameBytes w (bytes "-") ≡ true → givenIn (record { there = false; value = v }) ≡ keptItem (itemBytes w)
+unfolding givenIn keptItem itemBytes
+given-none w v h = rw (itemBytes, h)

@@ -5,6 +5,8 @@ use mathlib.Core.List.{List, [], _∷_}
 use mathlib.Core.Option.{Option, none, some}
 use Prim.Native.Nat.{ℕ, _≤_, _+_, _*_}
 use lib.Dec.{ltb}
+use Rattle.table.specs.Form.{sameBytes}
+use Rattle.model.specs.Text.{bytes}
 use Rattle.model.specs.Parse.{hexDigit}
 use Rattle.parse.specs.declared.Number.{Number}
 use Rattle.parse.specs.declared.Number.the-variants.{Is, Not}
@@ -30,6 +32,10 @@ unfoldable pub pairBytes : List ℕ → List ℕ
 pairBytes [] = []
 pairBytes (a ∷ []) = []
 pairBytes (a ∷ (b ∷ l)) = (nibble a * 16 + nibble b) ∷ pairBytes l
+
+-- the value that a word stands for: none for `-`; `.` has no pairs
+unfoldable pub itemBytes : List ℕ → Option (List ℕ)
+itemBytes l = elim (sameBytes l (bytes "-")) [ true ↦ none | false ↦ some (pairBytes l) ]
 
 -- the digit that b is, as r
 pub record Nibble (b r : ℕ) : Type 0 where

@@ -6,11 +6,12 @@ use mathlib.Core.Option.{Option, none, some}
 use Prim.Native.Nat.{ℕ}
 use Rattle.table.specs.Form.{sameBytes}
 use Rattle.model.specs.Text.{bytes}
-use Rattle.model.specs.Measures.{maxKeyBytes, maxValueBytes}
+use Rattle.model.specs.Measures.{maxKeyBytes}
 use Rattle.model.specs.Calls.{Words, get, set, setif, del, keys}
 use Rattle.model.specs.Lines.{Line, cluster, elect, call, deliver, copy, lose, timeout, stop}
 use Rattle.model.specs.Parse.{number, made2}
-use Rattle.parse.specs.Kept.{kept, keyIn, valueIn}
+use Rattle.entries.specs.declared.Item.{Item}
+use Rattle.parse.specs.Kept.{kept, keptItem, keyIn, givenIn}
 use Rattle.parse.specs.declared.Kind.{Kind}
 use Rattle.parse.specs.declared.Kind.the-variants as K
 use Rattle.parse.specs.declared.Line.{Line as Parsed}
@@ -45,7 +46,7 @@ bucketLine w a b =
     ]
 
 -- the line of a kind with its numbers, key, expected value and value; what the kind does not use is not looked at
-unfoldable pub lineFor : Kind → ℕ → ℕ → List ℕ → List ℕ → List ℕ → Option Line
+unfoldable pub lineFor : Kind → ℕ → ℕ → List ℕ → Option (List ℕ) → Option (List ℕ) → Option Line
 lineFor K.Malformed a b k e v = none
 lineFor K.Cluster a b k e v = some (cluster a b)
 lineFor K.Elect a b k e v = some (elect a)
@@ -60,13 +61,20 @@ lineFor K.Lose a b k e v = some (lose a)
 lineFor K.Timeout a b k e v = some (timeout a b)
 lineFor K.Stop a b k e v = some (stop a)
 
+-- the expected value and the new value of a line that was read
+abbrev pub expectedItem : Parsed → Item
+expectedItem r = record { value = r .expected; there = r .«has_expected» }
+
+abbrev pub newItem : Parsed → Item
+newItem r = record { value = r .value; there = r .«has_value» }
+
 unfoldable pub lineIn : Parsed → Option Line
-lineIn r = lineFor (r .kind) (r .first) (r .second) (keyIn (r .key)) (valueIn (r .expected)) (valueIn (r .value))
+lineIn r = lineFor (r .kind) (r .first) (r .second) (keyIn (r .key)) (givenIn (expectedItem r)) (givenIn (newItem r))
 
 unfoldable pub keptWords : Words → Words
 keptWords (get k) = get (kept maxKeyBytes k)
-keptWords (set k v) = set (kept maxKeyBytes k) (kept maxValueBytes v)
-keptWords (setif k e v) = setif (kept maxKeyBytes k) (kept maxValueBytes e) (kept maxValueBytes v)
+keptWords (set k v) = set (kept maxKeyBytes k) (keptItem v)
+keptWords (setif k e v) = setif (kept maxKeyBytes k) (keptItem e) (keptItem v)
 keptWords (del k) = del (kept maxKeyBytes k)
 keptWords (keys b) = keys b
 
@@ -89,16 +97,16 @@ keptOf (some l) = some (keptLine l)
 unfoldable pub numbersFor : Kind → Option ℕ → Option ℕ → Option Line
 numbersFor k none y = none
 numbersFor k (some a) none = none
-numbersFor k (some a) (some b) = lineFor k a b [] [] []
+numbersFor k (some a) (some b) = lineFor k a b [] none none
 
 -- a line of one number
 unfoldable pub numberFor : Kind → Option ℕ → Option Line
 numberFor k none = none
-numberFor k (some a) = lineFor k a 0 [] [] []
+numberFor k (some a) = lineFor k a 0 [] none none
 
-unfoldable pub callFor : Kind → Option ℕ → Option (List ℕ) → Option (List ℕ) → Option (List ℕ) → Option Line
+unfoldable pub callFor : Kind → Option ℕ → Option (List ℕ) → Option (Option (List ℕ)) → Option (Option (List ℕ)) → Option Line
 callFor c none k e v = none
 callFor c (some s) none e v = none
 callFor c (some s) (some k) none v = none
 callFor c (some s) (some k) (some e) none = none
-callFor c (some s) (some k) (some e) (some v) = lineFor c s 0 (kept maxKeyBytes k) (kept maxValueBytes e) (kept maxValueBytes v)
+callFor c (some s) (some k) (some e) (some v) = lineFor c s 0 (kept maxKeyBytes k) (keptItem e) (keptItem v)

@@ -1,15 +1,16 @@
 // Keys and values in hexadecimal: whether a word is one, and the bytes that it stands for.
 use crate::digits::hex_digit;
 use crate::words::same_word;
+use entries::Item;
 use entries::Key;
 use entries::Value;
 use entries::keys::at_most;
 ghost use mathlib.Core.Path.{_≡_};
 ghost use Prim.Native.Nat.{_<_, _+_, _*_};
 ghost use lib.ListN.{length, getD};
-ghost use Rattle.model.specs.Parse.{pairs, hexadecimal};
-ghost use Rattle.parse.specs.Digits.{present, pairBytes, Nibble};
-ghost use Rattle.parse.specs.Kept.{kept, keyIn, valueIn};
+ghost use Rattle.model.specs.Parse.{pairs, hexadecimal, item};
+ghost use Rattle.parse.specs.Digits.{present, pairBytes, itemBytes, Nibble};
+ghost use Rattle.parse.specs.Kept.{kept, keptItem, keyIn, valueIn, givenIn};
 
 // Whether a word is made of pairs of digits.
 fn is_pairs(word: &[u8]) -> bool
@@ -32,7 +33,7 @@ fn is_pairs(word: &[u8]) -> bool
     true
 }
 
-// The same, where `-` is no bytes.
+// Whether a word is a key: pairs, or `-` for one of no bytes, which is refused later.
 pub fn is_hexadecimal(word: &[u8]) -> bool
     ensures { λ r. ⌜ r ≡ present (hexadecimal (now (word .entry))) ⌝ }
 {
@@ -40,6 +41,22 @@ pub fn is_hexadecimal(word: &[u8]) -> bool
         return false;
     }
     if same_word(word, b"-") {
+        return true;
+    }
+    is_pairs(word)
+}
+
+// Whether a word is a value: pairs, `-` for an absent one or `.` for one of no bytes.
+pub fn is_item(word: &[u8]) -> bool
+    ensures { λ r. ⌜ r ≡ present (item (now (word .entry))) ⌝ }
+{
+    if word.len() == 0 {
+        return false;
+    }
+    if same_word(word, b"-") {
+        return true;
+    }
+    if same_word(word, b".") {
         return true;
     }
     is_pairs(word)
@@ -80,7 +97,7 @@ pub fn key_in(word: &[u8]) -> Key
 }
 
 // The bytes of a value, and their number; those past the sixteenth are not kept.
-pub fn value_in(word: &[u8]) -> Value
+fn value_in(word: &[u8]) -> Value
     ensures { λ r. ⌜ valueIn r ≡ kept 16 (pairBytes (now (word .entry))) ⌝ }
 {
     let len = word.len() / 2;
@@ -92,4 +109,18 @@ pub fn value_in(word: &[u8]) -> Value
         i += 1;
     }
     Value { bytes, len }
+}
+
+// The value that a word stands for, absent for `-`; `.` has no pairs, so it stands for no bytes.
+pub fn item_in(word: &[u8]) -> Item
+    ensures { λ r. ⌜ givenIn r ≡ keptItem (itemBytes (now (word .entry))) ⌝ }
+{
+    let value = value_in(word);
+    if same_word(word, b"-") {
+        return Item {
+            there: false,
+            value,
+        };
+    }
+    Item { there: true, value }
 }

@@ -37,7 +37,8 @@ pub enum Kind {
 }
 
 // A line that was read. `first` is its server, place or number of servers, `second` its bucket or number of buckets. A
-// key or value has its whole length, which may be above its room, and as many of its bytes as there is room for.
+// key or value has its whole length, which may be above its room, and as many of its bytes as there is room for. Whether
+// the expected value and the value are there stands last: a flag among the arrays makes every line slower.
 pub struct Line {
     pub key: Key,
     pub expected: Value,
@@ -45,6 +46,8 @@ pub struct Line {
     pub first: u32,
     pub second: u32,
     pub kind: Kind,
+    pub has_expected: bool,
+    pub has_value: bool,
 }
 
 // The line of these bytes, which end before its line feed.

@@ -4,19 +4,21 @@ use crate::Line;
 use crate::Number;
 use crate::digits::number;
 use crate::hexadecimals::is_hexadecimal;
+use crate::hexadecimals::is_item;
+use crate::hexadecimals::item_in;
 use crate::hexadecimals::key_in;
-use crate::hexadecimals::value_in;
 use crate::words::same_word;
 use crate::words::word_end;
+use entries::Item;
 use entries::Key;
-use entries::Value;
+use entries::slots::absent;
 ghost use mathlib.Core.Path.{_≡_};
 ghost use mathlib.Core.List.{[], _∷_};
 ghost use mathlib.Core.Option.{none};
 ghost use Rattle.model.specs.Text.{bytes};
-ghost use Rattle.model.specs.Parse.{number, hexadecimal, words, lineOf1, lineOf2, lineOf3, lineOf4, lineOf};
+ghost use Rattle.model.specs.Parse.{number, hexadecimal, item, words, lineOf1, lineOf2, lineOf3, lineOf4, lineOf};
 ghost use Rattle.parse.specs.Digits.{present, allThree};
-ghost use Rattle.parse.specs.Kept.{keyIn, valueIn};
+ghost use Rattle.parse.specs.Kept.{keyIn, givenIn};
 ghost use Rattle.parse.specs.Meaning.{kindOf1, bucketLine, lineFor, lineIn, keptOf, numbersFor, callFor};
 
 fn blank_key() -> Key
@@ -26,37 +28,27 @@ fn blank_key() -> Key
     Key { bytes, len: 0 }
 }
 
-fn blank_value() -> Value
-    ensures { λ r. ⌜ valueIn r ≡ [] ⌝ }
+fn of_words(kind: Kind, first: u32, second: u32, key: Key, expected: Item, value: Item) -> Line
+    ensures { λ r. ⌜ lineIn r ≡ lineFor kind first second (keyIn key) (givenIn expected) (givenIn value) ⌝ }
 {
-    let bytes = [0u8; 16];
-    Value { bytes, len: 0 }
-}
-
-fn of_words(kind: Kind, first: u32, second: u32, key: Key, expected: Value, value: Value) -> Line
-    ensures { λ r. ⌜ lineIn r ≡ lineFor kind first second (keyIn key) (valueIn expected) (valueIn value) ⌝ }
-{
+    let e = expected.value;
+    let v = value.value;
     Line {
         kind,
         first,
         second,
         key,
-        expected,
-        value,
+        expected: e,
+        value: v,
+        has_expected: expected.there,
+        has_value: value.there,
     }
 }
 
 fn of_numbers(kind: Kind, first: u32, second: u32) -> Line
-    ensures { λ r. ⌜ lineIn r ≡ lineFor kind first second [] [] [] ⌝ }
+    ensures { λ r. ⌜ lineIn r ≡ lineFor kind first second [] none none ⌝ }
 {
-    of_words(
-        kind,
-        first,
-        second,
-        blank_key(),
-        blank_value(),
-        blank_value(),
-    )
+    of_words(kind, first, second, blank_key(), absent(), absent())
 }
 
 // A line that is not of the forms of document 01.
@@ -83,12 +75,13 @@ fn numbers_line(kind: Kind, first: &[u8], second: &[u8]) -> Line
     }
 }
 
-fn are_hexadecimal(key: &[u8], expected: &[u8], value: &[u8]) -> bool
-    ensures { λ r. ⌜ r ≡ allThree (present (hexadecimal (now (key .entry)))) (present (hexadecimal (now (expected .entry)))) (present (hexadecimal (now (value .entry)))) ⌝ }
+// Whether the words of a call are a key and two values.
+fn all_readable(key: &[u8], expected: &[u8], value: &[u8]) -> bool
+    ensures { λ r. ⌜ r ≡ allThree (present (hexadecimal (now (key .entry)))) (present (item (now (expected .entry)))) (present (item (now (value .entry)))) ⌝ }
 {
     if is_hexadecimal(key) {
-        if is_hexadecimal(expected) {
-            return is_hexadecimal(value);
+        if is_item(expected) {
+            return is_item(value);
         }
         return false;
     }
@@ -97,16 +90,16 @@ fn are_hexadecimal(key: &[u8], expected: &[u8], value: &[u8]) -> bool
 
 // A call with a key; where the kind has no expected value or no value, that word is any value.
 fn call_line(kind: Kind, server: &[u8], key: &[u8], expected: &[u8], value: &[u8]) -> Line
-    ensures { λ r. ⌜ lineIn r ≡ callFor kind (number (now (server .entry))) (hexadecimal (now (key .entry))) (hexadecimal (now (expected .entry))) (hexadecimal (now (value .entry))) ⌝ }
+    ensures { λ r. ⌜ lineIn r ≡ callFor kind (number (now (server .entry))) (hexadecimal (now (key .entry))) (item (now (expected .entry))) (item (now (value .entry))) ⌝ }
 {
     let n = number(server);
     match n {
         Number::Not => malformed(),
         Number::Is(s) => {
-            if are_hexadecimal(key, expected, value) {
+            if all_readable(key, expected, value) {
                 let k = key_in(key);
-                let e = value_in(expected);
-                let v = value_in(value);
+                let e = item_in(expected);
+                let v = item_in(value);
                 return of_words(kind, s, 0, k, e, v);
             }
             malformed()
@@ -149,7 +142,7 @@ fn line_of_1(word: &[u8], a: &[u8]) -> Line
 
 // A call with a key and no values.
 fn key_line(kind: Kind, server: &[u8], key: &[u8]) -> Line
-    ensures { λ r. ⌜ lineIn r ≡ callFor kind (number (now (server .entry))) (hexadecimal (now (key .entry))) (hexadecimal (bytes "-")) (hexadecimal (bytes "-")) ⌝ }
+    ensures { λ r. ⌜ lineIn r ≡ callFor kind (number (now (server .entry))) (hexadecimal (now (key .entry))) (item (bytes "-")) (item (bytes "-")) ⌝ }
 {
     call_line(kind, server, key, b"-", b"-")
 }

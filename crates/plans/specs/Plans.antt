@@ -6,8 +6,8 @@ use lib.Dec.{eqb, leb, ltb}
 use lib.ListN.{replicate}
 use Rattle.hash.specs.Fnv.{bucketOf}
 use Rattle.entries.specs.declared.Key.{Key}
-use Rattle.entries.specs.declared.Value.{Value}
-use Rattle.entries.specs.Decoded.{keyBytes}
+use Rattle.entries.specs.declared.Item.{Item}
+use Rattle.entries.specs.Decoded.{keyBytes, absentItem}
 use Rattle.model.specs.Measures.{maxElection, maxKeyBytes, maxValueBytes}
 use Rattle.model.specs.Calls as calls
 use Rattle.server.specs.declared.Head.{Head}
@@ -32,11 +32,8 @@ use Rattle.plans.specs.declared.Plan.{Plan}
 abbrev pub noKey : Key
 noKey = record { bytes = replicate 8 0; len = 0 }
 
-abbrev pub noValue : Value
-noValue = record { bytes = replicate 16 0; len = 0 }
-
 abbrev pub noWords : Words
-noWords = record { kind = 0; bucket = 0; key = noKey; expected = noValue; value = noValue }
+noWords = record { kind = 0; bucket = 0; key = noKey; expected = absentItem; value = absentItem }
 
 abbrev pub noMessage : Message
 noMessage = record { kind = 0; sender = 0; receiver = 0; bucket = 0; election = 0; round = 0; version = noVersion }
@@ -99,6 +96,9 @@ stopAt m c s f = elim (inside c s 0) [ true ↦ stopPlan c s (localAt m s (slotO
 unfoldable pub badKey : ℕ → Bool
 badKey k = elim (eqb k 0) [ true ↦ true | false ↦ ltb maxKeyBytes k ]
 
+unfoldable pub badItem : Item → Bool
+badItem i = elim (i .there) [ true ↦ ltb maxValueBytes (i .value .len) | false ↦ false ]
+
 unfoldable pub badLengths : Words → Bool
 badLengths w =
     elim (eqb (w .kind) 5) [
@@ -107,7 +107,7 @@ badLengths w =
           elim (badKey (w .key .len)) [
             | true ↦ true
             | false ↦
-                elim (ltb maxValueBytes (w .expected .len)) [ true ↦ true | false ↦ ltb maxValueBytes (w .value .len) ]
+                elim (badItem (w .expected)) [ true ↦ true | false ↦ badItem (w .value) ]
           ]
     ]
 

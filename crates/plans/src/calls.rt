@@ -9,6 +9,7 @@ use crate::parts::take_plan;
 use crate::servers::load_local;
 use decoding::decode;
 use effects::effect;
+use entries::Item;
 use entries::Key;
 use entries::keys::key_length;
 use hash::bucket_of;
@@ -33,7 +34,7 @@ ghost use Rattle.server.specs.Views.{among, effectIn, wordsIn};
 ghost use Rattle.memory.specs.Layout.{serverRoom, slotRoom, contentSize};
 ghost use Rattle.moves.specs.Reactions.{EffectNeeded};
 ghost use Rattle.views.specs.Memory.{tableAt};
-ghost use Rattle.plans.specs.Plans.{badKey, badLengths, callBucket, callStep, callRefusal, callPlan};
+ghost use Rattle.plans.specs.Plans.{badKey, badItem, badLengths, callBucket, callStep, callRefusal, callPlan};
 ghost use Rattle.plans.specs.Arrays.{Measured, Called, CallPlanned};
 
 fn bad_key(len: usize) -> bool
@@ -43,6 +44,17 @@ fn bad_key(len: usize) -> bool
         return true;
     }
     8 < len
+}
+
+// A value that is there and too long.
+fn bad_item(i: Item) -> bool
+    ensures { λ r. ⌜ r ≡ badItem i ⌝ }
+{
+    let value = i.value;
+    if i.there {
+        return 16 < value.len;
+    }
+    false
 }
 
 // 4: a key or value of wrong length.
@@ -58,10 +70,10 @@ fn bad_lengths(w: Words) -> bool
     if bad_key(key.len) {
         return true;
     }
-    if 16 < expected.len {
+    if bad_item(expected) {
         return true;
     }
-    16 < value.len
+    bad_item(value)
 }
 
 fn key_bucket(k: Key, buckets: u32) -> u32

@@ -4,6 +4,7 @@ use crate::Step;
 use entries::Decoded;
 use entries::Key;
 use entries::Value;
+use entries::slots::absent;
 use entries::slots::blank_slot;
 use memory::Counts;
 use moves::Local;
@@ -31,16 +32,13 @@ pub fn no_words() -> Words
         bytes: [0u8; 8],
         len: 0,
     };
-    let value = Value {
-        bytes: [0u8; 16],
-        len: 0,
-    };
+    let none = absent();
     Words {
         kind: 0,
         bucket: 0,
         key,
-        expected: value,
-        value,
+        expected: none,
+        value: none,
     }
 }
 

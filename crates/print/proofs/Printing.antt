@@ -1,6 +1,7 @@
 -- A text printed piece by piece: what is written of it, and what is still to be written.
 use mathlib.Core.Path.{_≡_, refl, sym, ap, _∙_}
 use mathlib.Core.List.{List, [], _∷_, _++_, append-nil}
+use mathlib.Core.Option.{some}
 use Prim.Native.Nat.{ℕ, _≤_, _<_, _+_, _/_, _%_}
 use native.Mathlib.Omega.{arith}
 use native.Mathlib.Numerals.{add-one}
@@ -8,7 +9,7 @@ use lib.ListN.{length, drop, getD, set, length-append, take-append-drop, drop-of
 use lib.Seq.{sets, sets-eq, length-sets, drop-cons}
 use Rattle.table.proofs.Filling.{sets-append}
 use Rattle.model.specs.Text.{bytes}
-use Rattle.model.specs.Print.{hexDigit, hexPairs, hexadecimal}
+use Rattle.model.specs.Print.{hexDigit, hexPairs, valueText}
 use Rattle.print.specs.Printed.{Printed}
 
 -- ---- a piece by itself
@@ -113,13 +114,13 @@ pub pairs-end : hexPairs [] ≡ []
 unfolding hexPairs
 pairs-end = refl
 
--- no bytes are `-`
-pub hexadecimal-none : (l : List ℕ) → length l ≡ 0 → hexadecimal l ≡ bytes "-"
-unfolding hexadecimal
-hexadecimal-none [] h = refl
-hexadecimal-none (b ∷ l) h = absurd (omega arith)
+-- a value of no bytes is `.`, any other its pairs
+pub text-empty : (l : List ℕ) → length l ≡ 0 → valueText (some l) ≡ bytes "."
+unfolding valueText
+text-empty [] h = refl
+text-empty (b ∷ l) h = absurd (omega arith)
 
-pub hexadecimal-some : (l : List ℕ) → (length l ≡ 0 → ⊥) → hexadecimal l ≡ hexPairs l
-unfolding hexadecimal
-hexadecimal-some [] h = absurd (h refl)
-hexadecimal-some (b ∷ l) h = refl
+pub text-pairs : (l : List ℕ) → (length l ≡ 0 → ⊥) → valueText (some l) ≡ hexPairs l
+unfolding valueText
+text-pairs [] h = absurd (h refl)
+text-pairs (b ∷ l) h = refl

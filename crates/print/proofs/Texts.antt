@@ -1,6 +1,7 @@
 -- The texts of lines, in the pieces that they are printed in.
 use mathlib.Core.Path.{_≡_, refl, ap, _∙_}
 use mathlib.Core.List.{List, [], _∷_, _++_, map, append-assoc}
+use mathlib.Core.Option.{some}
 use Prim.Native.Nat.{ℕ, _≤_, _<_, _+_}
 use native.Mathlib.Omega.{arith}
 use native.Mathlib.Numerals.{add-one}
@@ -11,7 +12,7 @@ use Rattle.entries.specs.Decoded.{keyBytes, valueBytes}
 use Rattle.entries.proofs.Lists.{take-as-many}
 use Rattle.model.specs.Text.{bytes}
 use Rattle.model.specs.Lines.{Tally, refusal}
-use Rattle.model.specs.Print.{decimal, hexadecimal, keyList, keysText, wordOf, dataOf, answerText, outcomeText, tallyText}
+use Rattle.model.specs.Print.{decimal, hexPairs, valueText, keyList, keysText, wordOf, dataOf, answerText, outcomeText, tallyText}
 use Rattle.print.specs.declared.Outcome.{Outcome}
 use Rattle.print.specs.declared.Outcome.the-variants as O
 use Rattle.print.specs.declared.KeyList.{KeyList}
@@ -41,6 +42,7 @@ word-of O.Mismatch v l = refl
 word-of O.Full v l = refl
 word-of O.NotDone v l = refl
 word-of O.Unknown v l = refl
+word-of O.Absent v l = refl
 
 pub answer-text : (a : Answer) → answerText (answerIn a) ≡ (decimal (a .call) ++ ((bytes " " ++ (wordFor (a .outcome) ++ bytes " ")) ++ decimal (a .rounds))) ++ (dataOf (answerIn a .result) ++ bytes "\n")
 unfolding answerText answerIn
@@ -58,11 +60,11 @@ firstKeys n l = take n (map keyBytes l)
 pub length-keys : (n : ℕ) (l : List Key) → n ≤ length l → length (firstKeys n l) ≡ n
 length-keys n l h = simp (length-take, length-map) (omega arith)
 
-key-text : (k : List ℕ) (l : List (List ℕ)) → keyList (k ∷ l) ≡ (bytes " " ++ hexadecimal k) ++ keyList l
+key-text : (k : List ℕ) (l : List (List ℕ)) → keyList (k ∷ l) ≡ (bytes " " ++ hexPairs k) ++ keyList l
 unfolding keyList
 key-text k l = simp append-assoc
 
-pub next-key : (n : ℕ) (l : List Key) (i : ℕ) → i < n → n ≤ length l → Next keyList (firstKeys n l) i (bytes " " ++ hexadecimal (keyBytes (getD l i blank)))
+pub next-key : (n : ℕ) (l : List Key) (i : ℕ) → i < n → n ≤ length l → Next keyList (firstKeys n l) i (bytes " " ++ hexPairs (keyBytes (getD l i blank)))
 next-key n l i h k = record { is = ap keyList first ∙ key-text (keyBytes (getD l i blank)) (drop (i + 1) (firstKeys n l)) }
   where
     first : drop i (firstKeys n l) ≡ keyBytes (getD l i blank) ∷ drop (i + 1) (firstKeys n l)
@@ -93,9 +95,13 @@ within c = omega (arith, c .low, c .four)
 
 -- ---- the data of an answer
 
-pub data-value : (a : Answer) → a .outcome ≡ O.Value → dataOf (answerIn a .result) ≡ bytes " " ++ hexadecimal (valueBytes (a .value))
+pub data-value : (a : Answer) → a .outcome ≡ O.Value → dataOf (answerIn a .result) ≡ bytes " " ++ valueText (some (valueBytes (a .value)))
 unfolding answerIn resultFor dataOf
 data-value a e = rw e
+
+pub data-absent : (a : Answer) → a .outcome ≡ O.Absent → dataOf (answerIn a .result) ≡ bytes " -"
+unfolding answerIn resultFor dataOf valueText bytes
+data-absent a e = rw e
 
 pub data-keys : (a : Answer) → a .outcome ≡ O.Keys → dataOf (answerIn a .result) ≡ keysText (keysIn (a .keys))
 unfolding answerIn resultFor dataOf

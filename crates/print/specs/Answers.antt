@@ -1,5 +1,6 @@
 -- What an answer by value stands for.
 use mathlib.Core.List.{List, [], map}
+use mathlib.Core.Option.{none, some}
 use Prim.Native.Nat.{ℕ}
 use lib.ListN.{take}
 use Rattle.entries.specs.Decoded.{keyBytes, valueBytes}
@@ -17,13 +18,14 @@ keysIn l = take (l .count) (map keyBytes (l .keys))
 
 -- the result of a kind with its value or keys; what the kind does not use is not looked at
 unfoldable pub resultFor : Outcome → List ℕ → List (List ℕ) → Result
-resultFor O.Value v l = value v
+resultFor O.Value v l = value (some v)
 resultFor O.Keys v l = listed l
 resultFor O.Done v l = done
 resultFor O.Mismatch v l = mismatch
 resultFor O.Full v l = full
 resultFor O.NotDone v l = notdone
 resultFor O.Unknown v l = unknown
+resultFor O.Absent v l = value none
 
 unfoldable pub answerIn : Answer → Answered
 answerIn a = record { call = a .call; result = resultFor (a .outcome) (valueBytes (a .value)) (keysIn (a .keys)); rounds = a .rounds }

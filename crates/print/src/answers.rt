@@ -7,7 +7,7 @@ use crate::decimals::put_decimal;
 use crate::hexadecimals::put_key;
 use crate::hexadecimals::put_value;
 use entries::keys::at_most;
-ghost use mathlib.Core.List.{_++_, []};
+ghost use mathlib.Core.List.{_++_};
 ghost use Prim.Native.Nat.{_≤_, _+_};
 ghost use lib.ListN.{length};
 ghost use Rattle.model.specs.Text.{bytes};
@@ -63,6 +63,7 @@ fn put_word(out: &mut [u8], at: usize, o: Outcome) -> usize
         Outcome::Full => put_bytes(out, at, b" full "),
         Outcome::NotDone => put_bytes(out, at, b" notdone "),
         Outcome::Unknown => put_bytes(out, at, b" unknown "),
+        Outcome::Absent => put_bytes(out, at, b" value "),
     }
 }
 
@@ -86,6 +87,7 @@ fn put_data(out: &mut [u8], at: usize, a: Answer) -> usize
         Outcome::Full => at,
         Outcome::NotDone => at,
         Outcome::Unknown => at,
+        Outcome::Absent => put_bytes(out, at, b" -"),
     }
 }
 

@@ -6,11 +6,12 @@ use entries::keys::key_length;
 use entries::keys::value_length;
 ghost use mathlib.Core.Path.{_≡_};
 ghost use mathlib.Core.List.{_++_};
+ghost use mathlib.Core.Option.{some};
 ghost use Prim.Native.Nat.{_≤_, _<_, _+_};
 ghost use lib.ListN.{length};
 ghost use Rattle.entries.specs.Decoded.{keyBytes, valueBytes};
 ghost use Rattle.model.specs.Text.{bytes};
-ghost use Rattle.model.specs.Print.{hexDigit, hexPairs, hexadecimal};
+ghost use Rattle.model.specs.Print.{hexDigit, hexPairs, valueText};
 ghost use Rattle.print.specs.Printed.{Printed};
 
 fn hex_digit(d: u8) -> u8
@@ -40,35 +41,35 @@ fn put_pairs(out: &mut [u8], at: usize, bytes: &[u8]) -> usize
     p
 }
 
-// The same, with `-` for no bytes.
-pub fn put_hexadecimal(out: &mut [u8], at: usize, bytes: &[u8]) -> usize
-    requires { ⌜ at + length (hexadecimal (now bytes)) ≤ length (now out) ⌝ }
-    ensures { λ r. ⌜ Printed (hexadecimal (now (bytes .entry))) (now (out .entry)) at (now (out .exit)) r ⌝ }
+// The same, with `.` for no bytes.
+fn put_there(out: &mut [u8], at: usize, bytes: &[u8]) -> usize
+    requires { ⌜ at + length (valueText (some (now bytes))) ≤ length (now out) ⌝ }
+    ensures { λ r. ⌜ Printed (valueText (some (now (bytes .entry)))) (now (out .entry)) at (now (out .exit)) r ⌝ }
 {
     if bytes.len() == 0 {
-        return put_bytes(out, at, b"-");
+        return put_bytes(out, at, b".");
     }
     put_pairs(out, at, bytes)
 }
 
-// A value after a space.
+// A value that is there, after a space.
 pub fn put_value(out: &mut [u8], at: usize, v: Value) -> usize
-    requires { ⌜ at + length (bytes " " ++ hexadecimal (valueBytes v)) ≤ length (now out) ⌝ }
-    ensures { λ r. ⌜ Printed (bytes " " ++ hexadecimal (valueBytes v)) (now (out .entry)) at (now (out .exit)) r ⌝ }
+    requires { ⌜ at + length (bytes " " ++ valueText (some (valueBytes v))) ≤ length (now out) ⌝ }
+    ensures { λ r. ⌜ Printed (bytes " " ++ valueText (some (valueBytes v))) (now (out .entry)) at (now (out .exit)) r ⌝ }
 {
     let n = value_length(v);
     let b = v.bytes;
     let p = put_bytes(out, at, b" ");
-    put_hexadecimal(out, p, &b[..n])
+    put_there(out, p, &b[..n])
 }
 
 // A key after a space.
 pub fn put_key(out: &mut [u8], at: usize, k: Key) -> usize
-    requires { ⌜ at + length (bytes " " ++ hexadecimal (keyBytes k)) ≤ length (now out) ⌝ }
-    ensures { λ r. ⌜ Printed (bytes " " ++ hexadecimal (keyBytes k)) (now (out .entry)) at (now (out .exit)) r ⌝ }
+    requires { ⌜ at + length (bytes " " ++ hexPairs (keyBytes k)) ≤ length (now out) ⌝ }
+    ensures { λ r. ⌜ Printed (bytes " " ++ hexPairs (keyBytes k)) (now (out .entry)) at (now (out .exit)) r ⌝ }
 {
     let n = key_length(k);
     let b = k.bytes;
     let p = put_bytes(out, at, b" ");
-    put_hexadecimal(out, p, &b[..n])
+    put_pairs(out, p, &b[..n])
 }

@@ -14,7 +14,7 @@ pub struct Figures {
     pub from: usize,
 }
 
-// The result of a call.
+// The result of a call: `Value` for a value that is there, `Absent` where the key is absent.
 pub enum Outcome {
     Value,
     Keys,
@@ -23,6 +23,7 @@ pub enum Outcome {
     Full,
     NotDone,
     Unknown,
+    Absent,
 }
 
 // Keys: the first `count` of four.

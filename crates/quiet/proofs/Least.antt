@@ -84,7 +84,7 @@ elected n = (bytes "cluster " ++ (decimal n ++ bytes " 1")) ∷ (bytes "elect 0"
 abbrev setting : List ℕ
 setting = bytes "set 0 61 01"
 
-set-line : parse setting ≡ some (call 0 (set (0x61 ∷ []) (0x01 ∷ [])))
+set-line : parse setting ≡ some (call 0 (set (0x61 ∷ []) (some (0x01 ∷ []))))
 unfolding computing
 set-line = refl
 
@@ -119,7 +119,7 @@ least-by n h = go (begun n .cluster) refl h
           quiet = is-quiet c 0 b;
           line = setting;
           out = out;
-          call = record { words = set (0x61 ∷ []) (0x01 ∷ []); reads = set-line; accepted = accepted };
+          call = record { words = set (0x61 ∷ []) (some (0x01 ∷ [])); reads = set-line; accepted = accepted };
           more = more;
           last = last;
           drains = drains;

@@ -11,7 +11,7 @@ use native.Mathlib.Decide.{ℕ-discrete}
 use lib.ListN.{length, getD, set, replicate, length-set, length-replicate}
 use lib.Seq.{getD-set-same}
 use Rattle.entries.specs.Entries.{Entry, valueOf, stored}
-use Rattle.table.specs.Form.{sameBytes}
+use Rattle.table.specs.Form.{sameValue}
 use Rattle.model.specs.Measures.{maxEntries}
 use Rattle.model.specs.Calls.{Words, get, setif, del, keys, Result, value, listed, done, mismatch, full, notdone, unknown, Effect, answers, writes, setting, effect}
 use Rattle.model.specs.Calls
@@ -122,7 +122,7 @@ abbrev ProperEffect : Effect → Type 0
 ProperEffect (answers r) = isProper r ≡ true
 ProperEffect (writes t) = Unit {0}
 
-setting-proper : (k v : List ℕ) (t : List Entry) → ProperEffect (setting k v t)
+setting-proper : (k : List ℕ) (v : Option (List ℕ)) (t : List Entry) → ProperEffect (setting k v t)
 unfolding setting isProper
 setting-proper k v t = go (stored maxEntries k v t)
   where
@@ -134,7 +134,7 @@ effect-proper : (w : Words) (t : List Entry) → ProperEffect (effect w t)
 unfolding effect isProper
 effect-proper (get k) t = refl
 effect-proper (Calls.set k v) t = setting-proper k v t
-effect-proper (setif k x v) t = go (sameBytes (valueOf k t) x)
+effect-proper (setif k x v) t = go (sameValue (valueOf k t) x)
   where
     go : (a : Bool) → ProperEffect (elim a as (λ _. Effect) [ true ↦ setting k v t | false ↦ answers mismatch ])
     go true = setting-proper k v t

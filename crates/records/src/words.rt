@@ -1,5 +1,6 @@
 // The words of open calls: their numbers in the slots, their keys and values in 3584 lent bytes, 56 blocks of 64.
 use blocks::copy_part_bytes;
+use entries::Item;
 use entries::Key;
 use entries::Value;
 use entries::keys::key_length;
@@ -9,9 +10,9 @@ use memory::SLOT;
 use memory::TEXT;
 use server::Words;
 ghost use mathlib.Core.Path.{_≡_};
-ghost use Prim.Native.Nat.{_+_, _*_, _<_, _≤_};
+ghost use Prim.Native.Nat.{_+_, _-_, _*_, _<_, _≤_};
 ghost use lib.Seq.{paste};
-ghost use Rattle.memory.specs.Layout.{slotRoom, numbersFields, numbersStores, numbersIn, keyFrom, valueFrom, wordsAt, putWords, putTexts};
+ghost use Rattle.memory.specs.Layout.{slotRoom, numbersFields, numbersStores, numbersIn, itemWord, keyFrom, valueFrom, itemFrom, wordsAt, putWords, putTexts};
 
 // The words of the call of slot k.
 pub fn load_words(slots: &[u32; 1792], texts: &[u8; 3584], k: usize) -> Words
@@ -21,8 +22,8 @@ pub fn load_words(slots: &[u32; 1792], texts: &[u8; 3584], k: usize) -> Words
     let n = numbers_fields(slots, k);
     let b = k * TEXT;
     let key = key_from(texts, b + 0, n.key as usize);
-    let expected = value_from(texts, b + 8, n.expected as usize);
-    let value = value_from(texts, b + 24, n.value as usize);
+    let expected = item_from(texts, b + 8, n.expected as usize);
+    let value = item_from(texts, b + 24, n.value as usize);
     Words {
         kind: n.kind,
         bucket: n.bucket,
@@ -65,6 +66,28 @@ fn value_from(texts: &[u8; 3584], at: usize, len: usize) -> Value
     Value { bytes, len }
 }
 
+// One less, 0 for 0.
+fn one_less(n: usize) -> usize
+    ensures { λ r. ⌜ r ≡ n - 1 ⌝ }
+{
+    if n == 0 {
+        return 0;
+    }
+    n - 1
+}
+
+// A value by its word: none for 0, else of a length one below it.
+fn item_from(texts: &[u8; 3584], at: usize, word: usize) -> Item
+    requires { ⌜ at + 16 ≤ 3584 ⌝ }
+    ensures { λ r. ⌜ r ≡ itemFrom (now (texts .entry)) at word ⌝ }
+{
+    let value = value_from(texts, at, one_less(word));
+    Item {
+        there: 0 < word,
+        value,
+    }
+}
+
 // The call of slot k gets the words w.
 pub fn store_words(slots: &mut [u32; 1792], texts: &mut [u8; 3584], k: usize, w: Words)
     requires { ⌜ k < slotRoom ⌝ }
@@ -75,6 +98,17 @@ pub fn store_words(slots: &mut [u32; 1792], texts: &mut [u8; 3584], k: usize, w:
     store_texts(texts, k, w);
 }
 
+// The word of a value: 0 where there is none, else one above its length.
+fn item_word(i: Item) -> u32
+    ensures { λ r. ⌜ r ≡ itemWord i ⌝ }
+{
+    if i.there {
+        let n = value_length(i.value);
+        return n as u32 + 1;
+    }
+    0
+}
+
 // The numbers of words: a length above the room is stored as all of it.
 fn numbers_in(w: Words) -> Numbers
     ensures { λ r. ⌜ r ≡ numbersIn w ⌝ }
@@ -83,8 +117,8 @@ fn numbers_in(w: Words) -> Numbers
         kind: w.kind,
         bucket: w.bucket,
         key: key_length(w.key) as u32,
-        expected: value_length(w.expected) as u32,
-        value: value_length(w.value) as u32,
+        expected: item_word(w.expected),
+        value: item_word(w.value),
     }
 }
 
@@ -106,8 +140,10 @@ fn store_texts(texts: &mut [u8; 3584], k: usize, w: Words)
 {
     let b = k * TEXT;
     let key = w.key;
-    let expected = w.expected;
-    let value = w.value;
+    let e = w.expected;
+    let v = w.value;
+    let expected = e.value;
+    let value = v.value;
     let key_bytes = key.bytes;
     let expected_bytes = expected.bytes;
     let value_bytes = value.bytes;

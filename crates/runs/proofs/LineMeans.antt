@@ -14,8 +14,8 @@ use Rattle.views.specs.Memory.{Memory, Sized, standing, clusterIn}
 use Rattle.parse.specs.declared.Kind.{Kind}
 use Rattle.parse.specs.declared.Kind.the-variants as K
 use Rattle.parse.specs.declared.Line.{Line}
-use Rattle.parse.specs.Kept.{keyIn, valueIn}
-use Rattle.parse.specs.Meaning.{lineFor, lineIn}
+use Rattle.parse.specs.Kept.{keyIn, givenIn}
+use Rattle.parse.specs.Meaning.{lineFor, expectedItem, newItem, lineIn}
 use Rattle.runs.specs.Runs.{refusedRun, executed, linePlan, plannedRun, runBy, lineRun, EffectOf}
 use Rattle.runs.specs.Meaning.{stateIn, performed, resultOf, WholeLine}
 use Rattle.runs.proofs.Accepting.{Ready}
@@ -31,7 +31,7 @@ module _ (m : Memory) (l : List ℕ) (t : lines.Tally) (x : Line) (f : Effect) w
   counts = countsAt (m .counts)
 
   abbrev reads : Kind → Option lines.Line
-  reads k = lineFor k (x .first) (x .second) (keyIn (x .key)) (valueIn (x .expected)) (valueIn (x .value))
+  reads k = lineFor k (x .first) (x .second) (keyIn (x .key)) (givenIn (expectedItem x)) (givenIn (newItem x))
 
   abbrev Means : Kind → Type 0
   Means k = performed (stateIn m t) (reads k) ≡ resultOf t (runBy k m l x f) f

@@ -2,6 +2,7 @@
 use mathlib.Core.Path.{_≡_, refl, sym, ap, ap₂, _∙_}
 use mathlib.Core.Bool.{Bool, true, false}
 use mathlib.Core.List.{List, [], append-nil}
+use mathlib.Core.Option.{some}
 use Prim.Native.Nat.{ℕ, _-_, _≤_}
 use native.Mathlib.Omega.{arith}
 use borrow.Author.Tests.{lt-leb, ltb-false, eqb-false}
@@ -10,7 +11,8 @@ use lib.ListN.{length, length-append, length-take, length-replicate}
 use Rattle.hash.specs.Fnv.{bucketOf}
 use Rattle.entries.specs.declared.Key.{Key}
 use Rattle.entries.specs.declared.Value.{Value}
-use Rattle.entries.specs.Decoded.{keyBytes, valueBytes}
+use Rattle.entries.specs.declared.Item.{Item}
+use Rattle.entries.specs.Decoded.{keyBytes, valueBytes, itemIn, absentItem}
 use Rattle.model.specs.Calls as calls
 use Rattle.model.specs.Cluster as cluster
 use Rattle.model.specs.Lines as lines
@@ -20,8 +22,9 @@ use Rattle.server.specs.declared.Words.{Words}
 use Rattle.server.specs.Views.{among, wordsBy, wordsIn}
 use Rattle.memory.specs.declared.Counts.{Counts}
 use Rattle.memory.specs.Layout.{Whole}
-use Rattle.parse.specs.Kept.{keyIn, valueIn}
-use Rattle.plans.specs.Plans.{noKey, noValue, badKey, badLengths, callBucket}
+use Rattle.parse.specs.Kept.{keyIn, valueIn, givenIn}
+use Rattle.parse.specs.Meaning.{expectedItem, newItem}
+use Rattle.plans.specs.Plans.{noKey, badKey, badItem, badLengths, callBucket}
 use Rattle.parse.specs.declared.Kind.the-variants as K
 use Rattle.parse.specs.declared.Line.{Line}
 use Rattle.runs.specs.Runs.{wordsWith, wordsOf}
@@ -61,16 +64,39 @@ module _ (v : Value) (room : length (v .bytes) ≡ 16) where
   unfolding valueIn valueBytes
   length-value = simp (length-append, length-take, length-replicate) (omega arith)
 
-  value-refused : lines.badValue (valueIn v) ≡ ltb 16 (v .len)
-  unfolding lines.badValue
-  value-refused = rw length-value
-
   value-same : v .len ≤ 16 → valueIn v ≡ valueBytes v
   unfolding valueIn
   value-same h = let z : v .len - 16 ≡ 0 = omega arith in rw (z, append-nil)
 
-  value-sized : v .len ≤ 16 → ValueSized (valueIn v)
-  value-sized h = omega (arith, length-value)
+-- the same of a value that may be absent
+module _ (v : Value) (room : length (v .bytes) ≡ 16) where
+  abbrev either-way : Bool → Item
+  either-way there = record { there = there; value = v }
+
+  refused-either : (b : Bool) → lines.badValue (givenIn (either-way b)) ≡ badItem (either-way b)
+  unfolding lines.badValue givenIn badItem
+  refused-either true = ap (ltb 16) (length-value v room)
+  refused-either false = refl
+
+  same-either : (b : Bool) → badItem (either-way b) ≡ false → givenIn (either-way b) ≡ itemIn (either-way b)
+  unfolding givenIn itemIn badItem
+  same-either true good = ap some (value-same v room (ltb-false 16 _ good))
+  same-either false good = refl
+
+  sized-either : (b : Bool) → badItem (either-way b) ≡ false → ValueSized (givenIn (either-way b))
+  unfolding givenIn badItem
+  sized-either true good = omega (arith, length-value v room, ltb-false 16 (v .len) good)
+  sized-either false good = tt
+
+module _ (i : Item) (room : length (i .value .bytes) ≡ 16) where
+  item-refused : lines.badValue (givenIn i) ≡ badItem i
+  item-refused = refused-either (i .value) room (i .there)
+
+  item-same : badItem i ≡ false → givenIn i ≡ itemIn i
+  item-same = same-either (i .value) room (i .there)
+
+  item-sized : badItem i ≡ false → ValueSized (givenIn i)
+  item-sized = sized-either (i .value) room (i .there)
 
 -- the lengths of a key
 key-lengths : (n : ℕ) → badKey n ≡ false → (1 ≤ n) × (n ≤ 8)
@@ -92,20 +118,20 @@ key-bucket n k h = lt-leb n (bucketOf n k) (bucket-less (record { servers = []; 
 -- ---- lengths that are not refused
 
 -- of a key, an expected value and a value
-record Short (k e v : ℕ) : Type 0 where
+record Short (k : ℕ) (e v : Item) : Type 0 where
   key : badKey k ≡ false
-  expected : e ≤ 16
-  value : v ≤ 16
+  expected : badItem e ≡ false
+  value : badItem v ≡ false
 
 none-of-three : (x y z : Bool) → elim x [ true ↦ true | false ↦ elim y [ true ↦ true | false ↦ z ] ] ≡ false → (x ≡ false) × (y ≡ false) × (z ≡ false)
 none-of-three true y z h = let w : _≡_ {A = ℕ} 0 1 = cc in absurd (omega arith)
 none-of-three false true z h = let w : _≡_ {A = ℕ} 0 1 = cc in absurd (omega arith)
 none-of-three false false z h = (refl, refl, h)
 
-short : (k e v : ℕ) → elim (badKey k) [ true ↦ true | false ↦ elim (ltb 16 e) [ true ↦ true | false ↦ ltb 16 v ] ] ≡ false → Short k e v
+short : (k : ℕ) (e v : Item) → elim (badKey k) [ true ↦ true | false ↦ elim (badItem e) [ true ↦ true | false ↦ badItem v ] ] ≡ false → Short k e v
 short k e v h =
-    let (x, y, z) = none-of-three (badKey k) (ltb 16 e) (ltb 16 v) h in
-    record { key = x; expected = ltb-false 16 e y; value = ltb-false 16 v z }
+    let (x, y, z) = none-of-three (badKey k) (badItem e) (badItem v) h in
+    record { key = x; expected = y; value = z }
 
 either-else : (x y : Bool) → lines.either x y ≡ elim x [ true ↦ true | false ↦ y ]
 unfolding lines.either
@@ -114,9 +140,9 @@ either-else false y = refl
 
 -- ---- the five calls
 
-module _ (k : Key) (room : length (k .bytes) ≡ 8) (e v : Value) (roomE : length (e .bytes) ≡ 16) (roomV : length (v .bytes) ≡ 16) where
+module _ (k : Key) (room : length (k .bytes) ≡ 8) (e v : Item) (roomE : length (e .value .bytes) ≡ 16) (roomV : length (v .value .bytes) ≡ 16) where
   abbrev Fits : Type 0
-  Fits = Short (k .len) (e .len) (v .len)
+  Fits = Short (k .len) e v
 
   same-key : Fits → keyIn k ≡ keyBytes k
   same-key s = key-same k room (key-lengths (k .len) (s .key) .1)
@@ -126,7 +152,7 @@ module _ (k : Key) (room : length (k .bytes) ≡ 8) (e v : Value) (roomE : lengt
 
   -- a call with a key, by its kind
   keyed : (kind : ℕ) (words : calls.Words) → among 5 kind ≡ true → eqb kind 5 ≡ false
-      → lines.badWords words ≡ elim (badKey (k .len)) [ true ↦ true | false ↦ elim (ltb 16 (e .len)) [ true ↦ true | false ↦ ltb 16 (v .len) ] ]
+      → lines.badWords words ≡ elim (badKey (k .len)) [ true ↦ true | false ↦ elim (badItem e) [ true ↦ true | false ↦ badItem v ] ]
       → ((x : cluster.Cluster) → lines.noBucketFor x words ≡ false) → ((n : ℕ) → calls.bucketFor n words ≡ bucketOf n (keyIn k))
       → (Fits → words ≡ wordsIn (wordsWith kind 0 k e v)) → (Fits → WordsSized words) → Said (wordsWith kind 0 k e v) words
   keyed kind words live other bad there bucket same sized =
@@ -135,57 +161,56 @@ module _ (k : Key) (room : length (k .bytes) ≡ 8) (e v : Value) (roomE : lengt
         bad = bad ∙ sym lengths;
         buckets = λ x c d h. there x ∙ sym (ap (leb (c .buckets)) (bucketed c) ∙ key-bucket (c .buckets) (keyBytes k) h);
         fine = λ h.
-            let s = short (k .len) (e .len) (v .len) (sym lengths ∙ h) in
-            let (lo, hi) = key-lengths (k .len) (s .key) in
+            let s = short (k .len) e v (sym lengths ∙ h) in
             record {
               same = same s;
-              whole = record { key-room = room; key-length = hi; expected-room = roomE; expected-length = s .expected; value-room = roomV; value-length = s .value };
+              whole = record { key-room = room; expected-room = roomE; value-room = roomV };
               sized = sized s;
               bucket = λ c. bucket (c .buckets) ∙ (ap (bucketOf (c .buckets)) (same-key s) ∙ sym (bucketed c));
             };
       }
     where
-      lengths : badLengths (wordsWith kind 0 k e v) ≡ elim (badKey (k .len)) [ true ↦ true | false ↦ elim (ltb 16 (e .len)) [ true ↦ true | false ↦ ltb 16 (v .len) ] ]
+      lengths : badLengths (wordsWith kind 0 k e v) ≡ elim (badKey (k .len)) [ true ↦ true | false ↦ elim (badItem e) [ true ↦ true | false ↦ badItem v ] ]
       lengths = unfold badLengths in rw (badLengths, other)
 
       bucketed : (c : Counts) → callBucket c (wordsWith kind 0 k e v) ≡ bucketOf (c .buckets) (keyBytes k)
       bucketed c = unfold callBucket in rw (callBucket, other)
 
-  said-setif : Said (wordsWith 3 0 k e v) (calls.setif (keyIn k) (valueIn e) (valueIn v))
+  said-setif : Said (wordsWith 3 0 k e v) (calls.setif (keyIn k) (givenIn e) (givenIn v))
   unfolding among lines.badWords lines.noBucketFor calls.bucketFor wordsBy
   said-setif =
-      keyed 3 (calls.setif (keyIn k) (valueIn e) (valueIn v)) refl refl
-      (ap₂ lines.either (key-refused k room) (ap₂ lines.either (value-refused e roomE) (value-refused v roomV) ∙ either-else (ltb 16 (e .len)) (ltb 16 (v .len)))
-      ∙ either-else (badKey (k .len)) (elim (ltb 16 (e .len)) [ true ↦ true | false ↦ ltb 16 (v .len) ]))
-      (λ x. refl) (λ n. refl) (λ s. rw (same-key s, value-same e roomE (s .expected), value-same v roomV (s .value)))
-      (λ s. (sized-key s, value-sized e roomE (s .expected), value-sized v roomV (s .value)))
+      keyed 3 (calls.setif (keyIn k) (givenIn e) (givenIn v)) refl refl
+      (ap₂ lines.either (key-refused k room) (ap₂ lines.either (item-refused e roomE) (item-refused v roomV) ∙ either-else (badItem e) (badItem v))
+      ∙ either-else (badKey (k .len)) (elim (badItem e) [ true ↦ true | false ↦ badItem v ]))
+      (λ x. refl) (λ n. refl) (λ s. rw (same-key s, item-same e roomE (s .expected), item-same v roomV (s .value)))
+      (λ s. (sized-key s, item-sized e roomE (s .expected), item-sized v roomV (s .value)))
 
 -- a call with a key alone
 key-alone : (k : Key) → length (k .bytes) ≡ 8 → lines.badKey (keyIn k) ≡ elim (badKey (k .len)) [ true ↦ true | false ↦ false ]
 key-alone k room = key-refused k room ∙ elim (badKey (k .len)) as (λ z. z ≡ elim z [ true ↦ true | false ↦ false ]) [ true ↦ refl | false ↦ refl ]
 
 module _ (k : Key) (room : length (k .bytes) ≡ 8) where
-  said-get : Said (wordsWith 1 0 k noValue noValue) (calls.get (keyIn k))
-  unfolding among lines.badWords lines.noBucketFor calls.bucketFor wordsBy
+  said-get : Said (wordsWith 1 0 k absentItem absentItem) (calls.get (keyIn k))
+  unfolding among lines.badWords lines.noBucketFor calls.bucketFor wordsBy badItem
   said-get =
-      keyed k room noValue noValue refl refl 1 (calls.get (keyIn k)) refl refl (key-alone k room) (λ x. refl) (λ n. refl)
-      (λ s. ap calls.get (same-key k room noValue noValue refl refl s)) (sized-key k room noValue noValue refl refl)
+      keyed k room absentItem absentItem refl refl 1 (calls.get (keyIn k)) refl refl (key-alone k room) (λ x. refl) (λ n. refl)
+      (λ s. ap calls.get (same-key k room absentItem absentItem refl refl s)) (sized-key k room absentItem absentItem refl refl)
 
-  said-del : Said (wordsWith 4 0 k noValue noValue) (calls.del (keyIn k))
-  unfolding among lines.badWords lines.noBucketFor calls.bucketFor wordsBy
+  said-del : Said (wordsWith 4 0 k absentItem absentItem) (calls.del (keyIn k))
+  unfolding among lines.badWords lines.noBucketFor calls.bucketFor wordsBy badItem
   said-del =
-      keyed k room noValue noValue refl refl 4 (calls.del (keyIn k)) refl refl (key-alone k room) (λ x. refl) (λ n. refl)
-      (λ s. ap calls.del (same-key k room noValue noValue refl refl s)) (sized-key k room noValue noValue refl refl)
+      keyed k room absentItem absentItem refl refl 4 (calls.del (keyIn k)) refl refl (key-alone k room) (λ x. refl) (λ n. refl)
+      (λ s. ap calls.del (same-key k room absentItem absentItem refl refl s)) (sized-key k room absentItem absentItem refl refl)
 
-  said-set : (v : Value) → length (v .bytes) ≡ 16 → Said (wordsWith 2 0 k noValue v) (calls.set (keyIn k) (valueIn v))
-  unfolding among lines.badWords lines.noBucketFor calls.bucketFor wordsBy
+  said-set : (v : Item) → length (v .value .bytes) ≡ 16 → Said (wordsWith 2 0 k absentItem v) (calls.set (keyIn k) (givenIn v))
+  unfolding among lines.badWords lines.noBucketFor calls.bucketFor wordsBy badItem
   said-set v roomV =
-      keyed k room noValue v refl roomV 2 (calls.set (keyIn k) (valueIn v)) refl refl
-      (ap₂ lines.either (key-refused k room) (value-refused v roomV) ∙ either-else (badKey (k .len)) (ltb 16 (v .len))) (λ x. refl) (λ n. refl)
-      (λ s. ap₂ calls.set (same-key k room noValue v refl roomV s) (value-same v roomV (s .value)))
-      (λ s. (sized-key k room noValue v refl roomV s, value-sized v roomV (s .value)))
+      keyed k room absentItem v refl roomV 2 (calls.set (keyIn k) (givenIn v)) refl refl
+      (ap₂ lines.either (key-refused k room) (item-refused v roomV) ∙ either-else (badKey (k .len)) (badItem v)) (λ x. refl) (λ n. refl)
+      (λ s. ap₂ calls.set (same-key k room absentItem v refl roomV s) (item-same v roomV (s .value)))
+      (λ s. (sized-key k room absentItem v refl roomV s, item-sized v roomV (s .value)))
 
-said-keys : (b : ℕ) → Said (wordsWith 5 b noKey noValue noValue) (calls.keys b)
+said-keys : (b : ℕ) → Said (wordsWith 5 b noKey absentItem absentItem) (calls.keys b)
 unfolding among lines.badWords badLengths lines.noBucketFor lines.noBucket callBucket calls.bucketFor wordsBy
 said-keys b =
     record {
@@ -195,7 +220,7 @@ said-keys b =
       fine = λ h.
           record {
             same = refl;
-            whole = record { key-room = refl; key-length = omega arith; expected-room = refl; expected-length = omega arith; value-room = refl; value-length = omega arith };
+            whole = record { key-room = refl; expected-room = refl; value-room = refl };
             sized = tt;
             bucket = λ c. refl;
           };
@@ -208,13 +233,13 @@ module _ (x : Line) (whole : WholeLine x) where
   unfolding wordsOf
   get-said = said-get (x .key) (whole .key)
 
-  pub set-said : Said (wordsOf K.Set x) (calls.set (keyIn (x .key)) (valueIn (x .value)))
+  pub set-said : Said (wordsOf K.Set x) (calls.set (keyIn (x .key)) (givenIn (newItem x)))
   unfolding wordsOf
-  set-said = said-set (x .key) (whole .key) (x .value) (whole .value)
+  set-said = said-set (x .key) (whole .key) (newItem x) (whole .value)
 
-  pub setif-said : Said (wordsOf K.SetIf x) (calls.setif (keyIn (x .key)) (valueIn (x .expected)) (valueIn (x .value)))
+  pub setif-said : Said (wordsOf K.SetIf x) (calls.setif (keyIn (x .key)) (givenIn (expectedItem x)) (givenIn (newItem x)))
   unfolding wordsOf
-  setif-said = said-setif (x .key) (whole .key) (x .expected) (x .value) (whole .expected) (whole .value)
+  setif-said = said-setif (x .key) (whole .key) (expectedItem x) (newItem x) (whole .expected) (whole .value)
 
   pub del-said : Said (wordsOf K.Del x) (calls.del (keyIn (x .key)))
   unfolding wordsOf

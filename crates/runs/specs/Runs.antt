@@ -5,12 +5,12 @@ use mathlib.Core.List.{List}
 use Prim.Native.Nat.{ℕ, _+_, _%_, _^_}
 use lib.Dec.{eqb}
 use lib.ListN.{replicate}
-use Rattle.entries.specs.Decoded.{tableIn}
+use Rattle.entries.specs.Decoded.{absentItem, tableIn}
 use Rattle.entries.specs.Entries.{Entry}
 use Rattle.table.specs.Form.{within}
 use Rattle.model.specs.Measures.{maxServers, maxBuckets}
 use Rattle.entries.specs.declared.Key.{Key}
-use Rattle.entries.specs.declared.Value.{Value}
+use Rattle.entries.specs.declared.Item.{Item}
 use Rattle.model.specs.Calls as calls
 use Rattle.server.specs.declared.Words.{Words}
 use Rattle.server.specs.Views.{effectIn, wordsIn}
@@ -27,10 +27,11 @@ use Rattle.views.specs.Queue.{Flight, flight, withoutMessage, sent}
 use Rattle.plans.specs.declared.Step.{Step}
 use Rattle.plans.specs.declared.Plan.{Plan}
 use Rattle.plans.specs.Arrays.{askedAt}
-use Rattle.plans.specs.Plans.{badLengths, noKey, noValue, noWords, refusedPlan, callBucket, messageStep, gone, receiverAt, electAt, timeoutAt, stopAt, callAt, handAt, loseAt}
+use Rattle.plans.specs.Plans.{badLengths, noKey, noWords, refusedPlan, callBucket, messageStep, gone, receiverAt, electAt, timeoutAt, stopAt, callAt, handAt, loseAt}
 use Rattle.parse.specs.declared.Kind.{Kind}
 use Rattle.parse.specs.declared.Kind.the-variants as K
 use Rattle.parse.specs.declared.Line.{Line}
+use Rattle.parse.specs.Meaning.{expectedItem, newItem}
 use Rattle.runs.specs.declared.Report.{Report}
 
 pub record Ran : Type 0 where
@@ -165,18 +166,18 @@ clusterRun m l n b = elim (standing (countsAt (m .counts))) [ true ↦ refusedRu
 -- ---- a line; f is the effect that it asks for, if it does
 
 -- the words of a call: what its kind does not use is none
-abbrev pub wordsWith : ℕ → ℕ → Key → Value → Value → Words
+abbrev pub wordsWith : ℕ → ℕ → Key → Item → Item → Words
 wordsWith kind b k e v = record { kind = kind; bucket = b; key = k; expected = e; value = v }
 
 unfoldable pub wordsOf : Kind → Line → Words
 wordsOf K.Malformed x = noWords
 wordsOf K.Cluster x = noWords
 wordsOf K.Elect x = noWords
-wordsOf K.Get x = wordsWith 1 0 (x .key) noValue noValue
-wordsOf K.Set x = wordsWith 2 0 (x .key) noValue (x .value)
-wordsOf K.SetIf x = wordsWith 3 0 (x .key) (x .expected) (x .value)
-wordsOf K.Del x = wordsWith 4 0 (x .key) noValue noValue
-wordsOf K.Keys x = wordsWith 5 (x .second) noKey noValue noValue
+wordsOf K.Get x = wordsWith 1 0 (x .key) absentItem absentItem
+wordsOf K.Set x = wordsWith 2 0 (x .key) absentItem (newItem x)
+wordsOf K.SetIf x = wordsWith 3 0 (x .key) (expectedItem x) (newItem x)
+wordsOf K.Del x = wordsWith 4 0 (x .key) absentItem absentItem
+wordsOf K.Keys x = wordsWith 5 (x .second) noKey absentItem absentItem
 wordsOf K.Deliver x = noWords
 wordsOf K.Copy x = noWords
 wordsOf K.Lose x = noWords

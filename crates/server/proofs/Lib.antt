@@ -1,2 +1,3 @@
 pub mod Counting
 pub mod HeadLaws
+pub mod WordLaws

@@ -7,7 +7,7 @@ use Prim.Native.Nat.{ℕ}
 use lib.Dec.{leb, eqb}
 use lib.ListN.{take}
 use Rattle.entries.specs.Entries.{Entry, keysOf}
-use Rattle.entries.specs.Decoded.{keyBytes, valueBytes, tableIn}
+use Rattle.entries.specs.Decoded.{keyBytes, valueBytes, itemIn, tableIn}
 use Rattle.model.specs.Calls as calls
 use Rattle.model.specs.Cluster as cluster
 use Rattle.server.specs.declared.Version.{Version}
@@ -107,22 +107,25 @@ roundIn n r t = elim (among 4 (r .purpose)) [ true ↦ some (openIn n r t) | fal
 
 -- ---- a call
 
--- the words by their kind
-unfoldable pub wordsBy : ℕ → Words → calls.Words
-wordsBy kind w =
+-- the words by their kind: with bucket b, key k, expected value e and new value v
+abbrev pub wordsOfKind : ℕ → ℕ → List ℕ → Option (List ℕ) → Option (List ℕ) → calls.Words
+wordsOfKind kind b k e v =
     elim (eqb kind 1) [
-      | true ↦ calls.get (keyBytes (w .key))
+      | true ↦ calls.get k
       | false ↦
           elim (eqb kind 2) [
-            | true ↦ calls.set (keyBytes (w .key)) (valueBytes (w .value))
+            | true ↦ calls.set k v
             | false ↦
                 elim (eqb kind 3) [
-                  | true ↦ calls.setif (keyBytes (w .key)) (valueBytes (w .expected)) (valueBytes (w .value))
+                  | true ↦ calls.setif k e v
                   | false ↦
-                      elim (eqb kind 4) [ true ↦ calls.del (keyBytes (w .key)) | false ↦ calls.keys (w .bucket) ]
+                      elim (eqb kind 4) [ true ↦ calls.del k | false ↦ calls.keys b ]
                 ]
           ]
     ]
+
+unfoldable pub wordsBy : ℕ → Words → calls.Words
+wordsBy kind w = wordsOfKind kind (w .bucket) (keyBytes (w .key)) (itemIn (w .expected)) (itemIn (w .value))
 
 abbrev pub wordsIn : Words → calls.Words
 wordsIn w = wordsBy (w .kind) w
@@ -134,12 +137,12 @@ takenIn c words = record { number = c .number; words = words; rounds = c .rounds
 unfoldable pub callIn : Call → calls.Words → Option cluster.Call
 callIn c words = elim (among 5 (c .kind)) [ true ↦ some (takenIn c words) | false ↦ none ]
 
--- ---- results: document 01's words in its order, with the data of the first two
+-- ---- results: document 01's words in its order, with the data of the first two; 8 is the value of an absent key
 
 unfoldable pub resultIn : ℕ → List ℕ → List Entry → calls.Result
 resultIn x v t =
     elim (eqb x 1) [
-      | true ↦ calls.value v
+      | true ↦ calls.value (some v)
       | false ↦
           elim (eqb x 2) [
             | true ↦ calls.listed (keysOf t)
@@ -153,7 +156,11 @@ resultIn x v t =
                             elim (eqb x 5) [
                               | true ↦ calls.full
                               | false ↦
-                                  elim (eqb x 6) [ true ↦ calls.notdone | false ↦ calls.unknown ]
+                                  elim (eqb x 6) [
+                                    | true ↦ calls.notdone
+                                    | false ↦
+                                        elim (eqb x 8) [ true ↦ calls.value none | false ↦ calls.unknown ]
+                                  ]
                             ]
                       ]
                 ]

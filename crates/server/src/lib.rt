@@ -1,5 +1,6 @@
 // The rules of one server on small structs by value. What each number stands for is said in specs/Views.antt.
 use entries::Decoded;
+use entries::Item;
 use entries::Key;
 use entries::Value;
 
@@ -52,8 +53,8 @@ pub struct Words {
     pub kind: u32,
     pub bucket: u32,
     pub key: Key,
-    pub expected: Value,
-    pub value: Value,
+    pub expected: Item,
+    pub value: Item,
 }
 
 // An answer without its data.
@@ -63,7 +64,8 @@ pub struct Answer {
     pub rounds: u32,
 }
 
-// What is left to do once the table is read: with result 0 the table is to be written, otherwise the call is answered.
+// What is left to do once the table is read: with result 0 the table is to be written, otherwise the call is answered. The
+// value counts with result 1; with result 8 the key is absent.
 pub struct Effect {
     pub value: Value,
     pub table: Decoded,

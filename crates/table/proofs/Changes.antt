@@ -2,23 +2,23 @@
 use mathlib.Core.Path.{_≡_, refl, _∙_}
 use mathlib.Core.List.{List, [], _∷_}
 use mathlib.Core.Bool.{Bool, true, false}
-use mathlib.Core.Option.{some}
+use mathlib.Core.Option.{Option, none, some}
 use Prim.Native.Nat.{ℕ, _≤_}
 use native.Mathlib.Omega.{arith}
 use lib.ListN.{length}
 use borrow.Author.Tests.{ltb-true}
 use lib.Dec.{ltb}
-use Rattle.entries.specs.declared.Order.the-variants.{Before}
+use Rattle.entries.specs.declared.Order.the-variants.{Before, Same}
 use Rattle.entries.specs.Entries.{Entry, entry, order, valueOf, holds, put, remove, stored}
-use Rattle.table.specs.Form.{maxKey, rising, sized, fits}
+use Rattle.table.specs.Form.{maxKey, rising, sized, ValueAtMost, fits}
 use Rattle.entries.proofs.Comparison.{order-same, after-before, before-trans}
-use Rattle.entries.proofs.Changes.{by-order, length-put, length-put-held, length-remove, absent-value}
+use Rattle.entries.proofs.Changes.{by-order, length-put, length-put-held, length-remove}
 use Rattle.table.proofs.Fitting.{Sizes, sized-parts, sized-from, rising-parts, rising-from, rising-key, rising-tail, fits-parts, fits-from}
 
 -- ---- sizes
 
 other-entries : {long : ℕ} {e : Entry} {t u : List Entry} → Sizes long e t → sized long u ≡ true → Sizes long e u
-other-entries s o = record { keyLow = s .keyLow; keyTop = s .keyTop; valueLow = s .valueLow; valueTop = s .valueTop; others = o }
+other-entries s o = record { keyLow = s .keyLow; keyTop = s .keyTop; valueTop = s .valueTop; others = o }
 
 sized-put : (long : ℕ) (k v : List ℕ) (t : List Entry) → Sizes long (entry k v) [] → sized long t ≡ true → sized long (put k v t) ≡ true
 unfolding put
@@ -86,6 +86,18 @@ rising-remove k [] r = r
 rising-remove k (e ∷ t) r =
     by-order k (e .key) (λ o. rw (remove, o) r) (λ o. rw (remove, o) (rising-tail e t r)) (λ o. rw (remove, o) (rising-remove-after e k t r))
 
+-- a key that was removed has no value
+pub removed-absent : (k : List ℕ) (t : List Entry) → rising t ≡ true → valueOf k (remove k t) ≡ none
+unfolding remove valueOf
+removed-absent k [] r = refl
+removed-absent k (e ∷ t) r =
+    by-order k (e .key) (λ o. rw (remove, o, valueOf, o)) (λ o. rw (remove, o) (behind t r o))
+    (λ o. rw (remove, o, valueOf, o) (removed-absent k t (rising-tail e t r)))
+  where
+    behind : (u : List Entry) → rising (e ∷ u) ≡ true → order k (e .key) ≡ Same → valueOf k u ≡ none
+    behind [] h o = refl
+    behind (f ∷ u) h o = rw (valueOf, order-same k (e .key) o, rising-parts e f u h .0)
+
 -- ---- a table that fits is changed to one that fits
 
 pub remove-fits : (most long : ℕ) (k : List ℕ) (t : List Entry) → fits most long t ≡ true → fits most long (remove k t) ≡ true
@@ -94,24 +106,24 @@ remove-fits most long k t h =
     fits-from (record { few = omega (arith, length-remove k t); sizes = sized-remove long k t (f .sizes); rises = rising-remove k t (f .rises) })
 
 module _ (most long : ℕ) (k : List ℕ) (k₁ : 1 ≤ length k) (k₂ : length k ≤ maxKey) where
-  put-fits : (b : ℕ) (v : List ℕ) (t : List Entry) → length (b ∷ v) ≤ long → length (put k (b ∷ v) t) ≤ most → fits most long t ≡ true → fits most long (put k (b ∷ v) t) ≡ true
-  put-fits b v t l n h =
+  put-fits : (v : List ℕ) (t : List Entry) → length v ≤ long → length (put k v t) ≤ most → fits most long t ≡ true → fits most long (put k v t) ≡ true
+  put-fits v t l n h =
       let f = fits-parts most long t h in
-      let new : Sizes long (entry k (b ∷ v)) [] = record { keyLow = k₁; keyTop = k₂; valueLow = omega arith; valueTop = l; others = no-others } in
-      fits-from (record { few = n; sizes = sized-put long k (b ∷ v) t new (f .sizes); rises = rising-put k (b ∷ v) t (f .rises) })
+      let new : Sizes long (entry k v) [] = record { keyLow = k₁; keyTop = k₂; valueTop = l; others = no-others } in
+      fits-from (record { few = n; sizes = sized-put long k v t new (f .sizes); rises = rising-put k v t (f .rises) })
     where
       no-others : sized long [] ≡ true
       no-others = unfold sized in refl
 
-  pub stored-fits : (v : List ℕ) (t u : List Entry) → length v ≤ long → fits most long t ≡ true → stored most k v t ≡ some u → fits most long u ≡ true
+  pub stored-fits : (v : Option (List ℕ)) (t u : List Entry) → ValueAtMost long v → fits most long t ≡ true → stored most k v t ≡ some u → fits most long u ≡ true
   unfolding stored
-  stored-fits [] t u l h e = let s : remove k t ≡ u = cc in rw (← s) (remove-fits most long k t h)
-  stored-fits (b ∷ v) t u l h e = go (holds k t) refl (ltb (length t) most) refl
+  stored-fits none t u l h e = let s : remove k t ≡ u = cc in rw (← s) (remove-fits most long k t h)
+  stored-fits (some v) t u l h e = go (holds k t) refl (ltb (length t) most) refl
     where
-      is-put : (length (put k (b ∷ v) t) ≤ most) → some (put k (b ∷ v) t) ≡ some u → fits most long u ≡ true
-      is-put n d = let s : put k (b ∷ v) t ≡ u = cc in rw (← s) (put-fits b v t l n h)
+      is-put : (length (put k v t) ≤ most) → some (put k v t) ≡ some u → fits most long u ≡ true
+      is-put n d = let s : put k v t ≡ u = cc in rw (← s) (put-fits v t l n h)
 
       go : (p : Bool) → holds k t ≡ p → (q : Bool) → ltb (length t) most ≡ q → fits most long u ≡ true
-      go true p q c = is-put (omega (arith, length-put-held k (b ∷ v) t p, fits-parts most long t h .few)) (rw (stored, p) at e)
-      go false p true c = is-put (omega (arith, length-put k (b ∷ v) t, ltb-true (length t) most c)) (rw (stored, p, c) at e)
+      go true p q c = is-put (omega (arith, length-put-held k v t p, fits-parts most long t h .few)) (rw (stored, p) at e)
+      go false p true c = is-put (omega (arith, length-put k v t, ltb-true (length t) most c)) (rw (stored, p, c) at e)
       go false p false c = let z : _≡_ {A = ℕ} 0 1 = cc (rw (stored, p, c) at e) in absurd (omega arith)

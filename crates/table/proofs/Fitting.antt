@@ -37,50 +37,44 @@ within-from {top} {n} h k = both-from (le-leb 1 n h) (le-leb n top k)
 pub record Sizes (long : ℕ) (e : Entry) (t : List Entry) : Type 0 where
   pub keyLow : 1 ≤ length (e .key)
   pub keyTop : length (e .key) ≤ maxKey
-  pub valueLow : 1 ≤ length (e .value)
   pub valueTop : length (e .value) ≤ long
   pub others : sized long t ≡ true
 
 pub sized-parts : (long : ℕ) (e : Entry) (t : List Entry) → sized long (e ∷ t) ≡ true → Sizes long e t
 unfolding sized
 sized-parts long e t h =
-    let (p, q) = both-parts (within maxKey (length (e .key))) (both (within long (length (e .value))) (sized long t)) h in
-    let (r, s) = both-parts (within long (length (e .value))) (sized long t) q in
+    let (p, q) = both-parts (within maxKey (length (e .key))) (both (leb (length (e .value)) long) (sized long t)) h in
+    let (r, s) = both-parts (leb (length (e .value)) long) (sized long t) q in
     let k = within-parts maxKey (length (e .key)) p in
-    let v = within-parts long (length (e .value)) r in
-    record { keyLow = k .0; keyTop = k .1; valueLow = v .0; valueTop = v .1; others = s }
+    record { keyLow = k .0; keyTop = k .1; valueTop = leb-true _ _ r; others = s }
 
 pub sized-from : (long : ℕ) (e : Entry) (t : List Entry) → Sizes long e t → sized long (e ∷ t) ≡ true
 unfolding sized
-sized-from long e t s = both-from (within-from (s .keyLow) (s .keyTop)) (both-from (within-from (s .valueLow) (s .valueTop)) (s .others))
+sized-from long e t s = both-from (within-from (s .keyLow) (s .keyTop)) (both-from (le-leb _ _ (s .valueTop)) (s .others))
 
 -- a table is sized where its first entry is, and the others are
 pub sized-first : (long : ℕ) (e : Entry) (t : List Entry) → sized long (e ∷ []) ≡ true → sized long (e ∷ t) ≡ sized long t
 unfolding sized
-sized-first long e t h = go (within maxKey (length (e .key))) refl (within long (length (e .value))) refl
+sized-first long e t h = go (within maxKey (length (e .key))) refl (leb (length (e .value)) long) refl
   where
-    go : (p : Bool) → within maxKey (length (e .key)) ≡ p → (q : Bool) → within long (length (e .value)) ≡ q → sized long (e ∷ t) ≡ sized long t
+    go : (p : Bool) → within maxKey (length (e .key)) ≡ p → (q : Bool) → leb (length (e .value)) long ≡ q → sized long (e ∷ t) ≡ sized long t
     go true p true q = rw (sized, p, q)
     go true p false q = let z : _≡_ {A = ℕ} 0 1 = cc (rw (sized, p, q) at h) in absurd (omega arith)
     go false p q r = let z : _≡_ {A = ℕ} 0 1 = cc (rw (sized, p) at h) in absurd (omega arith)
 
 pub unsized-first : (long : ℕ) (e : Entry) (t : List Entry) → sized long (e ∷ []) ≡ false → sized long (e ∷ t) ≡ false
 unfolding sized
-unsized-first long e t h = go (within maxKey (length (e .key))) refl (within long (length (e .value))) refl
+unsized-first long e t h = go (within maxKey (length (e .key))) refl (leb (length (e .value)) long) refl
   where
-    go : (p : Bool) → within maxKey (length (e .key)) ≡ p → (q : Bool) → within long (length (e .value)) ≡ q → sized long (e ∷ t) ≡ false
+    go : (p : Bool) → within maxKey (length (e .key)) ≡ p → (q : Bool) → leb (length (e .value)) long ≡ q → sized long (e ∷ t) ≡ false
     go true p true q = let z : _≡_ {A = ℕ} 0 1 = cc (rw (sized, p, q) at h) in absurd (omega arith)
     go true p false q = rw (sized, p, q)
     go false p q r = rw (sized, p)
 
--- an entry with no key, or with no value
+-- an entry with no key
 pub no-key : (long : ℕ) (e : Entry) (t : List Entry) → length (e .key) ≡ 0 → sized long (e ∷ t) ≡ false
 unfolding sized within
 no-key long e t h = rw (sized, h)
-
-pub no-value : (long : ℕ) (e : Entry) (t : List Entry) → 1 ≤ length (e .key) → length (e .key) ≤ maxKey → length (e .value) ≡ 0 → sized long (e ∷ t) ≡ false
-unfolding sized within
-no-value long e t k m h = rw (sized, within-from k m, h)
 
 -- a rising table's first two keys, and the table after the first
 pub rising-parts : (e f : Entry) (t : List Entry) → rising (e ∷ (f ∷ t)) ≡ true → (order (e .key) (f .key) ≡ Before) × (rising (f ∷ t) ≡ true)

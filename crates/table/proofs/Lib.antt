@@ -4,3 +4,4 @@ pub mod Changes
 pub mod Reading
 pub mod Parsing
 pub mod Filling
+pub mod Offsets

@@ -1,9 +1,9 @@
--- The bucket form (document 01, 'Bucket bytes'). `most` is the greatest number of keys in a bucket and `long` the
--- greatest length of a value: 4 and 16 in document 01, which makes 113 bytes.
+-- The bucket form (document 01, 'Bucket bytes', with document 02's Change 2). `most` is the greatest number of keys in a bucket
+-- and `long` the greatest length of a value: 4 and 16 in document 01, which makes 113 bytes.
 use mathlib.Core.List.{List, [], _∷_, _++_}
 use mathlib.Core.Bool.{Bool, true, false}
 use mathlib.Core.Option.{Option, none, some}
-use Prim.Native.Nat.{ℕ, zero, suc, _+_, _-_, _*_, min}
+use Prim.Native.Nat.{ℕ, zero, suc, _+_, _-_, _*_, _≤_, min}
 use lib.Dec.{leb}
 use lib.ListN.{length, getD, take, drop, replicate}
 use Rattle.entries.specs.declared.Order.the-variants.{Before, Same, After}
@@ -29,15 +29,20 @@ rising [] = true
 rising (e ∷ []) = true
 rising (e ∷ (f ∷ t)) = elim (order (e .key) (f .key)) [ Before ↦ rising (f ∷ t) | Same ↦ false | After ↦ false ]
 
--- keys of 1 to 8 bytes, values of 1 to long
+-- keys of 1 to 8 bytes, values of at most long
 unfoldable pub sized : ℕ → List Entry → Bool
 sized long [] = true
 sized long (e ∷ t) =
     elim (within maxKey (length (e .key))) [
       | false ↦ false
       | true ↦
-          elim (within long (length (e .value))) [ false ↦ false | true ↦ sized long t ]
+          elim (leb (length (e .value)) long) [ false ↦ false | true ↦ sized long t ]
     ]
+
+-- a value that is there has at most long bytes; an absent one has no length
+abbrev pub ValueAtMost : ℕ → Option (List ℕ) → Type 0
+ValueAtMost long none = Unit {0}
+ValueAtMost long (some v) = length v ≤ long
 
 unfoldable pub fits : ℕ → ℕ → List Entry → Bool
 fits most long t =
@@ -50,7 +55,8 @@ fits most long t =
 -- ---- the form of a table
 
 -- for each entry an offset and length for its key and for its value; `at` is where the first key begins, and each
--- later key or value begins where the one before it ended
+-- later key or value begins where the one before it ended; so a value of no bytes has the offset of the pair after it, or of
+-- the end
 unfoldable pub header : ℕ → List Entry → List ℕ
 header at [] = []
 header at (e ∷ t) =
@@ -88,6 +94,13 @@ tableOf most long b =
 
 unfoldable pub sameBytes : List ℕ → List ℕ → Bool
 sameBytes a b = elim (order a b) [ Before ↦ false | Same ↦ true | After ↦ false ]
+
+-- whether two values are the same; absent is the same as absent alone
+unfoldable pub sameValue : Option (List ℕ) → Option (List ℕ) → Bool
+sameValue none none = true
+sameValue none (some b) = false
+sameValue (some a) none = false
+sameValue (some a) (some b) = sameBytes a b
 
 -- bytes are taken exactly where they are the form of a table that has one; else refusal 13
 unfoldable pub readBucket : ℕ → ℕ → List ℕ → Option (List Entry)

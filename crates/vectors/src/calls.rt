@@ -1,5 +1,5 @@
-// The calls. The numbers are those of the crates bucket_c and datagram_c: document 01's, and 16 for `full`; look-ups and
-// lists say 113 and 115 for 13 and 15.
+// The calls. The numbers are those of the crates bucket_c and datagram_c: document 01's, and 255 for `full`; look-ups and
+// lists say 113 and 115 for 13 and 15, and look-ups 254 for an absent key.
 use crate::datagrams;
 use crate::print;
 use crate::words::byte_at;

@@ -30,7 +30,7 @@ module _ (m : Memory) (k : ℕ) (w : Words) (sized : Sized m) (slot : k < slotRo
   worded-words =
       let h = sized .slots in
       let g = sized .texts in
-      ap (λ x. wordsIn x) (words-putWords (m .slots) (m .texts) k w whole (omega arith) (omega arith))
+      words-putWords (m .slots) (m .texts) k w whole (omega arith) (omega arith)
 
   pub worded-sized : Sized (worded m k w)
   worded-sized =

@@ -1,7 +1,7 @@
 //! Prints an antt module of equations `run SCRIPT ≡ OUTPUT`: random scripts,
-//! with what the reference bench prints for them. The checker evaluates the
-//! definitions of crates/model on each script, so the two are compared byte
-//! for byte.
+//! with what the reference bench prints for them, and a script with stored
+//! output. The checker evaluates the definitions of crates/model on each script,
+//! so the two are compared byte for byte.
 
 use reference::script::Script;
 use reference::scripts::{generate, Kind};
@@ -15,6 +15,12 @@ const SCRIPTS: [(Kind, usize, u64); 6] = [
     (Kind::Long, 250, 4),
     (Kind::Settled, 100, 8),
 ];
+
+/// A stored script of three servers with empty values, and its output.
+const STORED: (&[u8], &[u8]) = (
+    include_bytes!("../../scripts/empty-values-of-three.txt"),
+    include_bytes!("../../scripts/empty-values-of-three.out"),
+);
 
 const HEADER: &str = "\
 use mathlib.Core.Path.{_≡_, refl}
@@ -42,16 +48,22 @@ fn output(script: &[u8]) -> Vec<u8> {
     out
 }
 
+/// Random scripts with their output.
+fn random() -> impl Iterator<Item = (Vec<u8>, Vec<u8>)> {
+    let scripts = SCRIPTS
+        .iter()
+        .flat_map(|&(kind, lines, count)| (1..=count).map(move |seed| generate(kind, seed, lines)));
+    scripts.map(|script| {
+        let out = output(&script);
+        (script, out)
+    })
+}
+
 fn main() {
     println!("{HEADER}");
-    let mut number = 0;
-    for (kind, lines, count) in SCRIPTS {
-        for seed in 1..=count {
-            let script = generate(kind, seed, lines);
-            let out = output(&script);
-            println!("t{number} : run {} ≡ {}", list(&script), list(&out));
-            println!("unfolding computing\nt{number} = refl\n");
-            number += 1;
-        }
+    let stored = [(STORED.0.to_vec(), STORED.1.to_vec())];
+    for (number, (script, out)) in random().chain(stored).enumerate() {
+        println!("t{number} : run {} ≡ {}", list(&script), list(&out));
+        println!("unfolding computing\nt{number} = refl\n");
     }
 }

@@ -1,16 +1,19 @@
 //! The proved calls on bucket bytes against the independent ones: the answer,
-//! and every lent byte afterwards. About 400,000 inputs.
+//! and every lent byte afterwards. About 700,000 inputs.
 
 mod common;
 
 use common::{
     any_bytes, any_entries, bytes, damage, form, full_table, laid_out, table, Rows, LENGTHS, OLD,
 };
-use reference::bucket::{Key, Pair, Table, Value};
+use reference::bucket::{Full, Key, Pair, Table, Value};
+use reference::bucket_forms;
 use reference::scripts::Random;
 
-/// `full`, and what look-ups and lists say for 13 and 15.
-const FULL: u32 = 16;
+/// `full`; an absent key, which differs from an empty value; and what look-ups
+/// and lists say for 13 and 15.
+const FULL: u32 = 255;
+const ABSENT: u32 = 254;
 const REFUSED: u32 = 113;
 const SHORT: u32 = 115;
 
@@ -39,28 +42,32 @@ fn compare_keys(bucket: &[u8], room: usize) {
     assert_eq!((answer, out), (number, expected), "keys of {bucket:?}");
 }
 
+/// The number of a look-up, whose value is written to `out`. An empty value
+/// needs no room there, nor does an absent key.
+fn look_up(bucket: &[u8], key: &[u8], out: &mut [u8]) -> u32 {
+    let Ok(table) = read(bucket) else {
+        return REFUSED;
+    };
+    let Some(value) = table.look_up(&Key::new(key)) else {
+        return ABSENT;
+    };
+    let Some(front) = out.get_mut(..value.len()) else {
+        return SHORT;
+    };
+    front.copy_from_slice(value.as_slice());
+    value.len() as u32
+}
+
 /// The value of a key, written to an output of `room` bytes.
 fn compare_look_up(bucket: &[u8], key: &[u8], room: usize) {
     let mut expected = vec![OLD; room];
-    let number = match read(bucket) {
-        Err(_) => REFUSED,
-        Ok(table) => {
-            let value = *table.look_up(&Key::new(key));
-            match expected.get_mut(..value.len()) {
-                None => SHORT,
-                Some(front) => {
-                    front.copy_from_slice(value.as_slice());
-                    value.len() as u32
-                }
-            }
-        }
-    };
+    let number = look_up(bucket, key, &mut expected);
     let mut out = vec![OLD; room];
     let answer = forms::bucket::get(bucket, key, &mut out);
     assert_eq!((answer, out), (number, expected), "{key:?} in {bucket:?}");
 }
 
-/// The bucket after a put, with its number.
+/// The bucket after a put, with its number. An empty value is stored.
 fn put(bucket: &[u8], key: &[u8], value: &[u8]) -> (u32, Vec<u8>) {
     if !(1..=8).contains(&key.len()) || value.len() > 16 {
         return (13, bucket.to_vec());
@@ -68,12 +75,10 @@ fn put(bucket: &[u8], key: &[u8], value: &[u8]) -> (u32, Vec<u8>) {
     let Ok(mut table) = read(bucket) else {
         return (13, bucket.to_vec());
     };
-    if value.is_empty() {
-        table.remove(&Key::new(key));
-    } else if table.put(&Key::new(key), &Value::new(value)).is_err() {
-        return (FULL, bucket.to_vec());
+    match table.put(&Key::new(key), &Value::new(value)) {
+        Ok(()) => (0, form(&table)),
+        Err(Full) => (FULL, bucket.to_vec()),
     }
-    (0, form(&table))
 }
 
 fn compare_put(bucket: &mut [u8], key: &[u8], value: &[u8]) {
@@ -131,8 +136,90 @@ fn compare_calls(random: &mut Random, bucket: &[u8]) {
     let value = bytes(random, 0, 18);
     compare_keys(bucket, random.below(50));
     compare_look_up(bucket, &key, random.below(20));
+    compare_look_up(bucket, &key, 0);
     compare_put(&mut bucket.to_vec(), &key, &value);
+    compare_put(&mut bucket.to_vec(), &key, b"");
     compare_remove(&mut bucket.to_vec(), &key);
+}
+
+/// A look-up that gives this number and writes nothing, whatever room there is.
+fn assert_looked_up(bucket: &[u8], key: &[u8], number: u32) {
+    for room in [0, 1, 16] {
+        let mut out = vec![OLD; room];
+        assert_eq!(forms::bucket::get(bucket, key, &mut out), number);
+        assert_eq!(out, vec![OLD; room]);
+    }
+}
+
+#[test]
+fn an_empty_value_is_stored_found_and_removed() {
+    let mut bucket = vec![0; 113];
+    assert_looked_up(&bucket, b"a", ABSENT);
+    assert_eq!(forms::bucket::put(&mut bucket, b"a", b""), 0);
+    let mut stored = vec![1, 5, 1, 6, 0, b'a'];
+    stored.resize(113, 0);
+    assert_eq!(bucket, stored);
+    assert_looked_up(&bucket, b"a", 0);
+    // Another key, a longer one, one of no bytes and one of nine.
+    for key in ["b", "a\0", "", "aaaaaaaaa"] {
+        assert_looked_up(&bucket, key.as_bytes(), ABSENT);
+    }
+    // Some bytes are put in its place, and it in theirs.
+    assert_eq!(forms::bucket::put(&mut bucket, b"a", b"hi"), 0);
+    assert_eq!(bucket[..8], [1, 5, 1, 6, 2, b'a', b'h', b'i']);
+    assert_eq!(forms::bucket::put(&mut bucket, b"a", b""), 0);
+    assert_eq!(bucket, stored);
+    for _ in 0..2 {
+        assert_eq!(forms::bucket::remove(&mut bucket, b"a"), 0);
+        assert_eq!(bucket, vec![0; 113]);
+    }
+    assert_looked_up(&bucket, b"a", ABSENT);
+}
+
+#[test]
+fn keys_with_empty_values_count_for_the_four() {
+    let mut bucket = vec![0; 113];
+    for key in [b"c", b"a", b"d", b"b"] {
+        assert_eq!(forms::bucket::put(&mut bucket, key, b""), 0);
+    }
+    let full = bucket.clone();
+    assert_eq!(full[0], 4);
+    for value in ["", "x"] {
+        assert_eq!(
+            forms::bucket::put(&mut bucket, b"e", value.as_bytes()),
+            FULL
+        );
+        assert_eq!(bucket, full);
+    }
+    assert_eq!(forms::bucket::put(&mut bucket, b"d", b""), 0);
+    assert_eq!(bucket, full);
+    assert_eq!(forms::bucket::remove(&mut bucket, b"e"), 0);
+    assert_eq!(bucket, full);
+    assert_eq!(forms::bucket::remove(&mut bucket, b"d"), 0);
+    assert_eq!(forms::bucket::put(&mut bucket, b"e", b""), 0);
+    assert_looked_up(&bucket, b"d", ABSENT);
+    assert_looked_up(&bucket, b"e", 0);
+}
+
+#[test]
+fn forms_with_empty_values_are_read_and_written() {
+    let mut random = Random::new(19);
+    for (bucket, pairs) in bucket_forms::good() {
+        assert_eq!(forms::bucket::read(&bucket), 0, "{pairs:?}");
+        compare_calls(&mut random, &bucket);
+        let written = write(&Rows::of(&mut random, pairs), 113);
+        assert_eq!(written, (0, bucket.to_vec()), "{pairs:?}");
+    }
+}
+
+#[test]
+fn faults_beside_empty_values_are_refused() {
+    let mut random = Random::new(9);
+    for bucket in bucket_forms::broken() {
+        assert_eq!(forms::bucket::read(&bucket), 13, "{bucket:02x?}");
+        assert_looked_up(&bucket, b"a", REFUSED);
+        compare_calls(&mut random, &bucket);
+    }
 }
 
 #[test]
@@ -164,8 +251,9 @@ fn reading_agrees_on_every_single_damaged_byte() {
     let mut random = Random::new(12);
     let mut tables = vec![Table::EMPTY, full_table(&mut random)];
     tables.extend((0..8).map(|_| table(&mut random)));
-    for table in tables {
-        let whole = form(&table);
+    let mut wholes: Vec<Vec<u8>> = tables.iter().map(form).collect();
+    wholes.extend(bucket_forms::good().map(|(whole, _)| whole.to_vec()));
+    for whole in wholes {
         for at in 0..whole.len() {
             for byte in 0..=255 {
                 let mut bucket = whole.clone();
@@ -235,6 +323,13 @@ fn calls_agree_on_tables_cut_or_extended() {
     }
 }
 
+/// The number of a table written to an output of `room` bytes, and the output.
+fn write(rows: &Rows, room: usize) -> (u32, Vec<u8>) {
+    let mut out = vec![OLD; room];
+    let answer = forms::bucket::write(rows.count, &rows.lengths, &rows.bytes, &mut out);
+    (answer, out)
+}
+
 fn compare_writing(rows: &Rows, room: usize) {
     let mut expected = vec![OLD; room];
     let pairs = rows.pairs();
@@ -243,9 +338,7 @@ fn compare_writing(rows: &Rows, room: usize) {
         Ok(()) => 0,
         Err(refusal) => u32::from(refusal),
     };
-    let mut out = vec![OLD; room];
-    let answer = forms::bucket::write(rows.count, &rows.lengths, &rows.bytes, &mut out);
-    assert_eq!((answer, out), (number, expected), "{pairs:?}");
+    assert_eq!(write(rows, room), (number, expected), "{pairs:?}");
 }
 
 #[test]

@@ -5,6 +5,7 @@ mod common;
 
 use common::{any_bytes, any_entries, damage, full_table, laid_out, table, Rows, LENGTHS, OLD};
 use reference::bucket::{Pair, Table};
+use reference::bucket_forms::{broken, good, FRONTS};
 use reference::datagram::{Header, Version};
 use reference::scripts::Random;
 
@@ -82,6 +83,44 @@ fn reading_and_writing_agree_on_datagrams() {
         let mut out = vec![OLD; 129];
         assert_eq!(forms::datagram::rewrite(&bytes, &mut out), 0);
         assert_eq!(out[..bytes.len()], bytes);
+    }
+}
+
+#[test]
+fn datagrams_carry_empty_values() {
+    let mut random = Random::new(28);
+    for front in FRONTS {
+        for (bucket, pairs) in good() {
+            let whole = [&front[..], &bucket].concat();
+            assert_eq!(forms::datagram::read(&whole), 0, "{pairs:?}");
+            let mut out = vec![OLD; 129];
+            assert_eq!(forms::datagram::rewrite(&whole, &mut out), 0);
+            assert_eq!(out, whole);
+            let (header, _) = reference::datagram::read(&whole).unwrap();
+            let written = write(&header, &Rows::of(&mut random, pairs), 129);
+            assert_eq!(written, (0, whole), "{pairs:?}");
+        }
+        for bucket in broken() {
+            let whole = [&front[..], &bucket].concat();
+            assert_eq!(forms::datagram::read(&whole), 13, "{bucket:02x?}");
+            compare(&whole, 129);
+        }
+    }
+}
+
+/// A bucket that holds a key is not empty, whatever the key's value.
+#[test]
+fn a_version_of_zeros_goes_with_an_empty_bucket() {
+    let mut random = Random::new(29);
+    let mut front = FRONTS[1];
+    front[10..].fill(0);
+    for (bucket, pairs) in good() {
+        let whole = [&front[..], &bucket].concat();
+        assert_eq!(forms::datagram::read(&whole), 14, "{pairs:?}");
+        let empty = [&front[..], &[0; 113]].concat();
+        let (header, _) = reference::datagram::read(&empty).unwrap();
+        let written = write(&header, &Rows::of(&mut random, pairs), 129);
+        assert_eq!(written, (14, vec![OLD; 129]), "{pairs:?}");
     }
 }
 
@@ -176,15 +215,22 @@ fn reading_and_writing_agree_on_random_bytes() {
     }
 }
 
+/// The number of a datagram written to an output of `room` bytes, and the
+/// output.
+fn write(header: &Header, rows: &Rows, room: usize) -> (u32, Vec<u8>) {
+    let mut out = vec![OLD; room];
+    let answer = forms::datagram::write(header, rows.count, &rows.lengths, &rows.bytes, &mut out);
+    (answer, out)
+}
+
 fn compare_writing(header: &Header, rows: &Rows, room: usize) {
     let mut expected = vec![OLD; room];
     let pairs = rows.pairs();
     let pairs: Vec<Pair> = pairs.iter().map(|(k, v)| (&k[..], &v[..])).collect();
     let written = reference::datagram::write(header, &pairs, &mut expected);
     let number = u32::from(written.err().unwrap_or(0));
-    let mut out = vec![OLD; room];
-    let answer = forms::datagram::write(header, rows.count, &rows.lengths, &rows.bytes, &mut out);
-    assert_eq!((answer, out), (number, expected), "{header:?} {pairs:?}");
+    let written = write(header, rows, room);
+    assert_eq!(written, (number, expected), "{header:?} {pairs:?}");
 }
 
 /// Headers of small numbers, with tables that have a form or have none, such

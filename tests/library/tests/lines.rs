@@ -3,7 +3,7 @@
 //! same.
 
 use library::compare::{Pair, View};
-use reference::printed::{refusals, results};
+use reference::printed::{empty_values, refusals, results};
 use reference::scripts::{generate, Kind, Random};
 
 /// What the scripts met, so that an idle comparison is noticed.
@@ -35,6 +35,10 @@ impl Met {
 
     fn result(&self, word: &str) -> usize {
         results(&self.printed, word)
+    }
+
+    fn empty_values(&self) -> usize {
+        empty_values(&self.printed)
     }
 
     fn refusal(&self, number: u32) -> usize {
@@ -78,6 +82,8 @@ fn random_scripts() {
     ] {
         assert!(met.result(word) > 100, "{word}: {}", met.result(word));
     }
+    let empty = met.empty_values();
+    assert!(empty > 100, "empty values: {empty}");
     for number in [1, 2, 3, 4, 6, 7, 8, 9, 10, 12] {
         assert!(
             met.refusal(number) > 50,
@@ -102,6 +108,8 @@ fn blind_scripts() {
     for word in ["value", "keys", "done", "mismatch", "notdone", "unknown"] {
         assert!(met.result(word) > 30, "{word}: {}", met.result(word));
     }
+    let empty = met.empty_values();
+    assert!(empty > 30, "empty values: {empty}");
 }
 
 #[test]
@@ -125,11 +133,11 @@ fn the_last_line() {
     let calls: [&[u8]; 8] = [
         b"set 0 61 6869",
         b"get 0 61",
-        b"setif 0 61 6869 01",
+        b"setif 0 61 6869 .",
         b"keys 0 0",
         b"del 0 61",
         b"get 0 61",
-        b"setif 0 62 01 02",
+        b"setif 0 62 . 02",
         b"elect 0",
     ];
     for at in 1..1_000_000 {
@@ -140,12 +148,14 @@ fn the_last_line() {
     assert_eq!(pair.script.accepted(), 1_000_000);
     for (line, refusal) in [
         ("elect", 1),
+        ("get 0 .", 1),
         ("cluster 1 2", 2),
         ("elect 1", 3),
         ("keys 0 2", 3),
         ("get 0 -", 4),
         ("get 0 61", 5),
         ("set 0 61 62", 5),
+        ("set 0 61 .", 5),
         ("setif 0 61 - 62", 5),
         ("del 0 61", 5),
         ("keys 0 1", 5),

@@ -4,7 +4,7 @@
 
 use library::output::{Output, END_ROOM, LINE_ROOM};
 use library::session::Session;
-use reference::printed::{refusals, results};
+use reference::printed::{empty_values, refusals, results};
 use reference::script::{Script, LAST_LINE, LONGEST};
 use reference::scripts::{generate, Kind, Random};
 use std::sync::mpsc::{self, RecvTimeoutError};
@@ -195,6 +195,7 @@ fn scripts_in_parts() {
         ("outputs too short", met.short),
         ("values", results(&met.printed, "value")),
         ("keys", results(&met.printed, "keys")),
+        ("empty values", empty_values(&met.printed)),
         ("refused 1", refusals(&met.printed, 1)),
         ("refused 12", refusals(&met.printed, 12)),
     ] {

@@ -3,7 +3,7 @@
 
 use program::compare::{check, expected};
 use program::process::{bench, run};
-use reference::printed::{refusals, results};
+use reference::printed::{empty_values, refusals, results};
 use reference::script::Script;
 use reference::scripts::{generate, Kind, Random};
 
@@ -37,7 +37,8 @@ impl Met {
         }
     }
 
-    /// Every result, every refusal given and every size came at least so often.
+    /// Every result, the empty value, every refusal given and every size came at
+    /// least so often.
     fn demand(&self, times: usize, refused: &[u32]) {
         for word in [
             "value", "keys", "done", "mismatch", "full", "notdone", "unknown",
@@ -45,6 +46,8 @@ impl Met {
             let found = results(&self.printed, word);
             assert!(found >= times, "{word}: {found}");
         }
+        let found = empty_values(&self.printed);
+        assert!(found >= times, "empty values: {found}");
         for &number in refused {
             let found = refusals(&self.printed, number);
             assert!(found >= times, "refused {number}: {found}");

@@ -6,9 +6,9 @@ use crate::refusal::{Refusal, BUCKET_FORM, OUTPUT_SHORT};
 pub const SIZE: usize = 113;
 /// Most keys in one bucket.
 pub const MOST_KEYS: usize = 4;
-/// Longest key.
+/// Longest key; the shortest has one byte.
 pub const KEY: usize = 8;
-/// Longest value.
+/// Longest value; the shortest, the empty value, has no bytes.
 pub const VALUE: usize = 16;
 
 /// A short byte string. `len` is its true length; only the first `N` bytes
@@ -84,7 +84,8 @@ pub type Pair<'a> = (&'a [u8], &'a [u8]);
 #[derive(Clone, Copy, PartialEq, Eq, Debug)]
 pub struct Full;
 
-/// Keys in rising order with their values; unused places are empty.
+/// Keys in rising order with their values, some of which may be empty; places
+/// past the last key are zeros.
 #[derive(Clone, Copy, PartialEq, Eq, Debug)]
 pub struct Table {
     count: u8,
@@ -109,13 +110,10 @@ impl Table {
         &self.keys[..usize::from(self.count)]
     }
 
-    /// The value of `key`, no bytes where it is absent.
+    /// The value of `key`, `None` where it is absent.
     #[inline]
-    pub fn look_up(&self, key: &Key) -> &Value {
-        match self.place(key) {
-            Ok(at) => &self.values[at],
-            Err(_) => &Value::EMPTY,
-        }
+    pub fn look_up(&self, key: &Key) -> Option<&Value> {
+        self.place(key).ok().map(|at| &self.values[at])
     }
 
     /// Whether a value could be stored under `key`.
@@ -124,7 +122,7 @@ impl Table {
         usize::from(self.count) < MOST_KEYS || self.place(key).is_ok()
     }
 
-    /// Stores a value of at least one byte.
+    /// Stores a value, which may be empty.
     pub fn put(&mut self, key: &Key, value: &Value) -> Result<(), Full> {
         let count = usize::from(self.count);
         match self.place(key) {
@@ -181,7 +179,7 @@ pub fn read(bytes: &[u8]) -> Result<Table, Refusal> {
     for entry in bytes[1..end].chunks_exact(4) {
         let key = part(bytes, &mut end, entry[0], entry[1], KEY)?;
         let value = part(bytes, &mut end, entry[2], entry[3], VALUE)?;
-        if !follows(table.keys(), key) {
+        if key.is_empty() || !follows(table.keys(), key) {
             return Err(BUCKET_FORM);
         }
         let at = usize::from(table.count);
@@ -195,7 +193,8 @@ pub fn read(bytes: &[u8]) -> Result<Table, Refusal> {
     Ok(table)
 }
 
-/// The part at `offset`, which has to begin where the one before ended.
+/// The part at `offset`, which has to begin where the one before ended, also
+/// if it has no bytes.
 fn part<'a>(
     bytes: &'a [u8],
     end: &mut usize,
@@ -204,7 +203,7 @@ fn part<'a>(
     longest: usize,
 ) -> Result<&'a [u8], Refusal> {
     let (start, length) = (usize::from(offset), usize::from(length));
-    if start != *end || length == 0 || length > longest {
+    if start != *end || length > longest {
         return Err(BUCKET_FORM);
     }
     *end = start + length;
@@ -239,7 +238,7 @@ pub fn write(pairs: &[Pair], out: &mut [u8]) -> Result<(), Refusal> {
 pub fn check(pairs: &[Pair]) -> Result<(), Refusal> {
     let lengths = pairs
         .iter()
-        .all(|(key, value)| (1..=KEY).contains(&key.len()) && (1..=VALUE).contains(&value.len()));
+        .all(|(key, value)| (1..=KEY).contains(&key.len()) && value.len() <= VALUE);
     let rising = pairs.windows(2).all(|two| two[0].0 < two[1].0);
     if pairs.len() <= MOST_KEYS && lengths && rising {
         Ok(())

@@ -71,7 +71,7 @@ impl Header {
         }
     }
 
-    /// Holds the fields to the form; `empty` says that the table is empty.
+    /// Holds the fields to the form; `empty` says that the table has no key.
     fn is_well_formed(&self, empty: bool) -> bool {
         let vote = self.kind <= NACKVOTE;
         (PLEASEVOTE..=NACKREAD).contains(&self.kind)

@@ -5,6 +5,7 @@
 #![forbid(unsafe_code)]
 
 pub mod bucket;
+pub mod bucket_forms;
 pub mod cluster;
 pub mod datagram;
 pub mod hash;

@@ -5,6 +5,12 @@ pub fn results(out: &[u8], word: &str) -> usize {
     lines_with(out, 1, &[word])
 }
 
+/// Answers `value` with the empty value; no other line has `.` as its fourth
+/// word.
+pub fn empty_values(out: &[u8]) -> usize {
+    lines_with(out, 3, &["."])
+}
+
 /// Lines refused with this number.
 pub fn refusals(out: &[u8], number: u32) -> usize {
     lines_with(out, 2, &["refused", &number.to_string()])

@@ -1,7 +1,7 @@
 //! Scripts: lines cut out of the input, parsed, judged and run, and what they
 //! print.
 
-use crate::bucket::{Bytes, Key};
+use crate::bucket::{Bytes, Key, Value};
 use crate::cluster::call::{Answers, Outcome, Request};
 use crate::cluster::{Cluster, Step, Tally};
 use crate::refusal::*;
@@ -186,10 +186,13 @@ pub fn parse(line: &[u8]) -> Option<Line> {
     let rest = &mut rest;
     let step = match &line[..space] {
         b"deliver" => Step::Deliver(number(rest)?),
-        b"get" => Step::Call(number(rest)?, Request::Get { key: hex(rest)? }),
-        b"set" => Step::Call(number(rest)?, set(hex(rest)?, hex(rest)?)),
-        b"setif" => Step::Call(number(rest)?, set_if(hex(rest)?, hex(rest)?, hex(rest)?)),
-        b"del" => Step::Call(number(rest)?, set(hex(rest)?, Bytes::EMPTY)),
+        b"get" => Step::Call(number(rest)?, Request::Get { key: key(rest)? }),
+        b"set" => Step::Call(number(rest)?, set(key(rest)?, value(rest)?)),
+        b"setif" => Step::Call(
+            number(rest)?,
+            set_if(key(rest)?, value(rest)?, value(rest)?),
+        ),
+        b"del" => Step::Call(number(rest)?, set(key(rest)?, None)),
         b"keys" => Step::Call(number(rest)?, keys(number(rest)?)),
         b"copy" => Step::Copy(number(rest)?),
         b"lose" => Step::Lose(number(rest)?),
@@ -209,11 +212,11 @@ fn keys(bucket: u32) -> Request {
     Request::Keys { bucket }
 }
 
-fn set(key: Key, value: Bytes<16>) -> Request {
+fn set(key: Key, value: Option<Value>) -> Request {
     Request::Set { key, value }
 }
 
-fn set_if(key: Key, expected: Bytes<16>, value: Bytes<16>) -> Request {
+fn set_if(key: Key, expected: Option<Value>, value: Option<Value>) -> Request {
     Request::SetIf {
         key,
         expected,
@@ -241,15 +244,35 @@ fn number(rest: &mut &[u8]) -> Option<u32> {
     Some(value)
 }
 
-/// Takes a space and `-` or pairs of lower-case hexadecimal digits.
+/// Takes a space and the word of a key; `-` is a key of no bytes, which is well
+/// formed but too short.
+#[inline]
+fn key(rest: &mut &[u8]) -> Option<Key> {
+    if let [b' ', b'-', after @ ..] = *rest {
+        *rest = after;
+        return Some(Key::EMPTY);
+    }
+    hex(rest)
+}
+
+/// Takes a space and the word of a value: `-` for an absent key, which is the
+/// inner `None`, `.` for the empty value.
+#[inline]
+fn value(rest: &mut &[u8]) -> Option<Option<Value>> {
+    let (value, after) = match *rest {
+        [b' ', b'-', after @ ..] => (None, after),
+        [b' ', b'.', after @ ..] => (Some(Value::EMPTY), after),
+        _ => return hex(rest).map(Some),
+    };
+    *rest = after;
+    Some(value)
+}
+
+/// Takes a space and pairs of lower-case hexadecimal digits, at least one.
 #[inline]
 fn hex<const N: usize>(rest: &mut &[u8]) -> Option<Bytes<N>> {
     let mut word = rest.strip_prefix(b" ")?;
     let mut bytes = Bytes::EMPTY;
-    if let Some(after) = word.strip_prefix(b"-") {
-        *rest = after;
-        return Some(bytes);
-    }
     while let [high, low, after @ ..] = word {
         if *high == b' ' {
             break;
@@ -286,8 +309,9 @@ impl Answers for Vec<u8> {
         self.extend_from_slice(word);
         decimal(rounds, self);
         match outcome {
-            Outcome::Value(value) => print_hex(value, self),
-            Outcome::Keys([]) => self.extend_from_slice(b" -"),
+            Outcome::Value(None) | Outcome::Keys([]) => self.extend_from_slice(b" -"),
+            Outcome::Value(Some(value)) if value.is_empty() => self.extend_from_slice(b" ."),
+            Outcome::Value(Some(value)) => print_hex(value, self),
             Outcome::Keys(keys) => keys.iter().for_each(|key| print_hex(key, self)),
             _ => {}
         }
@@ -295,13 +319,10 @@ impl Answers for Vec<u8> {
     }
 }
 
-/// Prints a space and the bytes, `-` for none.
+/// Prints a space and the bytes, of which there is at least one.
 fn print_hex<const N: usize>(bytes: &Bytes<N>, out: &mut Vec<u8>) {
     const DIGITS: &[u8; 16] = b"0123456789abcdef";
     out.push(b' ');
-    if bytes.is_empty() {
-        out.push(b'-');
-    }
     for byte in bytes.as_slice() {
         let pair = [byte >> 4, byte & 15].map(|digit| DIGITS[usize::from(digit)]);
         out.extend_from_slice(&pair);

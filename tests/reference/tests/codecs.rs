@@ -1,10 +1,12 @@
 //! Hash vectors, the bucket form and datagrams.
 
 use reference::bucket::{self, Full, Key, Pair, Table, Value};
+use reference::bucket_forms;
 use reference::datagram::{self, Header, Version};
 use reference::hash::fnv1a;
 use reference::random_tables::table;
 use reference::scripts::Random;
+use std::collections::BTreeSet;
 
 #[test]
 fn published_fnv_vectors() {
@@ -42,11 +44,57 @@ fn written_buckets_are_read_back() {
     }
 }
 
+/// Each of four keys is absent or has the empty value, a short or the longest.
+fn every_table(keys: [&[u8]; 4]) -> impl Iterator<Item = Table> + '_ {
+    let values: [&[u8]; 3] = [b"", b"\0", b"0123456789abcdef"];
+    (0..256).map(move |choice| {
+        let mut table = Table::EMPTY;
+        for (at, key) in keys.iter().enumerate() {
+            if let Some(value) = values.get(choice >> (2 * at) & 3) {
+                table.put(&Key::new(key), &Value::new(value)).unwrap();
+            }
+        }
+        table
+    })
+}
+
+#[test]
+fn every_table_has_a_form_of_its_own_and_is_read_back() {
+    let short: [&[u8]; 4] = [b"a", b"a\0", b"a\0\0", b"b"];
+    let longest: [&[u8]; 4] = [b"\0aaaaaaa", b"aaaaaaa\0", b"aaaaaaaa", b"bbbbbbbb"];
+    let mut forms = BTreeSet::new();
+    for table in every_table(short).chain(every_table(longest)) {
+        let form = write(&table);
+        assert_eq!(bucket::read(&form), Ok(table), "{table:?}");
+        forms.insert(form);
+    }
+    // The empty table is among both.
+    assert_eq!(forms.len(), 256 + 256 - 1);
+}
+
+#[test]
+fn empty_values_lie_where_the_next_pair_or_the_end_is() {
+    for (form, pairs) in bucket_forms::good() {
+        let mut out = [0xaa; 113];
+        assert_eq!(bucket::write(pairs, &mut out), Ok(()), "{pairs:?}");
+        assert_eq!(out, form, "{pairs:?}");
+        let table = bucket::read(&form).unwrap();
+        assert_eq!(&table.pairs()[..table.keys().len()], pairs);
+    }
+}
+
+#[test]
+fn faults_beside_empty_values_are_refused() {
+    for form in bucket_forms::broken() {
+        assert_eq!(bucket::read(&form), Err(13), "{form:02x?}");
+    }
+}
+
 #[test]
 fn a_damaged_bucket_is_read_only_as_another_written_form() {
     let mut random = Random::new(2);
-    for _ in 0..40 {
-        let form = write(&table(&mut random));
+    let random_forms = (0..40).map(|_| write(&table(&mut random)));
+    for form in random_forms.chain(bucket_forms::good().map(|(form, _)| form)) {
         for at in 0..form.len() {
             for byte in 0..=255 {
                 let mut damaged = form;
@@ -102,8 +150,8 @@ fn tables_that_break_the_form_are_not_written() {
         &[(b"ab", b"x"), (b"a", b"x")],
         &[(b"", b"x")],
         &[(b"123456789", b"x")],
-        &[(b"a", b"")],
-        &[(b"a", b"12345678901234567")],
+        &[(b"", b"")],
+        &[(b"a", b""), (b"b", b"12345678901234567")],
     ];
     for pairs in wrong {
         let mut out = [7; 120];
@@ -135,8 +183,8 @@ fn look_up_put_and_remove() {
     assert_eq!(table.put(&key("d"), &Value::new(b"1")), Err(Full));
     assert!(table.has_room(&key("b")) && !table.has_room(&key("d")));
     assert_eq!(table.put(&key("b"), &Value::new(b"2")), Ok(()));
-    assert_eq!(table.look_up(&key("b")).as_slice(), b"2");
-    assert!(table.look_up(&key("a\0\0")).is_empty());
+    assert_eq!(table.look_up(&key("b")), Some(&Value::new(b"2")));
+    assert_eq!(table.look_up(&key("a\0\0")), None);
     table.remove(&key("d"));
     table.remove(&key("a"));
     assert_eq!(table.keys(), [key("a\0"), key("b"), key("c")]);
@@ -144,6 +192,27 @@ fn look_up_put_and_remove() {
         table.remove(&key(name));
     }
     assert_eq!(table, Table::EMPTY);
+}
+
+#[test]
+fn a_key_with_an_empty_value_is_there() {
+    let mut table = Table::EMPTY;
+    let key = |text: &str| Key::new(text.as_bytes());
+    for name in ["b", "a", "d", "c"] {
+        assert_eq!(table.put(&key(name), &Value::EMPTY), Ok(()));
+        assert_eq!(table.look_up(&key(name)), Some(&Value::EMPTY));
+    }
+    assert_eq!(table.keys(), [key("a"), key("b"), key("c"), key("d")]);
+    let full = table;
+    assert_eq!(table.put(&key("e"), &Value::EMPTY), Err(Full));
+    assert_eq!(table, full);
+    assert_eq!(table.look_up(&key("e")), None);
+    assert_eq!(table.put(&key("b"), &Value::new(b"2")), Ok(()));
+    assert_eq!(table.put(&key("b"), &Value::EMPTY), Ok(()));
+    assert_eq!(table, full);
+    table.remove(&key("b"));
+    assert_eq!(table.look_up(&key("b")), None);
+    assert_eq!(table.keys(), [key("a"), key("c"), key("d")]);
 }
 
 /// A well-formed datagram of any kind.
@@ -248,6 +317,22 @@ fn fields_are_big_endian() {
     assert_eq!(out[16..24], [1, 5, 1, 6, 2, 0x61, 0x68, 0x69]);
 }
 
+#[test]
+fn datagrams_carry_empty_values() {
+    for front in bucket_forms::FRONTS {
+        for (bucket, pairs) in bucket_forms::good() {
+            let whole = [&front[..], &bucket].concat();
+            let (header, table) = datagram::read(&whole).unwrap();
+            assert_eq!(&table.pairs()[..table.keys().len()], pairs);
+            assert_eq!(form(&header, &table), whole);
+        }
+        for bucket in bucket_forms::broken() {
+            let whole = [&front[..], &bucket].concat();
+            assert_eq!(datagram::read(&whole), Err(13), "{bucket:02x?}");
+        }
+    }
+}
+
 /// The header with one change made to it.
 fn changed(mut header: Header, change: fn(&mut Header)) -> Header {
     change(&mut header);
@@ -288,14 +373,18 @@ fn headers_that_break_the_form_are_not_written() {
     }
 }
 
+/// A bucket that holds a key is not empty, whatever the key's value.
 #[test]
 fn a_version_of_zeros_goes_with_an_empty_bucket() {
     let unwritten = changed(READ_REPLY, |header| header.version = Version::NONE);
     let mut out = [0; 129];
-    assert_eq!(
-        datagram::write(&unwritten, &[(b"a", b"x")], &mut out),
-        Err(14)
-    );
+    for value in ["x", ""] {
+        let pairs: [Pair; 1] = [(b"a", value.as_bytes())];
+        assert_eq!(datagram::write(&unwritten, &pairs, &mut out), Err(14));
+        datagram::write(&READ_REPLY, &pairs, &mut out).unwrap();
+        out[10..16].fill(0);
+        assert_eq!(datagram::read(&out), Err(14));
+    }
     assert_eq!(datagram::write(&unwritten, &[], &mut out), Ok(129));
     for header in [READ, VOTE] {
         assert_eq!(datagram::write(&header, &[], &mut out[..10]), Ok(10));

@@ -8,23 +8,9 @@ use common::{print, Bench};
 use reference::cluster::server::Role;
 use reference::datagram::{Version, PLEASEVOTE, REPLICAREAD, REPLICAWRITE};
 
-/// Three servers; server 0 leads and has recovered the only bucket, in which
-/// key 61 has value 01. Nothing is in flight.
+/// A recovered bucket in which key 61 has value 01.
 fn recovered() -> Bench {
-    let mut bench = Bench::new("cluster 3 1");
-    bench.elect(0, &[1]);
-    bench.quiet(&["set 0 61 01"]);
-    assert_eq!(bench.read_unrecovered(0, 1), "");
-    assert_eq!(bench.exchange(REPLICAWRITE, 0, 1), "1 done 4");
-    bench.lose_all();
-    bench
-}
-
-/// The kinds of the messages in flight, in order.
-fn kinds(bench: &Bench) -> Vec<u8> {
-    let messages = bench.cluster().messages();
-    let kind = |place| messages.header(messages.slot(place).unwrap()).kind;
-    (0..messages.len()).map(kind).collect()
+    Bench::recovered("set 0 61 01")
 }
 
 /// The version of a server's copy of bucket 0.
@@ -48,7 +34,7 @@ fn every_write_on_a_recovered_bucket_is_sent_at_once_and_takes_1_round() {
     ];
     for (made, write) in writes.iter().enumerate() {
         bench.quiet(&[write]);
-        assert_eq!(kinds(&bench), [REPLICAWRITE; 2], "{write}");
+        assert_eq!(bench.kinds(), [REPLICAWRITE; 2], "{write}");
         // The leader's own copy has the next version in the call's line.
         assert_eq!(version(&bench, 0), (1, made as u32 + 3), "{write}");
         let answer = format!("{} done 1", made + 2);
@@ -80,7 +66,7 @@ fn what_only_answers_makes_the_checking_round_first() {
     ];
     for (made, (call, answer)) in answers.iter().enumerate() {
         bench.quiet(&[call]);
-        assert_eq!(kinds(&bench), [REPLICAREAD; 2], "{call}");
+        assert_eq!(bench.kinds(), [REPLICAREAD; 2], "{call}");
         let answer = format!("{} {answer}", made + 5);
         assert_eq!(bench.exchange(REPLICAREAD, 0, 2), answer, "{call}");
         assert_eq!(version(&bench, 0), (1, 5), "{call}");
@@ -94,7 +80,7 @@ fn an_election_leaves_the_bucket_unrecovered() {
     bench.elect(0, &[1]);
     bench.lose_all();
     bench.quiet(&["set 0 61 02"]);
-    assert_eq!(kinds(&bench), [REPLICAREAD; 2]);
+    assert_eq!(bench.kinds(), [REPLICAREAD; 2]);
     assert_eq!(bench.read_unrecovered(0, 1), "");
     assert_eq!(bench.exchange(REPLICAWRITE, 0, 1), "2 done 4");
     // The bucket is recovered again: the next write is sent at once.

@@ -112,7 +112,8 @@ fn so_it_does_in_any_order_and_beside_open_calls() {
     let mut met = Met::default();
     let (mut open, mut others) = (0, 0);
     let mut random = Random::new(1);
-    for state in (0..SEEDS).filter_map(State::quiet_but_for_open_calls) {
+    // Few states have open calls of a leader that was deposed unheard.
+    for state in (0..4 * SEEDS).filter_map(State::quiet_but_for_open_calls) {
         met.state(&state);
         for call in state.calls() {
             if let Some(ended) = ended(&state, &call, |count| random.below(count)) {

@@ -3,9 +3,13 @@
 mod common;
 
 use common::{run, run_in_chunks};
-use reference::script::Script;
+use reference::bucket::Value;
+use reference::cluster::call::Request;
+use reference::cluster::Step;
+use reference::printed::empty_values;
+use reference::script::{parse, Line, Script};
 use reference::scripts::{generate, Kind};
-use std::collections::BTreeSet;
+use std::collections::{BTreeMap, BTreeSet};
 
 const SHORT: [Kind; 5] = [
     Kind::Ordinary,
@@ -109,11 +113,65 @@ fn most_lines_are_accepted_and_calls_complete() {
         ] {
             assert!(count(&outputs, word) > 20, "{kind:?} {word}");
         }
+        let empty: usize = outputs.iter().map(|out| empty_values(out)).sum();
+        assert!(empty > 20, "{kind:?}: {empty}");
         let completing = outputs
             .iter()
             .filter(|out| count(&[out.to_vec()], " done ") > 0);
         assert!(completing.count() > 80);
     }
+}
+
+/// What a value is, as a word of a script; `..` are any bytes.
+fn word(value: Option<&Value>) -> &'static str {
+    match value {
+        None => "-",
+        Some(value) if value.is_empty() => ".",
+        Some(_) => "..",
+    }
+}
+
+/// What the copy at its server holds for a `setif`, what that expects and sets.
+fn setif(script: &Script, line: &[u8]) -> Option<[&'static str; 3]> {
+    let (Line::Step(step), cluster) = (parse(line)?, script.cluster()?) else {
+        return None;
+    };
+    cluster.admit(&step).ok()?;
+    let Step::Call(server, request) = step else {
+        return None;
+    };
+    let Request::SetIf {
+        key,
+        expected,
+        value,
+    } = request
+    else {
+        return None;
+    };
+    let copies = &cluster.server(server as usize).replicas;
+    let held = copies[request.bucket(cluster.buckets())]
+        .table
+        .look_up(&key);
+    Some([held, expected.as_ref(), value.as_ref()].map(word))
+}
+
+#[test]
+fn empty_and_absent_values_are_held_expected_and_set() {
+    let mut met = BTreeMap::new();
+    for kind in SHORT.into_iter().chain([Kind::Blind, Kind::Settled]) {
+        for seed in 0..100 {
+            let mut script = Script::new();
+            for line in generate(kind, seed, 400).split(|&byte| byte == b'\n') {
+                let words = setif(&script, line);
+                if script.line(line, &mut Vec::new()) {
+                    *met.entry(words).or_insert(0) += 1;
+                }
+            }
+        }
+    }
+    // Each of three for each of three, and all other lines.
+    assert_eq!(met.len(), 27 + 1);
+    assert!(met.values().all(|&lines| lines > 5), "{met:?}");
 }
 
 /// The results and rounds of all answers, without their data.

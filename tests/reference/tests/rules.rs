@@ -186,11 +186,7 @@ fn recovery_takes_the_greatest_version_of_its_majority() {
 fn a_repeated_vote_request_is_acknowledged_again() {
     let mut bench = Bench::new("cluster 3 1");
     bench.quiet(&["elect 0", "copy 0", "copy 0"]);
-    let messages = bench.cluster().messages();
-    let kinds: Vec<u8> = (0..messages.len())
-        .map(|place| messages.header(messages.slot(place).unwrap()).kind)
-        .collect();
-    assert_eq!(kinds, [PLEASEVOTE, PLEASEVOTE, ACKVOTE, ACKVOTE]);
+    assert_eq!(bench.kinds(), [PLEASEVOTE, PLEASEVOTE, ACKVOTE, ACKVOTE]);
 }
 
 #[test]
@@ -343,7 +339,7 @@ fn a_full_list_takes_a_reply_in_the_place_of_its_request() {
 }
 
 #[test]
-fn setting_nothing_removes_and_removing_the_absent_is_done() {
+fn setting_absent_removes_and_removing_the_absent_is_done() {
     let script = "cluster 1 1\nelect 0\nset 0 61 62\nset 0 61 62\nset 0 61 -\nget 0 61\n\
                   del 0 61\nsetif 0 61 - -\nsetif 0 61 - 63\nsetif 0 61 62 64\n\
                   setif 0 61 63 64\nget 0 61\nkeys 0 0\nset 0 6100 65\nset 0 60 65\nkeys 0 0\n";
@@ -371,11 +367,6 @@ fn an_old_write_does_not_cover_a_newer_one() {
             counter: 2
         }
     );
-    let acks = (0..bench.under_way())
-        .map(|place| {
-            let messages = bench.cluster().messages();
-            messages.header(messages.slot(place).unwrap()).kind
-        })
-        .filter(|&kind| kind == ACKWRITE);
+    let acks = bench.kinds().into_iter().filter(|&kind| kind == ACKWRITE);
     assert_eq!(acks.count(), 2);
 }

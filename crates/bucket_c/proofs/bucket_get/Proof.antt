@@ -1,7 +1,8 @@
--- `bucket_get` meets its contract.
+-- `bucket_get` meets its contract: a value of no bytes is told from none.
 use borrow.Author.Needs.{needs}
+use Rattle.entries.specs.Decoded.{itemIn}
 use Rattle.bucket.specs.Answers.{outcomeNumber}
-use Rattle.bucket_c.proofs.Exporting.{get-refused, get-short, get-done}
+use Rattle.bucket_c.proofs.Exporting.{get-refused, get-absent, get-found}
 use Rattle.bucket_c.proofs.bucket_get.Statement.{statement}
 use Rattle.bucket_c.proofs.bucket_get.Tie as tie
 
@@ -11,30 +12,24 @@ look-up-requires c κs = search needs
 enum-told : tie.Need-enum-told
 enum-told c = search needs
 
-value-length-requires : tie.Need-value-length-requires
-value-length-requires c κs = search needs
-
-returns : tie.Need-returns
-unfolding outcomeNumber
-returns c =
-    get-short _ _ _ _ _ (rw (c .before .before .enum-told .given .1) at (c .before .before .before .before .before .look-up .ensures)) (c .before .value-length .ensures .is) (c .if1 .taken)
-
-put-value-requires : tie.Need-put-value-requires
-put-value-requires c κs = search needs
-
-cast-result : tie.Need-cast-result
-cast-result c = search needs
-
-enum-told-2 : tie.Need-enum-told-2
-enum-told-2 c = search needs
+put-found-requires : tie.Need-put-found-requires
+put-found-requires c κs = search needs
 
 same-length : tie.Need-same-length
 same-length c = search needs
 
+returns : tie.Need-returns
+unfolding outcomeNumber itemIn
+returns c =
+    get-found _ _ _ _ _ _ (rw (c .before .before .before .before .before .enum-told .given .1) at (c .before .before .before .before .before .before .before .before .look-up .ensures)) (rw (itemIn, c .before .before .before .before .if1 .taken)) (c .before .before .put-found .ensures)
+
+enum-told-2 : tie.Need-enum-told-2
+enum-told-2 c = search needs
+
 returns-2 : tie.Need-returns-2
-unfolding outcomeNumber
+unfolding outcomeNumber itemIn
 returns-2 c =
-    get-done _ _ _ _ _ _ (rw (c .before .before .before .before .before .before .enum-told .given .1) at (c .before .before .before .before .before .before .before .before .before .look-up .ensures)) (c .before .before .before .before .before .value-length .ensures .is) (c .before .before .before .before .if1 .left) (c .before .before .put-value .ensures)
+    get-absent _ _ _ _ (rw (c .before .enum-told .given .1) at (c .before .before .before .before .look-up .ensures)) (rw (itemIn, c .if1 .left))
 
 returns-3 : tie.Need-returns-3
 unfolding outcomeNumber
@@ -46,11 +41,9 @@ bucket-get-spec =
     (tie.spec
     look-up-requires
     enum-told
-    value-length-requires
-    returns
-    put-value-requires
-    cast-result
-    enum-told-2
+    put-found-requires
     same-length
+    returns
+    enum-told-2
     returns-2
     returns-3)

@@ -1,8 +1,10 @@
 -- `look_up` meets its contract: a key that is too long is absent.
-use mathlib.Core.Path.{ap₂, _∙_}
+use mathlib.Core.Path.{ap, ap₂, _∙_}
 use lib.Seq.{take-all}
 use borrow.Author.Needs.{needs}
 use Rattle.entries.specs.Entries.{valueOf}
+use Rattle.entries.specs.Decoded.{itemIn}
+use Rattle.entries.proofs.Views.{absent-none}
 use Rattle.bucket_calls.proofs.Answering.{look-found, look-long}
 use Rattle.bucket_calls.proofs.look_up.Statement.{statement}
 use Rattle.bucket_calls.proofs.look_up.Tie as tie
@@ -10,11 +12,11 @@ use Rattle.bucket_calls.proofs.look_up.Tie as tie
 read-requires : tie.Need-read-requires
 read-requires c κs = search needs
 
-no-value-requires : tie.Need-no-value-requires
-no-value-requires c κs = search needs
+absent-requires : tie.Need-absent-requires
+absent-requires c κs = search needs
 
 returns : tie.Need-returns
-returns c = look-long _ _ _ _ (c .before .before .before .read .ensures .number) (c .no-value .ensures) (c .before .if1 .taken)
+returns c = look-long _ _ _ _ (c .before .before .before .read .ensures .number) (ap itemIn (c .absent .ensures) ∙ absent-none) (c .before .if1 .taken)
 
 key-of-requires : tie.Need-key-of-requires
 key-of-requires c κs = search needs
@@ -30,4 +32,4 @@ returns-2 c =
 pub look-up-spec : {M : Type 1} → statement M
 look-up-spec =
     tie.close
-    (tie.spec read-requires no-value-requires returns key-of-requires find-requires returns-2)
+    (tie.spec read-requires absent-requires returns key-of-requires find-requires returns-2)

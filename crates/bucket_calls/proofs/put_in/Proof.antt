@@ -1,5 +1,6 @@
 -- `put_in` meets its contract: the bucket is read, changed and written.
 use borrow.Author.Needs.{needs}
+use Rattle.entries.specs.Decoded.{itemIn}
 use Rattle.bucket_calls.specs.Answers.{changeNumber}
 use Rattle.bucket.proofs.Answering.{was-read, was-refused}
 use Rattle.bucket_calls.proofs.Answering.{was-full, was-stored, length-read, put-refused, put-full, put-done}
@@ -20,7 +21,7 @@ same-length : tie.Need-same-length
 same-length c = search needs
 
 returns : tie.Need-returns
-unfolding changeNumber
+unfolding changeNumber itemIn
 returns c =
     put-full _ _ _ _ (was-read (c .before .before .before .before .before .read .ensures) (c .before .before .enum-told .given .1)) (was-full (c .before .store .result) (c .before .store .ensures) (c .if1 .taken))
 
@@ -34,7 +35,7 @@ same-length-2 : tie.Need-same-length-2
 same-length-2 c = search needs
 
 returns-2 : tie.Need-returns-2
-unfolding changeNumber
+unfolding changeNumber itemIn
 returns-2 c =
     put-done _ _ _ _ _ _ (was-read (c .before .before .before .before .before .before .before .before .before .before .read .ensures) (c .before .before .before .before .before .before .before .enum-told .given .1)) (was-stored (c .before .before .before .before .before .before .store .result) (c .before .before .before .before .before .before .store .ensures) (c .before .before .before .before .before .if1 .left))
     (c .before .before .encode .ensures)

@@ -2,10 +2,10 @@
 use mathlib.Core.Path.{_≡_, sym, ap, _∙_}
 use borrow.Author.Needs.{needs}
 use borrow.Author.Tests.{ne-eqb}
-use Rattle.entries.specs.Decoded.{keyBytes, valueBytes, tableIn}
+use Rattle.entries.specs.Decoded.{keyBytes, itemIn, tableIn}
 use Rattle.model.specs.Calls as calls
 use Rattle.model.specs.Calls.{effect}
-use Rattle.server.specs.Views.{wordsBy, wordsIn}
+use Rattle.server.specs.Views.{wordsOfKind, wordsBy, wordsIn}
 use Rattle.effects.proofs.effect.Statement.{statement}
 use Rattle.effects.proofs.effect.Tie as tie
 
@@ -35,14 +35,14 @@ returns-2 : tie.Need-returns-2
 unfolding wordsBy effect
 returns-2 c =
     let a = c .before .before .before .before .before .args in
-    let e : wordsIn (a .w) ≡ calls.set (keyBytes (a .w .key)) (valueBytes (a .w .value)) = ap (λ k. wordsBy k (a .w)) (c .before .match .keys2) in
+    let e : wordsIn (a .w) ≡ calls.set (keyBytes (a .w .key)) (itemIn (a .w .value)) = ap (λ k. wordsBy k (a .w)) (c .before .match .keys2) in
     c .setting .ensures ∙ ap (λ x. effect x (tableIn (a .t))) (sym e)
 
 returns-3 : tie.Need-returns-3
 unfolding wordsBy
 returns-3 c =
     let a = c .before .before .before .before .before .args in
-    let e : wordsIn (a .w) ≡ calls.setif (keyBytes (a .w .key)) (valueBytes (a .w .expected)) (valueBytes (a .w .value)) = ap (λ k. wordsBy k (a .w)) (c .before .match .keys3) in
+    let e : wordsIn (a .w) ≡ calls.setif (keyBytes (a .w .key)) (itemIn (a .w .expected)) (itemIn (a .w .value)) = ap (λ k. wordsBy k (a .w)) (c .before .match .keys3) in
     c .setting-if .ensures ∙ ap (λ x. effect x (tableIn (a .t))) (sym e)
 
 returns-4 : tie.Need-returns-4
@@ -57,7 +57,7 @@ unfolding wordsBy
 returns-5 c =
     let a = c .before .before .before .before .before .args in
     let not = c .before .match .rest in
-    let e : wordsIn (a .w) ≡ calls.keys (a .w .bucket) = rw (wordsBy, ne-eqb _ _ (not .0 .0 .0 .1), ne-eqb _ _ (not .0 .0 .1), ne-eqb _ _ (not .0 .1), ne-eqb _ _ (not .1)) in
+    let e : wordsIn (a .w) ≡ calls.keys (a .w .bucket) = rw (wordsOfKind, ne-eqb _ _ (not .0 .0 .0 .1), ne-eqb _ _ (not .0 .0 .1), ne-eqb _ _ (not .0 .1), ne-eqb _ _ (not .1)) in
     c .listing .ensures (a .w .bucket) ∙ ap (λ x. effect x (tableIn (a .t))) (sym e)
 
 pub effect-spec : {M : Type 1} → statement M

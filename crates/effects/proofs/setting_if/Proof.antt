@@ -3,8 +3,8 @@ use mathlib.Core.Path.{_≡_, sym, ap, _∙_}
 use mathlib.Core.Bool.{true, false}
 use borrow.Author.Needs.{needs}
 use Rattle.entries.specs.Entries.{valueOf}
-use Rattle.entries.specs.Decoded.{keyBytes, valueBytes, tableIn}
-use Rattle.table.specs.Form.{sameBytes}
+use Rattle.entries.specs.Decoded.{keyBytes, itemIn, tableIn}
+use Rattle.table.specs.Form.{sameValue}
 use Rattle.model.specs.Calls.{effect}
 use Rattle.server.specs.Views.{resultIn, effectIn}
 use Rattle.effects.proofs.setting_if.Statement.{statement}
@@ -13,8 +13,8 @@ use Rattle.effects.proofs.setting_if.Tie as tie
 find-requires : tie.Need-find-requires
 find-requires c κs = search needs
 
-same-value-requires : tie.Need-same-value-requires
-same-value-requires c κs = search needs
+same-item-requires : tie.Need-same-item-requires
+same-item-requires c κs = search needs
 
 setting-requires : tie.Need-setting-requires
 setting-requires c κs = search needs
@@ -24,20 +24,20 @@ unfolding effect
 returns c =
     let k = c .before .before in
     let a = k .before .before .args in
-    let test : sameBytes (valueOf (keyBytes (a .k)) (tableIn (a .t))) (valueBytes (a .e)) ≡ true =
-    sym (ap (λ l. sameBytes l (valueBytes (a .e))) (k .before .find .ensures)) ∙ sym (k .same-value .ensures) ∙ c .before .if1 .taken in
+    let test : sameValue (valueOf (keyBytes (a .k)) (tableIn (a .t))) (itemIn (a .e)) ≡ true =
+    sym (ap (λ l. sameValue l (itemIn (a .e))) (k .before .find .ensures)) ∙ sym (k .same-item .ensures) ∙ c .before .if1 .taken in
     rw (effect, test) (c .setting .ensures)
 
-no-value-requires : tie.Need-no-value-requires
-no-value-requires c κs = search needs
+empty-value-requires : tie.Need-empty-value-requires
+empty-value-requires c κs = search needs
 
 returns-2 : tie.Need-returns-2
 unfolding effect effectIn resultIn
 returns-2 c =
     let k = c .before .before in
     let a = k .before .before .args in
-    let test : sameBytes (valueOf (keyBytes (a .k)) (tableIn (a .t))) (valueBytes (a .e)) ≡ false =
-    sym (ap (λ l. sameBytes l (valueBytes (a .e))) (k .before .find .ensures)) ∙ sym (k .same-value .ensures) ∙ c .before .if1 .left in
+    let test : sameValue (valueOf (keyBytes (a .k)) (tableIn (a .t))) (itemIn (a .e)) ≡ false =
+    sym (ap (λ l. sameValue l (itemIn (a .e))) (k .before .find .ensures)) ∙ sym (k .same-item .ensures) ∙ c .before .if1 .left in
     rw (effect, test)
 
 pub setting-if-spec : {M : Type 1} → statement M
@@ -45,8 +45,8 @@ setting-if-spec =
     tie.close
     (tie.spec
     find-requires
-    same-value-requires
+    same-item-requires
     setting-requires
     returns
-    no-value-requires
+    empty-value-requires
     returns-2)

@@ -2,7 +2,7 @@
 
 #![allow(dead_code)]
 
-use reference::bucket::{self, Key, Table, Value};
+use reference::bucket::{self, Key, Pair, Table, Value};
 pub use reference::random_tables::{bytes, table};
 use reference::scripts::Random;
 
@@ -34,8 +34,8 @@ pub fn form(table: &Table) -> Vec<u8> {
     out
 }
 
-/// Entries laid out as in a bucket, whatever they are: too many, too long, of
-/// no bytes, unsorted.
+/// Entries laid out as in a bucket, whatever they are: too many, too long, with
+/// a key of no bytes, unsorted.
 pub fn laid_out(entries: &[(Vec<u8>, Vec<u8>)]) -> Vec<u8> {
     let mut bucket = vec![entries.len() as u8];
     let mut end = 1 + 4 * entries.len();
@@ -51,7 +51,8 @@ pub fn laid_out(entries: &[(Vec<u8>, Vec<u8>)]) -> Vec<u8> {
     bucket
 }
 
-/// Up to six entries, sorted or not, in which each length may be wrong.
+/// Up to six entries, sorted or not, in which each length may be wrong. Some
+/// values are empty.
 pub fn any_entries(random: &mut Random) -> Vec<(Vec<u8>, Vec<u8>)> {
     let longest = random.within(1, 9);
     let count = random.below(7);
@@ -61,7 +62,7 @@ pub fn any_entries(random: &mut Random) -> Vec<(Vec<u8>, Vec<u8>)> {
         entries.sort();
     }
     if random.chance(800) {
-        entries.retain(|(key, value)| !key.is_empty() && !value.is_empty());
+        entries.retain(|(key, _)| !key.is_empty());
     }
     entries
 }
@@ -97,22 +98,21 @@ impl Rows {
             0 => full_table(random),
             _ => table(random),
         };
-        let mut rows = Rows::of(random, &table);
+        let mut rows = Rows::of(random, &table.pairs()[..table.keys().len()]);
         for _ in 0..random.below(3) {
             rows.damage(random);
         }
         rows
     }
 
-    /// A table, with any bytes where none count.
-    fn of(random: &mut Random, table: &Table) -> Rows {
-        let count = table.keys().len();
+    /// A table's entries, with any bytes where none count.
+    pub fn of(random: &mut Random, pairs: &[Pair]) -> Rows {
         let mut rows = Rows {
-            count,
+            count: pairs.len(),
             lengths: any_bytes(random, 8),
             bytes: any_bytes(random, 96),
         };
-        for (at, (key, value)) in table.pairs()[..count].iter().enumerate() {
+        for (at, (key, value)) in pairs.iter().enumerate() {
             rows.lengths[2 * at] = key.len() as u8;
             rows.lengths[2 * at + 1] = value.len() as u8;
             rows.bytes[24 * at..][..key.len()].copy_from_slice(key);

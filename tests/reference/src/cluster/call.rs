@@ -5,7 +5,8 @@ use crate::cluster::server::Replica;
 use crate::datagram::Header;
 use crate::hash;
 
-/// The words of a call without its server; `del K` is `set K -`.
+/// The words of a call without its server; `del K` is `set K -`. A value, new
+/// or expected, is `None` for an absent key, which differs from an empty value.
 #[derive(Clone, Copy, PartialEq, Eq, Debug)]
 pub enum Request {
     Get {
@@ -16,12 +17,12 @@ pub enum Request {
     },
     Set {
         key: Key,
-        value: Value,
+        value: Option<Value>,
     },
     SetIf {
         key: Key,
-        expected: Value,
-        value: Value,
+        expected: Option<Value>,
+        value: Option<Value>,
     },
 }
 
@@ -35,10 +36,11 @@ pub enum Verdict {
     Write,
 }
 
-/// How a call ended, with the data to print.
+/// How a call ended, with the data to print; the value of an absent key is
+/// `None`.
 #[derive(Clone, Copy, PartialEq, Eq, Debug)]
 pub enum Outcome<'a> {
-    Value(&'a Value),
+    Value(Option<&'a Value>),
     Keys(&'a [Key]),
     Done,
     Mismatch,
@@ -68,15 +70,16 @@ impl Request {
     #[inline]
     pub fn lengths_fit(&self) -> bool {
         let is_key = |key: &Key| !key.is_empty() && key.fits();
+        let fits = |value: &Option<Value>| value.as_ref().is_none_or(Value::fits);
         match self {
             Request::Keys { .. } => true,
             Request::Get { key } => is_key(key),
-            Request::Set { key, value } => is_key(key) && value.fits(),
+            Request::Set { key, value } => is_key(key) && fits(value),
             Request::SetIf {
                 key,
                 expected,
                 value,
-            } => is_key(key) && expected.fits() && value.fits(),
+            } => is_key(key) && fits(expected) && fits(value),
         }
     }
 
@@ -86,11 +89,11 @@ impl Request {
         match self {
             Request::Get { .. } => Verdict::Value,
             Request::Keys { .. } => Verdict::Keys,
-            Request::SetIf { key, expected, .. } if table.look_up(key) != expected => {
+            Request::SetIf { key, expected, .. } if table.look_up(key) != expected.as_ref() => {
                 Verdict::Mismatch
             }
             Request::Set { key, value } | Request::SetIf { key, value, .. } => {
-                if value.is_empty() || table.has_room(key) {
+                if value.is_none() || table.has_room(key) {
                     Verdict::Write
                 } else {
                     Verdict::Full
@@ -103,21 +106,22 @@ impl Request {
     #[inline]
     pub fn apply(&self, table: &mut Table) {
         if let Request::Set { key, value } | Request::SetIf { key, value, .. } = self {
-            if value.is_empty() {
-                table.remove(key);
-            } else {
+            match value {
+                None => table.remove(key),
                 // The verdict was `Write`, so the key has room.
-                let _ = table.put(key, value);
+                Some(value) => {
+                    let _ = table.put(key, value);
+                }
             }
         }
     }
 
-    /// The value that a `get` finds.
+    /// The value that a `get` finds, `None` where its key is absent.
     #[inline]
-    pub fn found<'a>(&self, table: &'a Table) -> &'a Value {
+    pub fn found<'a>(&self, table: &'a Table) -> Option<&'a Value> {
         match self {
             Request::Get { key } => table.look_up(key),
-            _ => &Value::EMPTY,
+            _ => None,
         }
     }
 }

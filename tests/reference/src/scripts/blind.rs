@@ -4,7 +4,7 @@
 use super::maker::Maker;
 
 const KEYS: [&str; 7] = ["61", "62", "63", "6100", "6162", "65", "ff00ff00ff00ff00"];
-const VALUES: [&str; 4] = ["-", "01", "0202", "000102030405060708090a0b0c0d0e0f"];
+const VALUES: [&str; 5] = ["-", ".", "01", "0202", "000102030405060708090a0b0c0d0e0f"];
 
 impl Maker {
     pub fn blind(&mut self, lines: usize) {

@@ -37,6 +37,9 @@ impl Maker {
     /// Two of the five servers stop on the way; a majority always runs.
     pub fn speed(&mut self, lines: usize) {
         self.form(5, 8);
+        // Without them it is the same script as ever, so that times can be
+        // compared.
+        self.leave_out_empty_values();
         let mut calm = Calm {
             copies: 1000,
             losses: 300,

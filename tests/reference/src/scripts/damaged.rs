@@ -4,7 +4,7 @@
 use super::{generate, Kind, Random};
 
 /// Bytes that a damaged script is likely to get.
-const LIKELY: &[u8] = b"\n\n\n  \t\r-0019abfgAF\0\xff";
+const LIKELY: &[u8] = b"\n\n\n  \t\r-.0019abfgAF\0\xff";
 /// Longest run of one byte that is put in.
 const LONGEST_RUN: usize = 200_000;
 

@@ -1,14 +1,15 @@
 //! Scripts full of lines that are malformed or refused.
 
-use super::maker::{hex, Maker};
+use super::maker::{Maker, ABSENT, EMPTY};
 use super::rough::Phase;
 use crate::script::LONGEST;
 
 /// Lines that are refused as they stand, or are near to accepted ones.
-const ODD_LINES: [&str; 40] = [
+const ODD_LINES: [&str; 45] = [
     "",
     " ",
     "-",
+    ".",
     "elect",
     "elect ",
     " elect 0",
@@ -22,6 +23,7 @@ const ODD_LINES: [&str; 40] = [
     "elect 01",
     "elect -0",
     "elect +0",
+    "elect .",
     "elect 0x0",
     "elect a",
     "elect 000000000",
@@ -35,22 +37,27 @@ const ODD_LINES: [&str; 40] = [
     "cluster",
     "cluster 3",
     "cluster 3 4 4 16",
+    "cluster . 4",
     "cluster 03 4",
     "cluster 3 4",
     "cluster 8 4",
     "get 0",
     "set 0 61",
     "setif 0 61 -",
+    "setif 0 61 .",
     "del 0",
     "keys 0",
+    "keys 0 .",
     "timeout 0",
     "deliver",
     "messages 0 0 0 0 0",
 ];
 
-/// Words of keys and values that break the form or the lengths.
-const ODD_HEX: [&str; 12] = [
-    "", "6", "616", "6G", "6A", "--", "-61", "61-", "0x61", "61 ", ".", "é",
+/// Words that break the form in a key's place, and all but `.` in a value's.
+#[rustfmt::skip]
+const ODD_HEX: [&str; 20] = [
+    "", "6", "616", "6G", "6A", "--", "-61", "61-", "0x61", "61 ", "é",
+    ".", ".", "..", ".1", "1.", ".61", "61.", "-.", ". ",
 ];
 
 /// Numbers that break the form or are out of range.
@@ -112,12 +119,13 @@ impl Maker {
     /// A line for the time before the cluster line.
     fn early_line(&mut self) -> Vec<u8> {
         let (size, buckets) = (self.random.below(12), self.random.below(12));
-        match self.random.below(4) {
+        match self.random.below(5) {
             0 if !((1..=7).contains(&size) && (1..=8).contains(&buckets)) => {
                 format!("cluster {size} {buckets}").into_bytes()
             }
             1 => self.any_call(9).into_bytes(),
             2 => b"get 9 -".to_vec(),
+            3 => b"get 9 .".to_vec(),
             _ => match *self.random.pick(&ODD_LINES) {
                 "cluster 3 4" => b"elect 0".to_vec(),
                 line => line.as_bytes().to_vec(),
@@ -149,7 +157,7 @@ impl Maker {
 
     /// A usual line with one byte changed, added or taken away, or cut short.
     fn damaged_line(&mut self, phase: &Phase) -> Vec<u8> {
-        const LIKELY: &[u8] = b"0123456789abcdefg -\t\rAF";
+        const LIKELY: &[u8] = b"0123456789abcdefg -.\t\rAF";
         let mut line = self.usual_line(phase);
         let at = self.random.below(line.len());
         let byte = match self.random.chance(800) {
@@ -170,12 +178,13 @@ impl Maker {
 
     fn line_with_odd_hex(&mut self) -> String {
         let odd = *self.random.pick(&ODD_HEX);
-        match self.random.below(6) {
+        match self.random.below(7) {
             0 => format!("get 0 {odd}"),
             1 => format!("set 0 {odd} 61"),
             2 => format!("set 0 61 {odd}"),
-            3 => format!("setif 0 61 {odd} 61"),
-            4 => format!("setif 0 61 - {odd}"),
+            3 => format!("setif 0 {odd} - 61"),
+            4 => format!("setif 0 61 {odd} 61"),
+            5 => format!("setif 0 61 - {odd}"),
             _ => format!("del 0 {odd}"),
         }
     }
@@ -196,17 +205,26 @@ impl Maker {
         }
     }
 
-    /// Well formed, with a key or value at or past its longest.
+    /// Well formed, with a key or value at or past its longest or shortest.
     fn line_with_odd_length(&mut self) -> String {
         let server = *self.random.pick(&[0, 0, 0, 6, 7]);
-        let key = hex(&vec![0x61; *self.random.pick(&[0, 1, 7, 8, 9, 20])]);
-        let value = hex(&vec![0x62; *self.random.pick(&[0, 1, 15, 16, 17, 18])]);
-        let expected = hex(&vec![0x63; *self.random.pick(&[0, 1, 16, 17])]);
+        let key = self.sized_word(&["-"], &[1, 7, 8, 9, 20]);
+        let value = self.sized_word(&[ABSENT, EMPTY], &[1, 15, 16, 17, 18]);
+        let expected = self.sized_word(&[ABSENT, EMPTY], &[1, 16, 17]);
         match self.random.below(4) {
             0 => format!("get {server} {key}"),
             1 => format!("set {server} {key} {value}"),
             2 => format!("setif {server} {key} {expected} {value}"),
             _ => format!("del {server} {key}"),
+        }
+    }
+
+    /// One of these words, or the digits of one of so many bytes.
+    fn sized_word(&mut self, words: &[&str], lengths: &[usize]) -> String {
+        let at = self.random.below(words.len() + lengths.len());
+        match words.get(at) {
+            Some(word) => word.to_string(),
+            None => "61".repeat(lengths[at - words.len()]),
         }
     }
 
@@ -217,6 +235,7 @@ impl Maker {
             "get 0 ",
             "set 0 61 ",
             "setif 0 61 - ",
+            "setif 0 61 . ",
             "set 10 61 ",
             "del 0 ",
             "deliver ",

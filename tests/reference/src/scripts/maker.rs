@@ -17,11 +17,12 @@ pub struct Maker {
     values: Vec<String>,
 }
 
-/// The bytes as hexadecimal digits, `-` for none.
-pub fn hex(bytes: &[u8]) -> String {
-    if bytes.is_empty() {
-        return "-".to_string();
-    }
+/// The word of an absent key's value, and that of the empty value.
+pub const ABSENT: &str = "-";
+pub const EMPTY: &str = ".";
+
+/// The bytes, of which there is at least one, as hexadecimal digits.
+fn hex(bytes: &[u8]) -> String {
     bytes.iter().map(|byte| format!("{byte:02x}")).collect()
 }
 
@@ -79,7 +80,7 @@ impl Maker {
         self.choose_words(6 * buckets);
     }
 
-    /// Chooses at most so many keys, and few values.
+    /// Chooses at most so many keys, and few values, the empty one often.
     fn choose_words(&mut self, most_keys: usize) {
         let count = self.random.within(1, most_keys);
         self.keys = (0..count).map(|_| self.some_bytes(1, 8)).collect();
@@ -92,8 +93,13 @@ impl Maker {
         let values = self.random.within(2, 5);
         self.values = (0..values)
             .map(|_| hex(&self.some_bytes(1, 16)))
-            .chain(["-".to_string()])
+            .chain([ABSENT, EMPTY, EMPTY].map(String::from))
             .collect();
+    }
+
+    /// Leaves the empty value out of what is set and expected.
+    pub fn leave_out_empty_values(&mut self) {
+        self.values.retain(|word| word != EMPTY);
     }
 
     /// Random bytes, mostly few, sometimes with zeros among them.

@@ -78,6 +78,13 @@ impl Bench {
         Conditions::of(&self.script, server).unwrap()
     }
 
+    /// The kinds of the messages under way, in order.
+    pub fn kinds(&self) -> Vec<u8> {
+        let messages = self.cluster().messages();
+        let kind = |place| messages.header(messages.slot(place).unwrap()).kind;
+        (0..messages.len()).map(kind).collect()
+    }
+
     /// The last place with a message of this kind between these servers.
     pub fn place(&self, kind: u8, from: u8, to: u8) -> usize {
         let messages = self.cluster().messages();
@@ -115,6 +122,29 @@ impl Bench {
         for &voter in voters {
             assert_eq!(self.exchange(PLEASEVOTE, server, voter), "");
         }
+    }
+
+    /// Three servers; server 0 leads, and this call at it, which writes, has
+    /// recovered the only bucket. Servers 0 and 1 have stored the write, and
+    /// nothing is under way.
+    pub fn recovered(call: &str) -> Self {
+        let mut bench = Bench::new("cluster 3 1");
+        bench.elect(0, &[1]);
+        bench.quiet(&[call]);
+        assert_eq!(bench.read_unrecovered(0, 1), "");
+        assert_eq!(bench.exchange(REPLICAWRITE, 0, 1), "1 done 4");
+        bench.lose_all();
+        bench
+    }
+
+    /// Delivers what is under way and what that sends, in order; gives what is
+    /// printed.
+    pub fn deliver_all(&mut self) -> String {
+        let mut out = String::new();
+        while self.under_way() > 0 {
+            out += &self.line("deliver 0");
+        }
+        out
     }
 
     /// Loses all that is under way.

@@ -1,9 +1,11 @@
 -- `slots::find` meets its contract: the value stands at the key's place.
 use Rattle.entries.proofs.Edits.{held-below, found}
-use mathlib.Core.Path.{sym, _∙_}
+use mathlib.Core.Path.{sym, ap, _∙_}
 use borrow.Author.Needs.{needs}
 use Rattle.entries.proofs.Changes.{absent-value}
 use native.Mathlib.Omega.{arith}
+use Rattle.entries.specs.Decoded.{itemIn}
+use Rattle.entries.proofs.Views.{absent-none}
 use Rattle.entries.proofs.slots.find.Statement.{statement}
 use Rattle.entries.proofs.slots.find.Tie as tie
 
@@ -21,18 +23,19 @@ array-copy-out-s c =
     omega (arith, held-below (c .before .before .before .args .t) (p .result) (p .ensures) (c .before .if1 .taken), p .ensures .low)
 
 returns : tie.Need-returns
+unfolding itemIn
 returns c =
     let p = c .before .before .before .before .place in
     found (c .before .before .before .before .before .args .t) (p .result) (p .ensures) (c .before .before .before .if1 .taken)
 
-no-value-requires : tie.Need-no-value-requires
-no-value-requires c κs = search needs
+absent-requires : tie.Need-absent-requires
+absent-requires c κs = search needs
 
 returns-2 : tie.Need-returns-2
 returns-2 c =
     let p = c .before .before .place in
-    c .no-value .ensures ∙ sym (absent-value _ _ (sym (p .ensures .held-is) ∙ c .before .if1 .left))
+    ap itemIn (c .absent .ensures) ∙ absent-none ∙ sym (absent-value _ _ (sym (p .ensures .held-is) ∙ c .before .if1 .left))
 
 pub find-spec : {M : Type 1} → statement M
 find-spec =
-    tie.close (tie.spec place-requires mul-s array-copy-out-s returns no-value-requires returns-2)
+    tie.close (tie.spec place-requires mul-s array-copy-out-s returns absent-requires returns-2)

@@ -24,7 +24,7 @@ returns c =
     let a = c .before .before .before .before .before .args in
     let p = c .before .before .before .before .place in
     rw (c .replaced .ensures)
-    (storing-replaced (a .t) (p .result) (p .ensures) (c .before .before .before .count-of .ensures) (valueBytes (a .v)) (c .before .before .before .before .before .pre) (record { key = a .k; value = a .v }) refl (c .before .if1 .taken))
+    (storing-replaced (a .t) (p .result) (p .ensures) (c .before .before .before .count-of .ensures) (valueBytes (a .v)) (record { key = a .k; value = a .v }) refl (c .before .if1 .taken))
 
 inserted-requires : tie.Need-inserted-requires
 inserted-requires c κs =
@@ -39,14 +39,14 @@ unfolding entryIn
 returns-2 c =
     let a = c .before .before .before .before .before .before .args in
     let p = c .before .before .before .before .before .place in
-    storing-inserted (a .t) (p .result) (p .ensures) (c .before .before .before .before .count-of .ensures) (valueBytes (a .v)) (c .before .before .before .before .before .before .pre) (record { key = a .k; value = a .v }) (c .inserted .result) refl
+    storing-inserted (a .t) (p .result) (p .ensures) (c .before .before .before .before .count-of .ensures) (valueBytes (a .v)) (record { key = a .k; value = a .v }) (c .inserted .result) refl
     (c .before .before .if1 .left) (c .before .if2 .taken) (c .inserted .ensures)
 
 returns-3 : tie.Need-returns-3
 returns-3 c =
     let a = c .before .before .before .before .before .args in
     let p = c .before .before .before .before .place in
-    storing-full (a .t) (p .result) (p .ensures) (c .before .before .before .count-of .ensures) (valueBytes (a .v)) (c .before .before .before .before .before .pre) (c .before .if1 .left) (c .if2 .left)
+    storing-full (a .t) (p .result) (p .ensures) (c .before .before .before .count-of .ensures) (valueBytes (a .v)) (c .before .if1 .left) (c .if2 .left)
 
 pub put-spec : {M : Type 1} → statement M
 put-spec =

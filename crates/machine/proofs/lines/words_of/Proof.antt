@@ -5,8 +5,8 @@ use borrow.Author.Needs.{needs}
 use Rattle.machine.proofs.lines.words_of.Statement.{statement}
 use Rattle.machine.proofs.lines.words_of.Tie as tie
 
-no-value-requires : tie.Need-no-value-requires
-no-value-requires c κs = search needs
+absent-requires : tie.Need-absent-requires
+absent-requires c κs = search needs
 
 enum-told : tie.Need-enum-told
 enum-told c = search needs
@@ -103,11 +103,11 @@ returns-3 c = c .no-words3 .ensures ∙ sym (ap (λ k. wordsOf k (c .before .bef
 
 returns-4 : tie.Need-returns-4
 unfolding wordsOf
-returns-4 c = rw (c .words .ensures, c .before .before .before .no-value .ensures) (sym (ap (λ k. wordsOf k (c .before .before .before .before .before .before .before .args .line)) (c .before .enum-told4 .given .1)))
+returns-4 c = rw (c .words .ensures, c .before .before .before .absent .ensures) (sym (ap (λ k. wordsOf k (c .before .before .before .before .before .before .before .args .line)) (c .before .enum-told4 .given .1)))
 
 returns-5 : tie.Need-returns-5
 unfolding wordsOf
-returns-5 c = rw (c .words2 .ensures, c .before .before .before .no-value .ensures) (sym (ap (λ k. wordsOf k (c .before .before .before .before .before .before .before .args .line)) (c .before .enum-told5 .given .1)))
+returns-5 c = rw (c .words2 .ensures, c .before .before .before .absent .ensures) (sym (ap (λ k. wordsOf k (c .before .before .before .before .before .before .before .args .line)) (c .before .enum-told5 .given .1)))
 
 returns-6 : tie.Need-returns-6
 unfolding wordsOf
@@ -115,11 +115,11 @@ returns-6 c = rw (c .words3 .ensures) (sym (ap (λ k. wordsOf k (c .before .befo
 
 returns-7 : tie.Need-returns-7
 unfolding wordsOf
-returns-7 c = rw (c .words4 .ensures, c .before .before .before .no-value .ensures) (sym (ap (λ k. wordsOf k (c .before .before .before .before .before .before .before .args .line)) (c .before .enum-told7 .given .1)))
+returns-7 c = rw (c .words4 .ensures, c .before .before .before .absent .ensures) (sym (ap (λ k. wordsOf k (c .before .before .before .before .before .before .before .args .line)) (c .before .enum-told7 .given .1)))
 
 returns-8 : tie.Need-returns-8
 unfolding wordsOf
-returns-8 c = rw (c .words5 .ensures, c .before .no-key .ensures, c .before .before .before .before .no-value .ensures) (sym (ap (λ k. wordsOf k (c .before .before .before .before .before .before .before .before .args .line)) (c .before .before .enum-told8 .given .1)))
+returns-8 c = rw (c .words5 .ensures, c .before .no-key .ensures, c .before .before .before .before .absent .ensures) (sym (ap (λ k. wordsOf k (c .before .before .before .before .before .before .before .before .args .line)) (c .before .before .enum-told8 .given .1)))
 
 returns-9 : tie.Need-returns-9
 unfolding wordsOf
@@ -145,7 +145,7 @@ pub words-of-spec : {M : Type 1} → statement M
 words-of-spec =
     tie.close
     (tie.spec
-    no-value-requires
+    absent-requires
     enum-told
     no-words-requires
     enum-told-2

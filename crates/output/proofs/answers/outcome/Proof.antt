@@ -31,12 +31,17 @@ returns-6 c = record { is = λ v t. rw (c .match .keys6) }
 
 returns-7 : tie.Need-returns-7
 unfolding resultFor resultIn
-returns-7 c =
+returns-7 c = record { is = λ v t. rw (c .match .keys7) }
+
+returns-8 : tie.Need-returns-8
+unfolding resultFor resultIn
+returns-8 c =
     let not = c .match .rest in
     record {
-      is = λ v t. rw (resultIn, ne-eqb _ _ (not .0 .0 .0 .0 .0 .1), ne-eqb _ _ (not .0 .0 .0 .0 .1), ne-eqb _ _ (not .0 .0 .0 .1), ne-eqb _ _ (not .0 .0 .1), ne-eqb _ _ (not .0 .1), ne-eqb _ _ (not .1));
+      is = λ v t. rw (resultIn, ne-eqb _ _ (not .0 .0 .0 .0 .0 .0 .1), ne-eqb _ _ (not .0 .0 .0 .0 .0 .1), ne-eqb _ _ (not .0 .0 .0 .0 .1), ne-eqb _ _ (not .0 .0 .0 .1), ne-eqb _ _ (not .0 .0 .1), ne-eqb _ _ (not .0 .1), ne-eqb _ _ (not .1));
     }
 
 pub outcome-spec : {M : Type 1} → statement M
 outcome-spec =
-    tie.close (tie.spec returns returns-2 returns-3 returns-4 returns-5 returns-6 returns-7)
+    tie.close
+    (tie.spec returns returns-2 returns-3 returns-4 returns-5 returns-6 returns-7 returns-8)

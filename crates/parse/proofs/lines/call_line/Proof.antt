@@ -19,17 +19,17 @@ malformed-requires c κs = search needs
 enum-known-n : tie.Need-enum-known-n
 enum-known-n c = search needs
 
-are-hexadecimal-requires : tie.Need-are-hexadecimal-requires
-are-hexadecimal-requires c κs = search needs
+all-readable-requires : tie.Need-all-readable-requires
+all-readable-requires c κs = search needs
 
 key-in-requires : tie.Need-key-in-requires
 key-in-requires c κs = search needs
 
-value-in-requires : tie.Need-value-in-requires
-value-in-requires c κs = search needs
+item-in-requires : tie.Need-item-in-requires
+item-in-requires c κs = search needs
 
-value-in-requires-2 : tie.Need-value-in-requires-2
-value-in-requires-2 c κs = search needs
+item-in-requires-2 : tie.Need-item-in-requires-2
+item-in-requires-2 c κs = search needs
 
 of-words-requires : tie.Need-of-words-requires
 of-words-requires c κs = search needs
@@ -38,8 +38,8 @@ returns : tie.Need-returns
 unfolding numberIn
 returns c =
     c .of-words .ensures
-    ∙ rw (c .before .before .before .key-in .ensures, c .before .before .value-in .ensures, c .before .value-in2 .ensures)
-    (call-reads _ _ _ _ (sym (ap numberIn (c .before .before .before .before .before .before .before .n .given .1)) ∙ c .before .before .before .before .before .before .before .before .before .number .ensures) (sym (c .before .before .before .before .before .are-hexadecimal .ensures) ∙ c .before .before .before .before .if1 .taken))
+    ∙ rw (c .before .before .before .key-in .ensures, c .before .before .item-in .ensures, c .before .item-in2 .ensures)
+    (call-reads _ _ _ _ (sym (ap numberIn (c .before .before .before .before .before .before .before .n .given .1)) ∙ c .before .before .before .before .before .before .before .before .before .number .ensures) (sym (c .before .before .before .before .before .all-readable .ensures) ∙ c .before .before .before .before .if1 .taken))
 
 malformed-requires-2 : tie.Need-malformed-requires-2
 malformed-requires-2 c κs = search needs
@@ -49,7 +49,7 @@ unfolding numberIn callFor
 returns-2 c = c .malformed .ensures ∙ rw (← c .before .before .before .number .ensures, c .before .enum-told .given .1)
 
 returns-3 : tie.Need-returns-3
-returns-3 c = c .malformed2 .ensures ∙ call-fails _ _ _ _ _ (sym (c .before .before .are-hexadecimal .ensures) ∙ c .before .if1 .left)
+returns-3 c = c .malformed2 .ensures ∙ call-fails _ _ _ _ _ (sym (c .before .before .all-readable .ensures) ∙ c .before .if1 .left)
 
 pub call-line-spec : {M : Type 1} → statement M
 call-line-spec =
@@ -59,10 +59,10 @@ call-line-spec =
     enum-told
     malformed-requires
     enum-known-n
-    are-hexadecimal-requires
+    all-readable-requires
     key-in-requires
-    value-in-requires
-    value-in-requires-2
+    item-in-requires
+    item-in-requires-2
     of-words-requires
     returns
     malformed-requires-2

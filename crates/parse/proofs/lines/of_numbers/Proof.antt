@@ -1,30 +1,32 @@
 -- `lines::of_numbers` meets its contract.
 use borrow.Author.Needs.{needs}
 use mathlib.Core.Path.{_∙_}
+use Rattle.parse.specs.Kept.{givenIn}
 use Rattle.parse.proofs.lines.of_numbers.Statement.{statement}
 use Rattle.parse.proofs.lines.of_numbers.Tie as tie
 
 blank-key-requires : tie.Need-blank-key-requires
 blank-key-requires c κs = search needs
 
-blank-value-requires : tie.Need-blank-value-requires
-blank-value-requires c κs = search needs
+absent-requires : tie.Need-absent-requires
+absent-requires c κs = search needs
 
-blank-value-requires-2 : tie.Need-blank-value-requires-2
-blank-value-requires-2 c κs = search needs
+absent-requires-2 : tie.Need-absent-requires-2
+absent-requires-2 c κs = search needs
 
 of-words-requires : tie.Need-of-words-requires
 of-words-requires c κs = search needs
 
 returns : tie.Need-returns
-returns c = c .of-words .ensures ∙ rw (c .before .before .before .blank-key .ensures, c .before .before .blank-value .ensures, c .before .blank-value2 .ensures)
+unfolding givenIn
+returns c = c .of-words .ensures ∙ rw (c .before .before .before .blank-key .ensures, c .before .before .absent .ensures, c .before .absent2 .ensures)
 
 pub of-numbers-spec : {M : Type 1} → statement M
 of-numbers-spec =
     tie.close
     (tie.spec
     blank-key-requires
-    blank-value-requires
-    blank-value-requires-2
+    absent-requires
+    absent-requires-2
     of-words-requires
     returns)

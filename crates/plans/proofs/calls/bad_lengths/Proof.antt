@@ -1,6 +1,6 @@
 -- `calls::bad_lengths` meets its contract: both make the same tests.
 use mathlib.Core.Path.{sym, _∙_}
-use borrow.Author.Tests.{eq-eqb, ne-eqb, lt-ltb, le-ltb}
+use borrow.Author.Tests.{eq-eqb, ne-eqb}
 use Rattle.plans.specs.Plans.{badLengths}
 use borrow.Author.Needs.{needs}
 use Rattle.plans.proofs.calls.bad_lengths.Statement.{statement}
@@ -17,13 +17,30 @@ returns-2 : tie.Need-returns-2
 unfolding badLengths
 returns-2 c = rw (badLengths, ne-eqb _ _ (c .before .before .if1 .left), sym (c .before .bad-key .ensures) ∙ c .if2 .taken)
 
+bad-item-requires : tie.Need-bad-item-requires
+bad-item-requires c κs = search needs
+
 returns-3 : tie.Need-returns-3
 unfolding badLengths
-returns-3 c = rw (badLengths, ne-eqb _ _ (c .before .before .before .before .if1 .left), sym (c .before .before .before .bad-key .ensures) ∙ c .before .before .if2 .left, lt-ltb _ _ (c .if3 .taken))
+returns-3 c = rw (badLengths, ne-eqb _ _ (c .before .before .before .before .if1 .left), sym (c .before .before .before .bad-key .ensures) ∙ c .before .before .if2 .left, sym (c .before .bad-item .ensures) ∙ c .if3 .taken)
+
+bad-item-requires-2 : tie.Need-bad-item-requires-2
+bad-item-requires-2 c κs = search needs
 
 returns-4 : tie.Need-returns-4
 unfolding badLengths
-returns-4 c = rw (badLengths, ne-eqb _ _ (c .before .before .before .before .before .if1 .left), sym (c .before .before .before .before .bad-key .ensures) ∙ c .before .before .before .if2 .left, le-ltb _ _ (c .before .if3 .left))
+returns-4 c =
+    c .bad-item2 .ensures
+    ∙ rw (badLengths, ne-eqb _ _ (c .before .before .before .before .before .if1 .left), sym (c .before .before .before .before .bad-key .ensures) ∙ c .before .before .before .if2 .left, sym (c .before .before .bad-item .ensures) ∙ c .before .if3 .left)
 
 pub bad-lengths-spec : {M : Type 1} → statement M
-bad-lengths-spec = tie.close (tie.spec returns bad-key-requires returns-2 returns-3 returns-4)
+bad-lengths-spec =
+    tie.close
+    (tie.spec
+    returns
+    bad-key-requires
+    returns-2
+    bad-item-requires
+    returns-3
+    bad-item-requires-2
+    returns-4)

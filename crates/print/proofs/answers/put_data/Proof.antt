@@ -1,9 +1,10 @@
 -- `answers::put_data` meets its contract.
 use borrow.Author.Needs.{needs}
+use Rattle.model.specs.Text.{bytes}
 use Rattle.model.specs.Print.{dataOf}
 use Rattle.print.specs.Answers.{resultFor, answerIn}
 use Rattle.print.proofs.Printing.{printed-none}
-use Rattle.print.proofs.Texts.{data-value, data-keys}
+use Rattle.print.proofs.Texts.{data-value, data-keys, data-absent}
 use Rattle.print.proofs.answers.put_data.Statement.{statement}
 use Rattle.print.proofs.answers.put_data.Tie as tie
 
@@ -33,6 +34,16 @@ enum-told-6 c = search needs
 
 enum-told-7 : tie.Need-enum-told-7
 enum-told-7 c = search needs
+
+enum-told-8 : tie.Need-enum-told-8
+enum-told-8 c = search needs
+
+slice-aggregate-put-bytes : tie.Need-slice-aggregate-put-bytes
+slice-aggregate-put-bytes c = search needs
+
+put-bytes-requires : tie.Need-put-bytes-requires
+unfolding bytes
+put-bytes-requires c κs = rw (data-absent (c .before .before .before .before .before .args .a) (c .before .before .enum-told8 .given .1)) at (c .before .before .before .before .before .pre)
 
 same-length : tie.Need-same-length
 same-length c = search needs
@@ -66,6 +77,13 @@ returns-7 : tie.Need-returns-7
 unfolding answerIn resultFor dataOf
 returns-7 c = printed-none _ _ (rw (c .enum-told7 .given .1))
 
+same-length-3 : tie.Need-same-length-3
+same-length-3 c = search needs
+
+returns-8 : tie.Need-returns-8
+unfolding bytes
+returns-8 c = rw (data-absent (c .before .before .before .before .before .before .before .before .args .a) (c .before .before .before .before .before .enum-told8 .given .1)) (c .before .before .put-bytes .ensures)
+
 pub put-data-spec : {M : Type 1} → statement M
 put-data-spec =
     tie.close
@@ -79,6 +97,9 @@ put-data-spec =
     enum-told-5
     enum-told-6
     enum-told-7
+    enum-told-8
+    slice-aggregate-put-bytes
+    put-bytes-requires
     same-length
     returns
     same-length-2
@@ -87,4 +108,6 @@ put-data-spec =
     returns-4
     returns-5
     returns-6
-    returns-7)
+    returns-7
+    same-length-3
+    returns-8)

@@ -76,6 +76,16 @@ put-bytes-requires-7 : tie.Need-put-bytes-requires-7
 unfolding bytes wordOf resultFor wordFor
 put-bytes-requires-7 c κs = rw (c .before .before .enum-told7 .given .1) at (c .before .before .before .before .before .pre)
 
+enum-told-8 : tie.Need-enum-told-8
+enum-told-8 c = search needs
+
+slice-aggregate-put-bytes-8 : tie.Need-slice-aggregate-put-bytes-8
+slice-aggregate-put-bytes-8 c = search needs
+
+put-bytes-requires-8 : tie.Need-put-bytes-requires-8
+unfolding bytes wordOf resultFor wordFor
+put-bytes-requires-8 c κs = rw (c .before .before .enum-told8 .given .1) at (c .before .before .before .before .before .pre)
+
 same-length : tie.Need-same-length
 same-length c = search needs
 
@@ -125,6 +135,13 @@ returns-7 : tie.Need-returns-7
 unfolding bytes wordOf resultFor wordFor
 returns-7 c = rw (c .before .before .before .before .before .enum-told7 .given .1) (c .before .before .put-bytes7 .ensures)
 
+same-length-8 : tie.Need-same-length-8
+same-length-8 c = search needs
+
+returns-8 : tie.Need-returns-8
+unfolding bytes wordOf resultFor wordFor
+returns-8 c = rw (c .before .before .before .before .before .enum-told8 .given .1) (c .before .before .put-bytes8 .ensures)
+
 pub put-word-spec : {M : Type 1} → statement M
 put-word-spec =
     tie.close
@@ -150,6 +167,9 @@ put-word-spec =
     enum-told-7
     slice-aggregate-put-bytes-7
     put-bytes-requires-7
+    enum-told-8
+    slice-aggregate-put-bytes-8
+    put-bytes-requires-8
     same-length
     returns
     same-length-2
@@ -163,4 +183,6 @@ put-word-spec =
     same-length-6
     returns-6
     same-length-7
-    returns-7)
+    returns-7
+    same-length-8
+    returns-8)

@@ -5,7 +5,7 @@ use lib.Seq.{length-take-le}
 use Rattle.entries.specs.Decoded.{keyBytes}
 use Rattle.entries.proofs.Views.{key-whole, key-within}
 use Rattle.model.specs.Text.{bytes}
-use Rattle.model.specs.Print.{hexadecimal}
+use Rattle.model.specs.Print.{hexPairs}
 use Rattle.print.proofs.Printing.{fits-second, both}
 use native.Mathlib.Omega.{arith}
 use lib.ListN.{length-append}
@@ -20,24 +20,24 @@ slice-aggregate-put-bytes c = search needs
 
 put-bytes-requires : tie.Need-put-bytes-requires
 unfolding bytes
-put-bytes-requires c κs = omega (arith, c .before .before .before .before .before .pre, length-append (bytes " ") (hexadecimal (keyBytes (c .before .before .before .before .before .args .k))))
+put-bytes-requires c κs = omega (arith, c .before .before .before .before .before .pre, length-append (bytes " ") (hexPairs (keyBytes (c .before .before .before .before .before .args .k))))
 
 array-share-prefix-b : tie.Need-array-share-prefix-b
 array-share-prefix-b c = key-within (c .before .before .before .before .before .before .before .before .before .args .k) (c .before .before .before .before .before .before .before .key-length .ensures)
 
-slice-aggregate-put-hexadecimal : tie.Need-slice-aggregate-put-hexadecimal
-slice-aggregate-put-hexadecimal c = sym (length-take-le _ _ (key-within (c .before .before .before .before .before .before .before .before .before .before .args .k) (c .before .before .before .before .before .before .before .before .key-length .ensures)))
+slice-aggregate-put-pairs : tie.Need-slice-aggregate-put-pairs
+slice-aggregate-put-pairs c = sym (length-take-le _ _ (key-within (c .before .before .before .before .before .before .before .before .before .before .args .k) (c .before .before .before .before .before .before .before .before .key-length .ensures)))
 
-put-hexadecimal-requires : tie.Need-put-hexadecimal-requires
+put-pairs-requires : tie.Need-put-pairs-requires
 unfolding bytes
-put-hexadecimal-requires c κs = rw (key-whole (c .before .before .before .before .before .before .before .before .before .before .args .k) (c .before .before .before .before .before .before .before .before .key-length .ensures)) (fits-second (bytes " ") (hexadecimal (keyBytes (c .before .before .before .before .before .before .before .before .before .before .args .k))) (c .before .before .before .before .before .before .before .before .before .before .pre) (c .before .before .before .before .put-bytes .ensures))
+put-pairs-requires c κs = rw (key-whole (c .before .before .before .before .before .before .before .before .before .before .args .k) (c .before .before .before .before .before .before .before .before .key-length .ensures)) (fits-second (bytes " ") (hexPairs (keyBytes (c .before .before .before .before .before .before .before .before .before .before .args .k))) (c .before .before .before .before .before .before .before .before .before .before .pre) (c .before .before .before .before .put-bytes .ensures))
 
 same-length : tie.Need-same-length
 same-length c = search needs
 
 returns : tie.Need-returns
 unfolding bytes
-returns c = both (bytes " ") (hexadecimal (keyBytes (c .before .before .before .before .before .before .before .before .before .before .before .before .before .args .k))) (c .before .before .before .before .before .before .before .before .before .before .before .before .before .pre) (c .before .before .before .before .before .before .before .put-bytes .ensures) (rw (key-whole (c .before .before .before .before .before .before .before .before .before .before .before .before .before .args .k) (c .before .before .before .before .before .before .before .before .before .before .before .key-length .ensures)) at (c .before .before .put-hexadecimal .ensures))
+returns c = both (bytes " ") (hexPairs (keyBytes (c .before .before .before .before .before .before .before .before .before .before .before .before .before .args .k))) (c .before .before .before .before .before .before .before .before .before .before .before .before .before .pre) (c .before .before .before .before .before .before .before .put-bytes .ensures) (rw (key-whole (c .before .before .before .before .before .before .before .before .before .before .before .before .before .args .k) (c .before .before .before .before .before .before .before .before .before .before .before .key-length .ensures)) at (c .before .before .put-pairs .ensures))
 
 pub put-key-spec : {M : Type 1} → statement M
 put-key-spec =
@@ -47,7 +47,7 @@ put-key-spec =
     slice-aggregate-put-bytes
     put-bytes-requires
     array-share-prefix-b
-    slice-aggregate-put-hexadecimal
-    put-hexadecimal-requires
+    slice-aggregate-put-pairs
+    put-pairs-requires
     same-length
     returns)

@@ -1,11 +1,12 @@
 -- `hexadecimals::put_value` meets its contract.
 use borrow.Author.Needs.{needs}
 use mathlib.Core.Path.{sym}
+use mathlib.Core.Option.{some}
 use lib.Seq.{length-take-le}
 use Rattle.entries.specs.Decoded.{valueBytes}
 use Rattle.entries.proofs.Views.{value-whole, value-within}
 use Rattle.model.specs.Text.{bytes}
-use Rattle.model.specs.Print.{hexadecimal}
+use Rattle.model.specs.Print.{valueText}
 use Rattle.print.proofs.Printing.{fits-second, both}
 use native.Mathlib.Omega.{arith}
 use lib.ListN.{length-append}
@@ -20,24 +21,24 @@ slice-aggregate-put-bytes c = search needs
 
 put-bytes-requires : tie.Need-put-bytes-requires
 unfolding bytes
-put-bytes-requires c κs = omega (arith, c .before .before .before .before .before .pre, length-append (bytes " ") (hexadecimal (valueBytes (c .before .before .before .before .before .args .v))))
+put-bytes-requires c κs = omega (arith, c .before .before .before .before .before .pre, length-append (bytes " ") (valueText (some (valueBytes (c .before .before .before .before .before .args .v)))))
 
 array-share-prefix-b : tie.Need-array-share-prefix-b
 array-share-prefix-b c = value-within (c .before .before .before .before .before .before .before .before .before .args .v) (c .before .before .before .before .before .before .before .value-length .ensures)
 
-slice-aggregate-put-hexadecimal : tie.Need-slice-aggregate-put-hexadecimal
-slice-aggregate-put-hexadecimal c = sym (length-take-le _ _ (value-within (c .before .before .before .before .before .before .before .before .before .before .args .v) (c .before .before .before .before .before .before .before .before .value-length .ensures)))
+slice-aggregate-put-there : tie.Need-slice-aggregate-put-there
+slice-aggregate-put-there c = sym (length-take-le _ _ (value-within (c .before .before .before .before .before .before .before .before .before .before .args .v) (c .before .before .before .before .before .before .before .before .value-length .ensures)))
 
-put-hexadecimal-requires : tie.Need-put-hexadecimal-requires
+put-there-requires : tie.Need-put-there-requires
 unfolding bytes
-put-hexadecimal-requires c κs = rw (value-whole (c .before .before .before .before .before .before .before .before .before .before .args .v) (c .before .before .before .before .before .before .before .before .value-length .ensures)) (fits-second (bytes " ") (hexadecimal (valueBytes (c .before .before .before .before .before .before .before .before .before .before .args .v))) (c .before .before .before .before .before .before .before .before .before .before .pre) (c .before .before .before .before .put-bytes .ensures))
+put-there-requires c κs = rw (value-whole (c .before .before .before .before .before .before .before .before .before .before .args .v) (c .before .before .before .before .before .before .before .before .value-length .ensures)) (fits-second (bytes " ") (valueText (some (valueBytes (c .before .before .before .before .before .before .before .before .before .before .args .v)))) (c .before .before .before .before .before .before .before .before .before .before .pre) (c .before .before .before .before .put-bytes .ensures))
 
 same-length : tie.Need-same-length
 same-length c = search needs
 
 returns : tie.Need-returns
 unfolding bytes
-returns c = both (bytes " ") (hexadecimal (valueBytes (c .before .before .before .before .before .before .before .before .before .before .before .before .before .args .v))) (c .before .before .before .before .before .before .before .before .before .before .before .before .before .pre) (c .before .before .before .before .before .before .before .put-bytes .ensures) (rw (value-whole (c .before .before .before .before .before .before .before .before .before .before .before .before .before .args .v) (c .before .before .before .before .before .before .before .before .before .before .before .value-length .ensures)) at (c .before .before .put-hexadecimal .ensures))
+returns c = both (bytes " ") (valueText (some (valueBytes (c .before .before .before .before .before .before .before .before .before .before .before .before .before .args .v)))) (c .before .before .before .before .before .before .before .before .before .before .before .before .before .pre) (c .before .before .before .before .before .before .before .put-bytes .ensures) (rw (value-whole (c .before .before .before .before .before .before .before .before .before .before .before .before .before .args .v) (c .before .before .before .before .before .before .before .before .before .before .before .value-length .ensures)) at (c .before .before .put-there .ensures))
 
 pub put-value-spec : {M : Type 1} → statement M
 put-value-spec =
@@ -47,7 +48,7 @@ put-value-spec =
     slice-aggregate-put-bytes
     put-bytes-requires
     array-share-prefix-b
-    slice-aggregate-put-hexadecimal
-    put-hexadecimal-requires
+    slice-aggregate-put-there
+    put-there-requires
     same-length
     returns)

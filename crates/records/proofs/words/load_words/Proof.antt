@@ -19,30 +19,30 @@ cast-key-from c = search needs
 key-from-requires : tie.Need-key-from-requires
 key-from-requires c κs = search needs
 
-add-value-from : tie.Need-add-value-from
-add-value-from c = search needs
+add-item-from : tie.Need-add-item-from
+add-item-from c = search needs
 
-cast-value-from : tie.Need-cast-value-from
-cast-value-from c = search needs
+cast-item-from : tie.Need-cast-item-from
+cast-item-from c = search needs
 
-value-from-requires : tie.Need-value-from-requires
-value-from-requires c κs = search needs
+item-from-requires : tie.Need-item-from-requires
+item-from-requires c κs = search needs
 
-add-value-from-2 : tie.Need-add-value-from-2
-add-value-from-2 c = search needs
+add-item-from-2 : tie.Need-add-item-from-2
+add-item-from-2 c = search needs
 
-cast-value-from-2 : tie.Need-cast-value-from-2
-cast-value-from-2 c = search needs
+cast-item-from-2 : tie.Need-cast-item-from-2
+cast-item-from-2 c = search needs
 
-value-from-requires-2 : tie.Need-value-from-requires-2
-value-from-requires-2 c κs = search needs
+item-from-requires-2 : tie.Need-item-from-requires-2
+item-from-requires-2 c κs = search needs
 
 returns : tie.Need-returns
 unfolding wordsAt numbersAt
 returns c =
     rw (
-      c .value-from2 .ensures,
-      c .before .before .value-from .ensures,
+      c .item-from2 .ensures,
+      c .before .before .item-from .ensures,
       c .before .before .before .before .key-from .ensures,
       c .before .before .before .before .before .before .numbers-fields .ensures,
     )
@@ -56,10 +56,10 @@ load-words-spec =
     add-key-from
     cast-key-from
     key-from-requires
-    add-value-from
-    cast-value-from
-    value-from-requires
-    add-value-from-2
-    cast-value-from-2
-    value-from-requires-2
+    add-item-from
+    cast-item-from
+    item-from-requires
+    add-item-from-2
+    cast-item-from-2
+    item-from-requires-2
     returns)

@@ -1,0 +1,28 @@
+-- `put_found` meets its contract: the value, where there is room for it.
+use borrow.Author.Needs.{needs}
+use Rattle.bucket_c.proofs.Exporting.{value-short, value-done}
+use Rattle.bucket_c.proofs.put_found.Statement.{statement}
+use Rattle.bucket_c.proofs.put_found.Tie as tie
+
+value-length-requires : tie.Need-value-length-requires
+value-length-requires c κs = search needs
+
+returns : tie.Need-returns
+returns c = value-short _ _ _ (c .before .value-length .ensures .is) (c .if1 .taken)
+
+put-value-requires : tie.Need-put-value-requires
+put-value-requires c κs = search needs
+
+cast-result : tie.Need-cast-result
+cast-result c = search needs
+
+same-length : tie.Need-same-length
+same-length c = search needs
+
+returns-2 : tie.Need-returns-2
+returns-2 c = value-done _ _ _ _ (c .before .before .before .before .before .value-length .ensures .is) (c .before .before .before .before .if1 .left) (c .before .before .put-value .ensures)
+
+pub put-found-spec : {M : Type 1} → statement M
+put-found-spec =
+    tie.close
+    (tie.spec value-length-requires returns put-value-requires cast-result same-length returns-2)
