@@ -65,6 +65,9 @@ pub fn answer(answers: &mut [u32; 32], slots: &[u32; 1792], s: usize, most: usiz
 {
     let a = v.answer;
     if v.ceases {
+        if v.untold {
+            return 0;
+        }
         return end_calls(answers, slots, s, most);
     }
     if a.result == 0 {

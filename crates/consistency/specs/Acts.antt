@@ -9,7 +9,7 @@ use Rattle.model.specs.Leader.{Reaction}
 use Rattle.history.specs.Members.{_∈_}
 use Rattle.consistency.specs.Log.{Vote, Win, Write, Accept, Report, Opened, Check, Begun, Ended, Log}
 use Rattle.consistency.specs.Claims.{MessageOk}
-use Rattle.consistency.specs.Invariant.{LogOk, ServerOk}
+use Rattle.consistency.specs.Invariant.{LogOk, ServerOk, HeldOk, held}
 use Rattle.consistency.specs.Growth.{Adds}
 
 -- ---- a log with one entry more
@@ -55,3 +55,17 @@ pub record Kept (n buckets now taken p : ℕ) (log : Log) (r : Reaction) : Type 
   pub sends : (m : Message) → m ∈ r .sends → MessageOk buckets next m
   pub begins : next .begins ≡ log .begins
   pub ends : (x : Ended) → (x ∈ next .ends → x ∈ (endsOf now (r .answers) ++ log .ends)) × (x ∈ (endsOf now (r .answers) ++ log .ends) → x ∈ next .ends)
+
+-- the same of a line that may stop server p, or bring it back
+pub record Held (n buckets now taken p : ℕ) (log : Log) (r : Reaction) : Type 0 where
+  pub next : Log
+  pub adds : Adds p log next
+  pub facts : LogOk n now taken next
+  pub server : HeldOk n buckets next p (r .server)
+  pub sends : (m : Message) → m ∈ r .sends → MessageOk buckets next m
+  pub begins : next .begins ≡ log .begins
+  pub ends : (x : Ended) → (x ∈ next .ends → x ∈ (endsOf now (r .answers) ++ log .ends)) × (x ∈ (endsOf now (r .answers) ++ log .ends) → x ∈ next .ends)
+
+pub kept-held : {n buckets now taken p : ℕ} {log : Log} {r : Reaction} → Kept n buckets now taken p log r → Held n buckets now taken p log r
+kept-held k =
+    record { next = k .next; adds = k .adds; facts = k .facts; server = held (k .server); sends = k .sends; begins = k .begins; ends = k .ends }

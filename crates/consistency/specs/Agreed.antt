@@ -1,6 +1,7 @@
 -- What the log says of the servers of the states that a script reaches.
 use mathlib.Core.Path.{_≡_, refl, ap, subst}
 use mathlib.Core.List.{List}
+use mathlib.Core.Bool.{false}
 use mathlib.Core.Option.{Option, none, some}
 use Prim.Native.Nat.{ℕ, _≤_, _<_}
 use native.Mathlib.Omega.{arith}
@@ -23,17 +24,17 @@ no-leader e f = let z : _≡_ {A = ℕ} 0 1 = cc in absurd (omega arith)
 beyond : (c : Cluster) (p : ℕ) → length (c .servers) ≤ p → serverAt c p ≡ freshServer 0 0
 beyond c p h = List·getD-eq-default (c .servers) (freshServer 0 0) h
 
--- a leader won its election, and its vote is its number
+-- a leader won its election, and while it runs its vote is its number
 pub leader-facts : (now count b : ℕ) (o : Option Cluster) (log : Log) → RunOk now o count b log → (p : ℕ) → serverOf o p .volatile .role ≡ leading
-    → Won log (serverOf o p .stored .number) p × (serverOf o p .stored .vote ≡ serverOf o p .stored .number)
+    → Won log (serverOf o p .stored .number) p × (serverOf o p .stopped ≡ false → serverOf o p .stored .vote ≡ serverOf o p .stored .number)
 unfolding freshServer
 leader-facts now count b none log h p e = no-leader refl e
 leader-facts now count b (some c) log h p e = go (decLt p (length (c .servers)))
   where
-    go : Dec (p < length (c .servers)) → Won log (serverAt c p .stored .number) p × (serverAt c p .stored .vote ≡ serverAt c p .stored .number)
+    go : Dec (p < length (c .servers)) → Won log (serverAt c p .stored .number) p × (serverAt c p .stopped ≡ false → serverAt c p .stored .vote ≡ serverAt c p .stored .number)
     go (yes l) =
-        let r = subst (λ r. RoleOk (length (c .servers)) log p (serverAt c p .stored) (serverAt c p .volatile) r) e (h .0 .servers p l .role) in
-        (r .0, r .1)
+        let s = h .0 .servers p l in
+        (s .won e, λ f. subst (λ r. RoleOk (length (c .servers)) log p (serverAt c p .stored) (serverAt c p .volatile) r) e (s .role f) .1)
     go (no l) = no-leader (ap (λ s. s .volatile .role) (beyond c p (omega arith))) e
 
 -- a number is never above its server's vote

@@ -13,7 +13,7 @@ use Rattle.model.specs.Calls.{notdone, unknown}
 use Rattle.model.specs.Cluster.{Stored, copyAt, Role, follower, candidate, leading, Purpose, recoveryRead, recoveryWrite, check, ownWrite, Round, Call, Volatile, roundAt, callAt, Copy, Version, Server}
 use Rattle.model.specs.Leader.{noReaction, ended, endings, ceased, cease, stepDown}
 use Rattle.history.specs.Members.{_∈_, none-in}
-use Rattle.consistency.specs.Log.{Opened, Ended, Log, Grows, _⊆_}
+use Rattle.consistency.specs.Log.{Ended, Log, Grows, _⊆_}
 use Rattle.consistency.specs.Invariant.{Unwritten, LogOk, EndOk, undone, unsure, StoredOk, CallOk, PhaseOk, BucketOk, Idle, RoleOk, Shape, ServerOk}
 use Rattle.consistency.specs.Growth.{won-grows, holds-grows, Adds}
 use Rattle.consistency.specs.Acts.{endsOf, Kept}
@@ -31,7 +31,6 @@ pub record OpenOk (log : Log) (p b : ℕ) (c : Call) : Type 0 where
 pub record Unsettled (n buckets : ℕ) (log : Log) (p : ℕ) (s : Server) : Type 0 where
   pub shape : Shape n buckets s
   pub stored : StoredOk log p (s .stored)
-  pub numbered : (o : Opened) → o ∈ log .rounds → o .leader ≡ p → o .election ≡ s .stored .number → o .number ≤ s .volatile .lastRound
   pub calls : (b : ℕ) (c : Call) → callAt (s .volatile) b ≡ some c → OpenOk log p b c
   pub role : s .stored .vote ≤ s .stored .number → RoleOk n log p (s .stored) (s .volatile) (s .volatile .role)
 
@@ -60,7 +59,6 @@ as-unsettled {n} {log = log} {p} {s} h =
     record {
       shape = h .shape;
       stored = h .stored;
-      numbered = h .numbered;
       calls = role-open n log p (s .stored) (s .volatile) (s .volatile .role) (h .role);
       role = λ l. h .role;
     }
@@ -179,7 +177,6 @@ module _ (n buckets now taken p : ℕ) (log : Log) (ok : LogOk n now taken log) 
             calls = simp length-map (agrees .shape .calls);
           };
           stored = stored-grows (ends-added .grows) (λ x m. m) (λ x m. m) (λ x m. m) (λ x m. m) (agrees .stored);
-          numbered = agrees .numbered;
           role = ceased-idle (s .volatile);
         };
         sends = λ m k. none-in k;
@@ -195,5 +192,5 @@ module _ (n buckets now taken p : ℕ) (log : Log) (ok : LogOk n now taken log) 
       go : (t : Bool) → ltb (s .stored .number) (s .stored .vote) ≡ t → Kept n buckets now taken p log (elim t [ true ↦ cease s | false ↦ noReaction s ])
       go true e = cease-kept
       go false e =
-          unmoved ok (record { shape = agrees .shape; stored = agrees .stored; numbered = agrees .numbered; role = agrees .role (ltb-false _ _ e) })
+          unmoved ok (record { shape = agrees .shape; stored = agrees .stored; role = agrees .role (ltb-false _ _ e) })
           [] (λ m k. none-in k)

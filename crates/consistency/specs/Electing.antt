@@ -17,10 +17,10 @@ use Rattle.model.specs.Leader.{noReaction, withStored, withVolatile, broadcast,
 use Rattle.model.proofs.Elections.{above-the-number, above-the-vote, stood, always-stands}
 use Rattle.history.specs.Members.{_∈_, first-in, none-in, each-cons}
 use Rattle.history.specs.Quorum.{count, marked, quorum-of, quorum-marked}
-use Rattle.consistency.specs.Log.{Win, Write, Opened, Log}
+use Rattle.consistency.specs.Log.{Win, Write, Log}
 use Rattle.consistency.specs.Claims.{Won, Holds, later, Chosen, BodyOk, MessageOk}
 use Rattle.consistency.specs.Claims
-use Rattle.consistency.specs.Invariant.{LogOk, StoredOk, BucketOk, Idle, RoleOk, Shape, ServerOk}
+use Rattle.consistency.specs.Invariant.{LogOk, StoredOk, BucketOk, Idle, Numbered, RoleOk, Shape, ServerOk}
 use Rattle.consistency.specs.Growth.{won-grows, holds-grows, one-winner}
 use Rattle.consistency.specs.Broadcast.{each-of-broadcast}
 use Rattle.consistency.specs.Acts.{addVote, addWin, Kept}
@@ -52,7 +52,6 @@ vote-noted (y ∷ l) (suc q) x (suc k) e = elim (vote-noted l q x k e) [ inl h �
 pub record MayStand (n buckets : ℕ) (log : Log) (p : ℕ) (s : Server) (votes : List Bool) : Type 0 where
   pub shape : Shape n buckets s
   pub stored : StoredOk log p (s .stored)
-  pub numbered : (o : Opened) → o ∈ log .rounds → o .leader ≡ p → o .election ≡ s .stored .number → o .number ≤ s .volatile .lastRound
   pub idle : Idle (s .volatile)
   pub vote : s .stored .vote ≡ s .stored .number
   pub positive : 1 ≤ s .stored .number
@@ -102,6 +101,10 @@ module _ (n buckets now taken p : ℕ) (log : Log) (ok : LogOk n now taken log) 
       → BucketOk n (addWin theWin log) p (s .stored .number) b copy r c
   idle-bucket b r c copy e f k = rw (e, f) k
 
+  -- nor opened a round under it
+  no-round : Numbered (addWin theWin log) p (s .stored) (s .volatile)
+  no-round o m i f = let w = ok .rounds .won o m in absurd (h .unwon (w .win) (w .had) (w .election ∙ f) (w .leader ∙ i))
+
   leads : majority n ≤ votesFor votes → RoleOk n (addWin theWin log) p (s .stored) (s .volatile) leading
   leads most = (
     won-now,
@@ -112,6 +115,7 @@ module _ (n buckets now taken p : ℕ) (log : Log) (ok : LogOk n now taken log) 
       unrecovered = λ i w m j e. unwritten-yet most w m e;
     },
     λ b. idle-bucket b _ _ (copyAt (s .stored) b) (h .idle b .0) (h .idle b .1) (copy-chosen most b _ _ (h .stored .copies b .0)),
+    no-round,
   )
 
   -- leader with a majority of votes, candidate with fewer
@@ -130,14 +134,12 @@ module _ (n buckets now taken p : ℕ) (log : Log) (ok : LogOk n now taken log) 
           grown-before (adds-win log theWin) refl refl (unmoved (win-fact (leb-true _ _ e)) (record {
             shape = record { copies = h .shape .copies; votes = h .each; rounds = h .shape .rounds; calls = h .shape .calls };
             stored = win-stored;
-            numbered = h .numbered;
             role = leads (leb-true _ _ e);
           }) [] (λ m k. none-in k))
       go false e =
           unmoved ok (record {
             shape = record { copies = h .shape .copies; votes = h .each; rounds = h .shape .rounds; calls = h .shape .calls };
             stored = h .stored;
-            numbered = h .numbered;
             role = (h .idle, h .vote, h .positive, h .unwon, h .had);
           }) [] (λ m k. none-in k)
 
@@ -154,7 +156,6 @@ module _ (n buckets now taken p : ℕ) (log : Log) (ok : LogOk n now taken log) 
       record {
         shape = agrees .shape;
         stored = agrees .stored;
-        numbered = agrees .numbered;
         idle = c .0;
         vote = c .1;
         positive = c .2;
@@ -203,12 +204,9 @@ module _ (n buckets now taken p : ℕ) (log : Log) (ok : LogOk n now taken log) 
 module _ (n buckets now taken p : ℕ) (log : Log) (ok : LogOk n now taken log) (s : Server) (agrees : ServerOk n buckets log p s)
     (idle : Idle (s .volatile)) (unset : (q : ℕ) → getD (s .volatile .votes) q false ≡ true → ⊥)
     (e : ℕ) (over : s .stored .number < e) (fresh : s .stored .vote < e) where
-  -- the server has won nothing above its number, and so opened no round above it
+  -- the server has won nothing above its number
   not-above : (x : Win) → x ∈ log .wins → x .election ≡ e → x .leader ≡ p → ⊥
   not-above x m i f = omega (arith, agrees .stored .wins x m f)
-
-  no-round : (o : Opened) → o ∈ log .rounds → o .leader ≡ p → o .election ≡ e → o .number ≤ s .volatile .lastRound
-  no-round o m i f = let w = ok .rounds .won o m in absurd (not-above (w .win) (w .had) (w .election ∙ f) (w .leader ∙ i))
 
   abbrev votedLog : Log
   votedLog = addVote (freshVote p e p) log
@@ -221,7 +219,6 @@ module _ (n buckets now taken p : ℕ) (log : Log) (ok : LogOk n now taken log) 
       record {
         shape = record { copies = agrees .shape .copies; votes = agrees .shape .votes; rounds = agrees .shape .rounds; calls = agrees .shape .calls };
         stored = vote-stored p e p log (agrees .stored) e (omega arith) (omega arith) fresh;
-        numbered = no-round;
         idle = idle;
         vote = refl;
         positive = omega arith;

@@ -1,5 +1,5 @@
--- The definitions set the mark of a round's own leader without asking it. That is what asking would give: a leader's vote is its
--- number, so it accepts its own request.
+-- The definitions set the mark of a round's own leader without asking it. That is what asking would give: the vote of a leader that
+-- runs is its number, so it accepts its own request. (A leader that was cut may have voted above it.)
 use mathlib.Core.Path.{_≡_, sym, _∙_, ap}
 use mathlib.Core.List.{List, [], _∷_}
 use Prim.Native.Nat.{ℕ, _+_, _≤_}
@@ -11,14 +11,15 @@ use Rattle.model.specs.Leader.{reaction, noReaction, withStored, replyTo, reply
 use Rattle.model.specs.Lines.{initialState}
 use Rattle.model.specs.Run.{stateAfter}
 use Rattle.model.proofs.Replicas.{accepting-keeps}
-use Rattle.consistency.specs.Reached.{serverIn, LeadsIn}
+use Rattle.consistency.specs.Reached.{serverIn, LeadsIn, RunsIn}
 use Rattle.consistency.specs.Agreed.{leader-facts, reached}
 use Rattle.consistency.specs.Runs.{script-leaves}
 
-pub leader-votes-for-its-number : (ls : List (List ℕ)) (p e : ℕ) → LeadsIn (stateAfter initialState ls) p e → serverIn (stateAfter initialState ls) p .stored .vote ≡ e
-leader-votes-for-its-number ls p e (r, i) =
+pub leader-votes-for-its-number : (ls : List (List ℕ)) (p e : ℕ) → LeadsIn (stateAfter initialState ls) p e → RunsIn (stateAfter initialState ls) p
+    → serverIn (stateAfter initialState ls) p .stored .vote ≡ e
+leader-votes-for-its-number ls p e (r, i) f =
     let h = script-leaves ls in
-    leader-facts (h .now) (h .count) (h .buckets) (reached ls .cluster) (h .log) (h .agrees) p r .1 ∙ i
+    leader-facts (h .now) (h .count) (h .buckets) (reached ls .cluster) (h .log) (h .agrees) p r .1 f ∙ i
 
 -- the message that a round would send to its own leader
 abbrev pub toItself : ℕ → ℕ → Request → Server → Message
@@ -51,13 +52,13 @@ unfolding handle opening requestBody
 accepts-own-request n p b purpose reading s v = requested p b reading s v
 accepts-own-request n p b purpose (writing x t) s v = requested p b (writing x t) s v
 
--- every leader that a script reaches is such a server
-pub leader-accepts-its-own-requests : (ls : List (List ℕ)) (n p e b : ℕ) (purpose : Purpose) (request : Request) → LeadsIn (stateAfter initialState ls) p e
+-- every running leader that a script reaches is such a server
+pub leader-accepts-its-own-requests : (ls : List (List ℕ)) (n p e b : ℕ) (purpose : Purpose) (request : Request) → LeadsIn (stateAfter initialState ls) p e → RunsIn (stateAfter initialState ls) p
     → let s = serverIn (stateAfter initialState ls) p in
     let st = opening n p b purpose request s .stored in
     let m = toItself p b request s in
     handle n p m s ≡ reaction (withStored s st) (replyTo p m (acknowledging b request st) ∷ []) []
-leader-accepts-its-own-requests ls n p e b purpose request l = accepts-own-request n p b purpose request (serverIn (reached ls) p) (leader-votes-for-its-number ls p e l ∙ sym (l .1))
+leader-accepts-its-own-requests ls n p e b purpose request l f = accepts-own-request n p b purpose request (serverIn (reached ls) p) (leader-votes-for-its-number ls p e l f ∙ sym (l .1))
 
 -- and its vote is still its number afterwards, where a line opens more than one round
 pub opening-keeps-vote : (n p b : ℕ) (purpose : Purpose) (request : Request) (s : Server) → opening n p b purpose request s .stored .vote ≡ opening n p b purpose request s .stored .number

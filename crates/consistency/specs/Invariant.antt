@@ -6,6 +6,7 @@ use mathlib.Core.List.{List}
 use mathlib.Core.Bool.{true, false}
 use mathlib.Core.Option.{Option, none, some}
 use Prim.Native.Nat.{ℕ, suc, _≤_, _<_}
+use native.Mathlib.Omega.{arith}
 use lib.ListN.{length, getD}
 use Rattle.entries.specs.Entries.{Entry}
 use Rattle.model.specs.Measures.{majority}
@@ -200,6 +201,12 @@ pub record CopyNewest (log : Log) (e b : ℕ) (copy : Copy) : Type 0 where
 abbrev pub Idle : Volatile → Type 0
 Idle w = (b : ℕ) → (roundAt w b ≡ none) × (callAt w b ≡ none)
 
+-- server p's rounds under its number are numbered up to its last one
+abbrev pub Numbered : Log → ℕ → Stored → Volatile → Type 0
+Numbered log p st w = (o : Opened) → o ∈ log .rounds → o .leader ≡ p → o .election ≡ st .number → o .number ≤ w .lastRound
+
+-- a server that comes back numbers its rounds from 1 again, under the number that it had: it leads under a higher one only, so that is
+-- asked of leaders alone
 abbrev pub RoleOk : ℕ → Log → ℕ → Stored → Volatile → Role → Type 0
 RoleOk n log p st w follower = Idle w
 RoleOk n log p st w candidate =
@@ -214,6 +221,7 @@ RoleOk n log p st w leading =
     × (1 ≤ st .number)
     × ((b : ℕ) → CopyNewest log (st .number) b (copyAt st b))
     × ((b : ℕ) → BucketOk n log p (st .number) b (copyAt st b) (roundAt w b) (callAt w b))
+    × Numbered log p st w
 
 pub record Shape (n buckets : ℕ) (s : Server) : Type 0 where
   pub copies : length (s .stored .copies) ≡ buckets
@@ -221,9 +229,28 @@ pub record Shape (n buckets : ℕ) (s : Server) : Type 0 where
   pub rounds : length (s .volatile .rounds) ≡ buckets
   pub calls : length (s .volatile .calls) ≡ buckets
 
+-- a server that runs
 pub record ServerOk (n buckets : ℕ) (log : Log) (p : ℕ) (s : Server) : Type 0 where
   pub shape : Shape n buckets s
   pub stored : StoredOk log p (s .stored)
-  -- the server's rounds are numbered up to its last one
-  pub numbered : (o : Opened) → o ∈ log .rounds → o .leader ≡ p → o .election ≡ s .stored .number → o .number ≤ s .volatile .lastRound
   pub role : RoleOk n log p (s .stored) (s .volatile) (s .volatile .role)
+
+-- any server: what a stopped one keeps beside what it stores is not used, but for its having won what it leads under. A leader that was
+-- cut may have voted above its number
+pub record HeldOk (n buckets : ℕ) (log : Log) (p : ℕ) (s : Server) : Type 0 where
+  pub shape : Shape n buckets s
+  pub stored : StoredOk log p (s .stored)
+  pub won : s .volatile .role ≡ leading → Won log (s .stored .number) p
+  pub role : s .stopped ≡ false → RoleOk n log p (s .stored) (s .volatile) (s .volatile .role)
+
+pub running : {n buckets : ℕ} {log : Log} {p : ℕ} {s : Server} → HeldOk n buckets log p s → s .stopped ≡ false → ServerOk n buckets log p s
+running h e = record { shape = h .shape; stored = h .stored; role = h .role e }
+
+role-won : (n : ℕ) (log : Log) (p : ℕ) (st : Stored) (w : Volatile) (r : Role) → RoleOk n log p st w r → r ≡ leading → Won log (st .number) p
+role-won n log p st w follower h e = let z : _≡_ {A = ℕ} 0 1 = cc in absurd (omega arith)
+role-won n log p st w candidate h e = let z : _≡_ {A = ℕ} 0 1 = cc in absurd (omega arith)
+role-won n log p st w leading h e = h .0
+
+pub held : {n buckets : ℕ} {log : Log} {p : ℕ} {s : Server} → ServerOk n buckets log p s → HeldOk n buckets log p s
+held {n} {log = log} {p} {s} h =
+    record { shape = h .shape; stored = h .stored; won = role-won n log p (s .stored) (s .volatile) (s .volatile .role) (h .role); role = λ e. h .role }

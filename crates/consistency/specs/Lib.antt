@@ -34,6 +34,7 @@ pub mod Replies
 pub mod Beginning
 pub mod Handling
 pub mod Good
+pub mod Cutting
 pub mod Steps
 pub mod Runs
 pub mod OneBucket

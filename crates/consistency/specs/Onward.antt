@@ -9,16 +9,20 @@ use mathlib.Core.Option.{Option, none, some}
 use Prim.Native.Nat.{ℕ, zero, suc, _≤_}
 use native.Mathlib.Omega.{arith}
 use lib.Dec.{ltb, eqb}
-use lib.ListN.{length, getD, set}
+use lib.ListN.{length, getD, set, take}
 use Rattle.entries.specs.Entries.{Entry}
 use Rattle.model.specs.Calls.{Words, Result, done, Effect, answers, writes, effect}
-use Rattle.model.specs.Cluster.{Version, version, Copy, freshCopy, Stored, copyAt, Role, follower, candidate, leading, Purpose, recoveryRead, recoveryWrite, check, ownWrite, Mark, acknowledged, refused, Round, Volatile, roundAt, callAt, Server, Body, pleaseVote, ackVote, nackVote, replicaWrite, ackWrite, nackWrite, replicaRead, ackRead, nackRead, Message}
-use Rattle.model.specs.Replica.{afterVote, Request, reading, writing, mayAccept, storing, accepting, acknowledging, refusing}
+use Rattle.model.specs.Cluster.{Version, version, above, Copy, freshCopy, Stored, copyAt, Role, follower, candidate, leading, Purpose, recoveryRead, recoveryWrite, check, ownWrite, Mark, acknowledged, refused, Round, Volatile, roundAt, callAt, Server, Body, pleaseVote, ackVote, nackVote, replicaWrite, ackWrite, nackWrite, replicaRead, ackRead, nackRead, Message}
+use Rattle.model.specs.Lines.{cutServer, restarted}
+use Rattle.model.specs.Stores.{storesCopy, putStore, putStores, storesOf}
+use Rattle.model.specs.Replica.{voting, afterVote, Request, reading, writing, mayAccept, storing, accepting, acknowledging, refusing}
 use Rattle.model.specs.Leader.{Reaction, reaction, noReaction, after, withStored, withRound, endings, cease, stepDown, standing, elect, onAckVote, closes, fails, newRound, opening, openRound, answerOf, finish, applying, afterRead, checking, recovering, recovered, startRead, startCall, beginCall, closed, counted, counting, onReply, onPleaseVote, onRequest, handle}
 use Rattle.model.specs.Leader
 use Rattle.model.proofs.Elections.{above-the-number, always-stands}
 use Rattle.model.proofs.FirstRound.{first-round}
-use Rattle.history.specs.Version.{_≼_, le-refl, le-trans, le-of-lt}
+use Rattle.model.proofs.Stores.{cut-cases}
+use Rattle.history.specs.Version.{_≼_, _≺_, le-refl, le-trans, le-of-lt}
+use Rattle.consistency.specs.Above.{above-lt}
 use Rattle.consistency.specs.Storing.{storing-cases}
 
 -- how far a server has come under its number
@@ -59,11 +63,15 @@ set-either P (y ∷ l) (suc b) zero x d old new = old
 set-either P (y ∷ l) (suc b) (suc k) x d old new = set-either P l b k x d old (λ e. new (omega arith))
 
 -- a write replaces no copy but an older one
+-- a copy of a later version, stored
+copy-renews : (b : ℕ) (v : Version) (t : List Entry) (st : Stored) → copyAt st b .version ≺ v → Renewed st (putStore (storesCopy b v t) st)
+unfolding putStore
+copy-renews b v t st l =
+    record { number = refl; copies = λ k. set-either (λ c. copyAt st k .version ≼ c .version) (st .copies) b k _ freshCopy (le-refl _) (λ e. rw e (le-of-lt l)) }
+
 pub storing-renews : (b : ℕ) (v : Version) (t : List Entry) (st : Stored) → Renewed st (storing b v t st)
-storing-renews b v t st =
-    storing-cases b v t st (Renewed st)
-    (λ l. record { number = refl; copies = λ k. le-refl _ })
-    (λ l. record { number = refl; copies = λ k. set-either (λ c. copyAt st k .version ≼ c .version) (st .copies) b k _ freshCopy (le-refl _) (λ e. rw e (le-of-lt l)) })
+unfolding putStore
+storing-renews b v t st = storing-cases b v t st (Renewed st) (λ l. record { number = refl; copies = λ k. le-refl _ }) (copy-renews b v t st)
 
 accepting-renews : (b e p : ℕ) (request : Request) (st : Stored) → Renewed st (accepting b e p request st)
 unfolding accepting
@@ -82,6 +90,19 @@ vote-renews e p st = elim (ltb (st .vote) e) as (λ t. Renewed st (elim t [ true
 -- with the same role
 renewed : (s : Server) {st : Stored} {w : Volatile} {x : Bool} → Renewed (s .stored) st → w .role ≡ s .volatile .role → Onward s (record { stored = st; volatile = w; stopped = x })
 renewed s h e = record { number = omega (arith, h .number); role = λ i. rw e (omega arith); copies = h .copies }
+
+-- a message's stores, as many as a cut leaves
+cut-renews : (k : ℕ) (m : Message) (st : Stored) → Renewed st (putStores (take k (storesOf m st)) st)
+cut-renews k m st =
+    cut-cases m st (Renewed st) (record { number = refl; copies = λ b. le-refl _ }) (λ e h. voted) (λ e h. voted) (λ v t e h. voted)
+    (λ v t e h i. copy-renews (m .bucket) v t st (above-lt _ _ h))
+    (λ v t e h i. let r = copy-renews (m .bucket) v t (voting (m .election) (m .sender) st) (above-lt _ _ h) in record { number = r .number; copies = r .copies }) k
+  where
+    voted : Renewed st (voting (m .election) (m .sender) st)
+    voted = record { number = refl; copies = λ b. le-refl _ }
+
+pub cut-onward : (k : ℕ) (m : Message) (s : Server) → Onward s (cutServer k m s)
+cut-onward k m s = renewed s (cut-renews k m (s .stored)) refl
 
 -- ---- steps that end no leadership
 
@@ -180,6 +201,11 @@ cease-goes s =
       onward = record { number = omega arith; role = λ e. last-stage (s .volatile .role); copies = λ k. le-refl _ };
       answers = inr refl;
     }
+
+-- a server that comes back leads nothing
+pub start-onward : (s : Server) → Onward s (restarted s)
+unfolding Leader.forgotten Leader.ceased
+start-onward s = record { number = omega arith; role = λ e. last-stage (s .volatile .role); copies = λ k. le-refl _ }
 
 -- what is stored is renewed, then the server may cease
 step-down-goes : (s : Server) (st : Stored) → Renewed (s .stored) st → (ms : List Message) → Goes s (reaction (stepDown (withStored s st) .server) ms (stepDown (withStored s st) .answers))

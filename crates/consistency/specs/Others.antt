@@ -5,7 +5,7 @@ use Prim.Native.Nat.{ℕ}
 use Rattle.model.specs.Cluster.{Copy, Stored, copyAt, Role, follower, candidate, leading, Call, Volatile, roundAt, callAt, Server}
 use Rattle.consistency.specs.Log.{Log}
 use Rattle.consistency.specs.Claims.{Won}
-use Rattle.consistency.specs.Invariant.{LogOk, StoredOk, CallOk, CopyNewest, RoleOk, ServerOk}
+use Rattle.consistency.specs.Invariant.{LogOk, StoredOk, CallOk, CopyNewest, RoleOk, HeldOk}
 use Rattle.consistency.specs.Growth.{won-grows, holds-grows, TakenAt, Adds, one-winner}
 use Rattle.consistency.specs.Buckets.{Untouched, bucket-grows}
 
@@ -54,14 +54,20 @@ module _ (n : ℕ) {p q : ℕ} (apart : q ≢ p) {now taken : ℕ} {a b : Log} (
     λ x m e f. elim (add .wins x m) [ inl o ↦ h .3 x o e f | inr g ↦ apart (sym f ∙ g) ],
     λ i m. add .grows .votes _ (h .4 i m),
   )
-  role-stays st w leading h =
-      (won-grows (add .grows) (h .0), h .1, h .2, λ k. newest-stays (h .0) (h .3 k), λ k. bucket-grows (add .grows) n q (st .number) k (copyAt st k) (roundAt w k) (callAt w k) (λ x i c. untouched c) (h .4 k))
+  role-stays st w leading h = (
+    won-grows (add .grows) (h .0),
+    h .1,
+    h .2,
+    λ k. newest-stays (h .0) (h .3 k),
+    λ k. bucket-grows (add .grows) n q (st .number) k (copyAt st k) (roundAt w k) (callAt w k) (λ x i c. untouched c) (h .4 k),
+    λ o m e f. elim (add .rounds o m) [ inl k ↦ h .5 o k e f | inr g ↦ absurd (apart (sym e ∙ g)) ],
+  )
 
-  pub server-stays : {buckets : ℕ} {s : Server} → ServerOk n buckets a q s → ServerOk n buckets b q s
+  pub server-stays : {buckets : ℕ} {s : Server} → HeldOk n buckets a q s → HeldOk n buckets b q s
   server-stays {s = s} h =
       record {
         shape = h .shape;
         stored = stored-stays (h .stored);
-        numbered = λ o m e f. elim (add .rounds o m) [ inl k ↦ h .numbered o k e f | inr g ↦ absurd (apart (sym e ∙ g)) ];
-        role = role-stays (s .stored) (s .volatile) (s .volatile .role) (h .role);
+        won = λ e. won-grows (add .grows) (h .won e);
+        role = λ e. role-stays (s .stored) (s .volatile) (s .volatile .role) (h .role e);
       }

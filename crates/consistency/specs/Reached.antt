@@ -9,12 +9,12 @@ use lib.ListN.{length, getD, set, replicate}
 use Rattle.model.specs.Calls.{bucketFor}
 use Rattle.model.specs.Cluster.{Copy, freshCopy, copyAt, leading, Server, Message, Cluster, freshServer, freshCluster}
 use Rattle.model.specs.Leader.{handle}
-use Rattle.model.specs.Lines.{Line, cluster, elect, call, deliver, copy, lose, timeout, stop, State, LineResult, Work, serverAt, messageAt, dropAt, stoppedAt, lostMessage, deliveredTo, delivery, work}
+use Rattle.model.specs.Lines.{Line, cluster, elect, call, deliver, copy, lose, timeout, stop, cut, start, State, LineResult, Work, serverAt, messageAt, dropAt, stoppedAt, lostMessage, deliveredTo, delivery, work}
 use Rattle.model.specs.Parse.{parse}
 use Rattle.model.specs.Run.{step, stateAfter, stateAfterUpTo}
 use Rattle.history.specs.Version.{_≼_, le-refl}
 use Rattle.limits.specs.Refusals.{ComesOut, refused-by, founded, took, comes-out}
-use Rattle.consistency.specs.Onward.{Onward, onward-refl, onward-trans, set-either, beginCall-moves, cease-goes, elect-goes, handle-goes}
+use Rattle.consistency.specs.Onward.{Onward, onward-refl, onward-trans, set-either, cut-onward, start-onward, beginCall-moves, cease-goes, elect-goes, handle-goes}
 
 -- server p of the cluster that stands; where there is none a server that has done nothing
 abbrev pub serverOf : Option Cluster → ℕ → Server
@@ -27,6 +27,10 @@ serverIn s p = serverOf (s .cluster) p
 -- server p leads under number e, running or stopped
 abbrev pub LeadsIn : State → ℕ → ℕ → Type 0
 LeadsIn s p e = (serverIn s p .volatile .role ≡ leading) × (serverIn s p .stored .number ≡ e)
+
+-- server p runs
+abbrev pub RunsIn : State → ℕ → Type 0
+RunsIn s p = serverIn s p .stopped ≡ false
 
 -- ---- one line
 
@@ -55,6 +59,8 @@ module _ (c : Cluster) (p : ℕ) where
   work-onward (lose i) = onward-refl _
   work-onward (timeout s b) = one-moves s _ (cease-goes (serverAt c s) .onward)
   work-onward (stop s) = one-moves s _ (record { number = omega arith; role = λ e. omega arith; copies = λ k. le-refl _ })
+  work-onward (cut i k) = one-moves (messageAt c i .receiver) _ (cut-onward k (messageAt c i) (serverAt c (messageAt c i .receiver)))
+  work-onward (start s) = one-moves s _ (start-onward (serverAt c s))
 
 all-fresh : {A : Type 0} (P : A → Type 0) (a d : A) (n k : ℕ) → P a → P d → P (getD (replicate n a) k d)
 all-fresh P a d zero k x y = y

@@ -11,13 +11,13 @@ use Rattle.consistency.specs.Log.{Opened, Log, Grows, _⊆_}
 use Rattle.consistency.specs.Claims.{Won}
 use Rattle.consistency.specs.Growth.{won-grows}
 use Rattle.consistency.specs.Ceasing.{stored-grows}
-use Rattle.consistency.specs.Invariant.{StoredOk, CallOk, RoundOk, BucketOk, CopyNewest, RoleOk, Shape, ServerOk}
+use Rattle.consistency.specs.Invariant.{StoredOk, CallOk, RoundOk, BucketOk, CopyNewest, Numbered, RoleOk, Shape, ServerOk}
 
 -- a leader, whatever its rounds and calls
 pub record Leads (n buckets : ℕ) (log : Log) (p : ℕ) (s : Server) : Type 0 where
   pub shape : Shape n buckets s
   pub stored : StoredOk log p (s .stored)
-  pub numbered : (o : Opened) → o ∈ log .rounds → o .leader ≡ p → o .election ≡ s .stored .number → o .number ≤ s .volatile .lastRound
+  pub numbered : Numbered log p (s .stored) (s .volatile)
   pub role : s .volatile .role ≡ leading
   pub won : Won log (s .stored .number) p
   pub vote : s .stored .vote ≡ s .stored .number
@@ -60,8 +60,7 @@ leader-agrees {n} {buckets} {log} {p} {s} h all =
     record {
       shape = h .shape;
       stored = h .stored;
-      numbered = h .numbered;
-      role = rw (h .role) (h .won, h .vote, h .positive, h .newest, all);
+      role = rw (h .role) (h .won, h .vote, h .positive, h .newest, all, h .numbered);
     }
 
 -- what holds of b and of every other number holds of all
@@ -78,4 +77,4 @@ round-agrees {n} {buckets} {log} {p} {b} {c} {s} h r e ok =
 pub leader-of : {n buckets : ℕ} {log : Log} {p : ℕ} {s : Server} → ServerOk n buckets log p s → s .volatile .role ≡ leading → Leads n buckets log p s × ((k : ℕ) → Bucket n log p s k)
 leader-of {n} {buckets} {log} {p} {s} h e =
     let r = subst (RoleOk n log p (s .stored) (s .volatile)) e (h .role) in
-    (record { shape = h .shape; stored = h .stored; numbered = h .numbered; role = e; won = r .0; vote = r .1; positive = r .2; newest = r .3 }, r .4)
+    (record { shape = h .shape; stored = h .stored; numbered = r .5; role = e; won = r .0; vote = r .1; positive = r .2; newest = r .3 }, r .4)

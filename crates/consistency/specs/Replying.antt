@@ -46,7 +46,6 @@ module _ (n buckets p : ℕ) {a b : Log} (add : Adds p a b) (same : StoredOnly a
       record {
         shape = record { copies = l; votes = h .shape .votes; rounds = h .shape .rounds; calls = h .shape .calls };
         stored = k;
-        numbered = λ o m i j. h .numbered o (rw (same .rounds) at m) i (j ∙ e);
         calls = λ i c j. open-stays (as-unsettled h .calls i c j);
         role = λ v. role-after (s .volatile .role) (s .stored) st (s .volatile) e (omega (arith, k .number)) (f v) (h .role);
       }

@@ -9,7 +9,7 @@ use native.Mathlib.Numerals.{add-one}
 use lib.ListN.{length, getD, take, replicate, length-replicate}
 use Rattle.model.specs.Calls.{Answer}
 use Rattle.model.specs.Cluster.{freshCopy, freshServer, freshCluster, Cluster, Round, Call, Message}
-use Rattle.model.specs.Lines.{Line, cluster, elect, call, deliver, copy, lose, timeout, stop, State, initialState, Outcome, printed, LineResult, Work, serverAt, messageAt, dropAt, stoppedAt, lostMessage, deliveredTo, delivery, work, firstOf, conditions, conditionsUpTo}
+use Rattle.model.specs.Lines.{Line, cluster, elect, call, deliver, copy, lose, timeout, stop, cut, start, State, initialState, Outcome, printed, LineResult, Work, serverAt, messageAt, dropAt, stoppedAt, lostMessage, deliveredTo, delivery, work, firstOf, conditions, conditionsUpTo}
 use Rattle.model.specs.Leader.{handle}
 use Rattle.model.specs.Parse.{parse}
 use Rattle.model.specs.Run.{step, stateAfter, stateAfterUpTo, outcomes, outcomesUpTo}
@@ -21,7 +21,7 @@ use Rattle.consistency.specs.Statement.{Begin, End, buckets, meaning, be
 use Rattle.consistency.specs.Log.{Begun, Ended, Log, emptyLog, Grows, _⊆_}
 use Rattle.consistency.specs.Claims.{Holds}
 use Rattle.consistency.specs.Claims
-use Rattle.consistency.specs.Invariant.{LogOk, ServerOk}
+use Rattle.consistency.specs.Invariant.{LogOk, ServerOk, HeldOk, held}
 use Rattle.consistency.specs.Growth.{grows-refl, grows-trans}
 use Rattle.consistency.specs.Acts.{endsOf}
 use Rattle.consistency.specs.Extend.{later-line}
@@ -99,7 +99,6 @@ fresh-server-ok n b p =
             accepts = λ x m. none-in m;
             reports = λ x m. none-in m;
           };
-      numbered = λ o m. none-in m;
       role = λ k. (all-alike {A = Option Round} none b k, all-alike {A = Option Call} none b k);
     }
 
@@ -113,7 +112,7 @@ unfolding freshCluster
 fresh-good n b now =
     record {
       facts = empty-log-ok _ now;
-      servers = rw (length-replicate n (freshServer n b)) (λ p h. at-replicate (ServerOk n b emptyLog p) (freshServer n b) _ n p h (fresh-server-ok n b p));
+      servers = rw (length-replicate n (freshServer n b)) (λ p h. at-replicate (HeldOk n b emptyLog p) (freshServer n b) _ n p h (held (fresh-server-ok n b p)));
       messages = λ m i. none-in i;
     }
 
@@ -245,6 +244,8 @@ line-read now c l (copy i) ls out os e f = let k = delivery-keeps c (messageAt c
 line-read now c l (lose i) ls out os e f = rw (beginsFrom, e)
 line-read now c l (timeout s b) ls out os e f = rw (beginsFrom, e)
 line-read now c l (stop s) ls out os e f = rw (beginsFrom, e)
+line-read now c l (cut i k) ls out os e f = rw (beginsFrom, e)
+line-read now c l (start s) ls out os e f = rw (beginsFrom, e)
 
 -- ---- every list of lines
 

@@ -14,7 +14,7 @@ use lib.ListN.{length}
 use Rattle.entries.specs.Entries.{Entry, entry}
 use Rattle.model.specs.Calls.{Words, get, set, setif, del, keys, bucketFor}
 use Rattle.model.specs.Calls.{Result, value, listed, done, mismatch, full, notdone, unknown}
-use Rattle.model.specs.Lines.{Line, cluster, elect, call, deliver, copy, lose, timeout, stop}
+use Rattle.model.specs.Lines.{Line, cluster, elect, call, deliver, copy, lose, timeout, stop, cut, start}
 use Rattle.model.specs.Lines.{Outcome, refusal, printed, initialState}
 use Rattle.model.specs.Parse.{parse}
 use Rattle.model.specs.Run.{outcomes}
@@ -125,6 +125,8 @@ meaning (some (copy i)) = other
 meaning (some (lose i)) = other
 meaning (some (timeout s b)) = other
 meaning (some (stop s)) = other
+meaning (some (cut i k)) = other
+meaning (some (start s)) = other
 
 -- the accepted calls, numbered from 1 in the order of their lines: `line` is the number of the first line, `count` the
 -- calls before it, `b` the buckets of the cluster

@@ -10,18 +10,18 @@ use lib.ListN.{length, getD, take, drop}
 use Rattle.model.specs.Calls.{Words, bucketFor}
 use Rattle.model.specs.Cluster.{Role, follower, candidate, leading, Message, Cluster, Call, callAt}
 use Rattle.model.specs.Leader.{Reaction, handle}
-use Rattle.model.specs.Lines.{Line, cluster, elect, call, deliver, copy, lose, timeout, stop, Tally, conditions, conditionsUpTo, serverAt, messageAt, dropAt, stoppedAt, isLeading, present, byLine, lostMessage, deliveredTo, delivery, halted, work}
+use Rattle.model.specs.Lines.{Line, cluster, elect, call, deliver, copy, lose, timeout, stop, cut, start, Tally, conditions, conditionsUpTo, serverAt, messageAt, dropAt, stoppedAt, isLeading, present, byLine, lostMessage, deliveredTo, delivery, work}
 use Rattle.history.specs.Members.{_∈_, none-in, each-append}
 use Rattle.limits.specs.Lists.{All, nil, cons, all-at}
 use Rattle.limits.specs.Tally.{message-there}
 use Rattle.limits.specs.Always.{Stands, either-false, server-there, bucket-less}
 use Rattle.consistency.specs.Statement.{Distinct}
 use Rattle.consistency.specs.Log.{Begun, Ended, Log, Grows, _⊆_}
-use Rattle.consistency.specs.Invariant.{ServerOk}
+use Rattle.consistency.specs.Invariant.{ServerOk, running}
 use Rattle.consistency.specs.Growth.{grows-refl, adds-refl, adds-trans}
-use Rattle.consistency.specs.Acts.{endsOf, Kept}
+use Rattle.consistency.specs.Acts.{endsOf, Held, kept-held}
 use Rattle.consistency.specs.Added.{adds-begun}
-use Rattle.consistency.specs.Chaining.{unmoved}
+use Rattle.consistency.specs.Cutting.{stop-held, start-held, cut-held}
 use Rattle.consistency.specs.Ceasing.{cease-kept, as-unsettled}
 use Rattle.consistency.specs.Electing.{elect-kept}
 use Rattle.consistency.specs.Beginning.{begin-kept}
@@ -40,6 +40,8 @@ begunBy now c (copy i) = []
 begunBy now c (lose i) = []
 begunBy now c (timeout s b) = []
 begunBy now c (stop s) = []
+begunBy now c (cut i k) = []
+begunBy now c (start s) = []
 
 pub record LineGood (now : ℕ) (c : Cluster) (log : Log) (l : Line) : Type 0 where
   pub next : Log
@@ -94,49 +96,66 @@ delivery-stopped c m still copied e = rw (delivery, e)
 
 module _ {now : ℕ} {c : Cluster} {log : Log} {t : Tally} (stands : Stands c t) (good : Good now c log) where
   -- a step of server s that the line brings about
-  by-line : (s : ℕ) → s < length (c .servers) → {r : Reaction} (kept : Kept (length (c .servers)) (c .buckets) now (c .calls) s log r)
+  by-line : (s : ℕ) → s < length (c .servers) → {r : Reaction} (kept : Held (length (c .servers)) (c .buckets) now (c .calls) s log r)
       → Good now (byLine c s (c .calls) r .cluster) (kept .next)
   by-line s h kept = stepped-good good s h (adds-refl s log) kept (c .messages) (λ m i. i)
 
-  elect-good : (s : ℕ) → s < length (c .servers) → LineGood now c log (elect s)
-  unfolding work begunBy
-  elect-good s h =
-      let k = elect-kept (length (c .servers)) (c .buckets) now (c .calls) s log (good .facts) (serverAt c s) (good .servers s h) in
-      let g = elect-goes (length (c .servers)) s (serverAt c s) in
-      record { next = k .next; good = by-line s h k; grows = k .adds .grows; once = answers-once (good .facts) (good .servers s h) g; begins = k .begins; ends = k .ends }
+  -- a server that runs
+  runs : (s : ℕ) → s < length (c .servers) → stoppedAt c s ≡ false → ServerOk (length (c .servers)) (c .buckets) log s (serverAt c s)
+  runs s h e = running (good .servers s h) e
 
-  timeout-good : (s b : ℕ) → s < length (c .servers) → LineGood now c log (timeout s b)
+  elect-good : (s : ℕ) → s < length (c .servers) → stoppedAt c s ≡ false → LineGood now c log (elect s)
   unfolding work begunBy
-  timeout-good s b h =
-      let k = cease-kept (length (c .servers)) (c .buckets) now (c .calls) s log (good .facts) (serverAt c s) (as-unsettled (good .servers s h)) in
-      record { next = k .next; good = by-line s h k; grows = k .adds .grows; once = answers-once (good .facts) (good .servers s h) (cease-goes (serverAt c s)); begins = k .begins; ends = k .ends }
+  elect-good s h e =
+      let k = kept-held (elect-kept (length (c .servers)) (c .buckets) now (c .calls) s log (good .facts) (serverAt c s) (runs s h e)) in
+      let g = elect-goes (length (c .servers)) s (serverAt c s) in
+      record { next = k .next; good = by-line s h k; grows = k .adds .grows; once = answers-once (good .facts) (runs s h e) g; begins = k .begins; ends = k .ends }
+
+  timeout-good : (s b : ℕ) → s < length (c .servers) → stoppedAt c s ≡ false → LineGood now c log (timeout s b)
+  unfolding work begunBy
+  timeout-good s b h e =
+      let k = kept-held (cease-kept (length (c .servers)) (c .buckets) now (c .calls) s log (good .facts) (serverAt c s) (as-unsettled (runs s h e))) in
+      record { next = k .next; good = by-line s h k; grows = k .adds .grows; once = answers-once (good .facts) (runs s h e) (cease-goes (serverAt c s)); begins = k .begins; ends = k .ends }
 
   stop-good : (s : ℕ) → s < length (c .servers) → LineGood now c log (stop s)
   unfolding work begunBy
   stop-good s h =
-      let old = good .servers s h in
-      let same : ServerOk (length (c .servers)) (c .buckets) log s (halted (serverAt c s)) =
-      record {
-        shape = record { copies = old .shape .copies; votes = old .shape .votes; rounds = old .shape .rounds; calls = old .shape .calls };
-        stored = old .stored;
-        numbered = old .numbered;
-        role = old .role;
-      } in
-      let k : Kept (length (c .servers)) (c .buckets) now (c .calls) s log _ = unmoved (good .facts) same [] (λ x i. none-in i) in
+      let k = stop-held (length (c .servers)) (c .buckets) now (c .calls) s log (good .facts) (serverAt c s) (good .servers s h) in
       record { next = k .next; good = by-line s h k; grows = k .adds .grows; once = tt; begins = k .begins; ends = k .ends }
 
-  call-good : (s : ℕ) (w : Words) → s < length (c .servers) → bucketFor (c .buckets) w < c .buckets
+  start-good : (s : ℕ) → s < length (c .servers) → LineGood now c log (start s)
+  unfolding work begunBy
+  start-good s h =
+      let k = start-held (length (c .servers)) (c .buckets) now (c .calls) s log (good .facts) (serverAt c s) (good .servers s h) in
+      record { next = k .next; good = by-line s h k; grows = k .adds .grows; once = tt; begins = k .begins; ends = k .ends }
+
+  -- a message that its server does not get past storing
+  cut-good : (i k : ℕ) → messageAt c i ∈ c .messages → messageAt c i .receiver < length (c .servers) → LineGood now c log (cut i k)
+  unfolding work begunBy
+  cut-good i k there h =
+      let m = messageAt c i in
+      let x = cut-held (length (c .servers)) (c .buckets) now (c .calls) (m .receiver) log (good .facts) (serverAt c (m .receiver)) (good .servers (m .receiver) h) m (good .messages m there) k in
+      record {
+        next = x .next;
+        good = stepped-good good (m .receiver) h (adds-refl (m .receiver) log) x (dropAt i (c .messages)) (dropped-sub i (c .messages));
+        grows = x .adds .grows;
+        once = tt;
+        begins = x .begins;
+        ends = x .ends;
+      }
+
+  call-good : (s : ℕ) (w : Words) → s < length (c .servers) → stoppedAt c s ≡ false → bucketFor (c .buckets) w < c .buckets
       → serverAt c s .volatile .role ≡ leading → callAt (serverAt c s .volatile) (bucketFor (c .buckets) w) ≡ none → LineGood now c log (call s w)
   unfolding work begunBy
-  call-good s w h inside leads free =
+  call-good s w h e inside leads free =
       let b = bucketFor (c .buckets) w in
-      let k = begin-kept (length (c .servers)) (c .buckets) now (c .calls) s b (good .facts) (good .servers s h) leads inside free (c .calls + 1) (add-one (c .calls)) w in
+      let k = kept-held (begin-kept (length (c .servers)) (c .buckets) now (c .calls) s b (good .facts) (runs s h e) leads inside free (c .calls + 1) (add-one (c .calls)) w) in
       let g = going (beginCall-moves (length (c .servers)) s b (c .calls + 1) w (serverAt c s)) in
       record {
         next = k .next;
         good = stepped-good good s h (adds-begun log s _) k (c .messages) (λ m i. i);
         grows = adds-trans (adds-begun log s _) (k .adds) .grows;
-        once = answers-once (good .facts) (good .servers s h) g;
+        once = answers-once (good .facts) (runs s h e) g;
         begins = k .begins;
         ends = k .ends;
       }
@@ -163,14 +182,14 @@ module _ {now : ℕ} {c : Cluster} {log : Log} {t : Tally} (stands : Stands c t)
       go : (t : Bool) → stoppedAt c (m .receiver) ≡ t → LineGood now c log l
       go true i = lost-good l still copied sub (e ∙ delivery-stopped c m still copied i) f
       go false i =
-          let k = handle-kept (length (c .servers)) (c .buckets) now (c .calls) (good .facts) m (good .servers (m .receiver) h) (good .messages m there) in
+          let k = kept-held (handle-kept (length (c .servers)) (c .buckets) now (c .calls) (good .facts) m (runs (m .receiver) h i) (good .messages m there)) in
           let g : work c l ≡ deliveredTo c m still copied _ = e ∙ delivery-live c m still copied i in
           let moves = handle-goes (length (c .servers)) (m .receiver) m (serverAt c (m .receiver)) in
           record {
             next = k .next;
             good = rw g (stepped-good good (m .receiver) h (adds-refl (m .receiver) log) k still sub);
             grows = k .adds .grows;
-            once = rw g (answers-once (good .facts) (good .servers (m .receiver) h) moves);
+            once = rw g (answers-once (good .facts) (runs (m .receiver) h i) moves);
             begins = rw f (k .begins);
             ends = rw g (k .ends);
           }
@@ -184,10 +203,10 @@ module _ {now : ℕ} {c : Cluster} {log : Log} {t : Tally} (stands : Stands c t)
   pub line-good : (l : Line) → All (λ x. x .applies ≡ false) (conditions c l) → LineGood now c log l
   unfolding conditionsUpTo work begunBy
   line-good (cluster x y) (cons p nil) = let z : _≡_ {A = ℕ} 0 1 = cc in absurd (omega arith)
-  line-good (elect s) (cons e h) = elect-good s (server-there c s e)
+  line-good (elect s) (cons e (cons f (cons g h))) = elect-good s (server-there c s e) g
   line-good (call s w) (cons e (cons f (cons g (cons h (cons i (cons j nil)))))) =
       let (x, y) = either-false _ _ e in
-      call-good s w (server-there c s x) (bucket-less c w (omega (arith, stands .within .buckets, stands .someBuckets)) y) (leads-if _ i) (free-if _ j)
+      call-good s w (server-there c s x) h (bucket-less c w (omega (arith, stands .within .buckets, stands .someBuckets)) y) (leads-if _ i) (free-if _ j)
   line-good (deliver i) (cons e (cons f nil)) =
       let (there, h) = at-place i (message-there c i f) in
       delivered-good (deliver i) (messageAt c i) (dropAt i (c .messages)) 0 there h (dropped-sub i (c .messages)) refl refl
@@ -195,5 +214,7 @@ module _ {now : ℕ} {c : Cluster} {log : Log} {t : Tally} (stands : Stands c t)
       let (there, h) = at-place i (message-there c i f) in
       delivered-good (copy i) (messageAt c i) (c .messages) 1 there h (λ m k. k) refl refl
   line-good (lose i) h = lost-good (lose i) (dropAt i (c .messages)) 0 (dropped-sub i (c .messages)) refl refl
-  line-good (timeout s b) (cons e h) = timeout-good s b (server-there c s (either-false _ _ e .0))
+  line-good (timeout s b) (cons e (cons f (cons g h))) = timeout-good s b (server-there c s (either-false _ _ e .0)) g
   line-good (stop s) (cons e h) = stop-good s (server-there c s e)
+  line-good (cut i k) (cons e (cons f h)) = let (there, r) = at-place i (message-there c i f) in cut-good i k there r
+  line-good (start s) (cons e h) = start-good s (server-there c s e)

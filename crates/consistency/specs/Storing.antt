@@ -68,21 +68,33 @@ abbrev pub acceptance : ℕ → ℕ → Version → Accept
 acceptance p b v = record { server = p; bucket = b; at = v }
 
 module _ (p b : ℕ) (v : Version) (log : Log) where
-  -- with copies none of which is older, and that on b no older than v
-  copies-replaced : (st : Stored) → StoredOk log p st → v .election ≤ st .vote → (cs : List Copy)
-      → ((k : ℕ) → Holds log k (getD cs k freshCopy .version) (getD cs k freshCopy .table) × (getD cs k freshCopy .version .election ≤ st .vote))
-      → ((k : ℕ) → copyAt st k .version ≼ getD cs k freshCopy .version)
-      → v ≼ getD cs b freshCopy .version
-      → StoredOk (addAccept (acceptance p b v) log) p (record { number = st .number; vote = st .vote; leader = st .leader; copies = cs })
-  copies-replaced st h bound cs held newer here =
+  -- the copy of a version that was written, above the stored one, is stored: nothing is logged for that
+  pub copy-stored : (t : List Entry) (st : Stored) → StoredOk log p st → v .election ≤ st .vote → b < length (st .copies) → Holds log b v t → copyAt st b .version ≺ v
+      → StoredOk log p (record { number = st .number; vote = st .vote; leader = st .leader; copies = set (st .copies) b (record { version = v; table = t }) })
+  copy-stored t st h bound inside held l =
+      let new : Copy = record { version = v; table = t } in
+      let newer = each-set (λ k c. copyAt st k .version ≼ c .version) (st .copies) b new freshCopy inside (le-of-lt l) (λ k d. le-refl _) in
+      record {
+        number = h .number;
+        votes = h .votes;
+        voted = h .voted;
+        wins = h .wins;
+        copies = each-set (λ k c. Holds log k (c .version) (c .table) × (c .version .election ≤ st .vote)) (st .copies) b new freshCopy inside (held, bound) (λ k d. h .copies k);
+        accepts = λ x m e. (le-trans (h .accepts x m e .0) (newer (x .bucket)), h .accepts x m e .1);
+        reports = h .reports;
+      }
+
+  -- and then acknowledged
+  acknowledged-stored : (st : Stored) → StoredOk log p st → v .election ≤ st .vote → v ≼ copyAt st b .version → StoredOk (addAccept (acceptance p b v) log) p st
+  acknowledged-stored st h bound here =
       let g = adds-accept log (acceptance p b v) .grows in
       record {
         number = h .number;
         votes = h .votes;
         voted = λ l. elim (h .voted l) [ inl x ↦ inl x | inr x ↦ inr (won-grows g x) ];
         wins = h .wins;
-        copies = λ k. (holds-grows g (held k .0), held k .1);
-        accepts = each-cons (λ e. (here, bound)) (λ x m e. (le-trans (h .accepts x m e .0) (newer (x .bucket)), h .accepts x m e .1));
+        copies = λ k. (holds-grows g (h .copies k .0), h .copies k .1);
+        accepts = each-cons (λ e. (here, bound)) (λ x m e. h .accepts x m e);
         reports = h .reports;
       }
 
@@ -90,13 +102,10 @@ module _ (p b : ℕ) (v : Version) (log : Log) where
       → StoredOk (addAccept (acceptance p b v) log) p (storing b v t st)
   accept-stored t st h bound inside held =
       storing-cases b v t st (λ x. StoredOk (addAccept (acceptance p b v) log) p x)
-      (λ l. copies-replaced st h bound (st .copies) (h .copies) (λ k. le-refl _) l)
+      (λ l. acknowledged-stored st h bound l)
       (λ l.
       let new : Copy = record { version = v; table = t } in
-      copies-replaced st h bound (set (st .copies) b new)
-      (each-set (λ k c. Holds log k (c .version) (c .table) × (c .version .election ≤ st .vote)) (st .copies) b new freshCopy inside (held, bound) (λ k d. h .copies k))
-      (each-set (λ k c. copyAt st k .version ≼ c .version) (st .copies) b new freshCopy inside (le-of-lt l) (λ k d. le-refl _))
-      (rw (getD-set-same (st .copies) b new freshCopy inside) (le-refl v)))
+      acknowledged-stored _ (copy-stored t st h bound inside held l) bound (rw (getD-set-same (st .copies) b new freshCopy inside) (le-refl v)))
 
 -- ---- an acknowledged read
 

@@ -9,9 +9,10 @@ use native.Mathlib.Decide.{ℕ-discrete, decLe}
 use native.Mathlib.Omega.{arith}
 use borrow.Author.Tests.{eq-eqb, ne-eqb}
 use Rattle.blocks.specs.Blocks.{block}
+use Rattle.server.specs.Views.{isBroadcast}
 use Rattle.server.specs.declared.Message.{Message}
 use Rattle.memory.specs.Layout.{contentSize}
-use Rattle.refusals.specs.Refusals.{isBroadcast, sendCount}
+use Rattle.refusals.specs.Refusals.{sendCount}
 use Rattle.messages.specs.Messages.{Appended}
 use Rattle.moves.specs.declared.Move.{Move}
 use Rattle.views.specs.Queue.{Flight, flight, appended, messageTo, sentTo, spread, broadcastOf, replyOf, sent}

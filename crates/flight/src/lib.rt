@@ -2,8 +2,8 @@
 use messages::append_message;
 use messages::remove_message;
 use moves::Move;
-use refusals::is_broadcast;
 use server::Message;
+use server::kinds::is_broadcast;
 ghost use mathlib.Core.Path.{_≡_};
 ghost use mathlib.Core.Bool.{true};
 ghost use mathlib.Core.Logic.{_≢_};

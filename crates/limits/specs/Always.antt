@@ -17,7 +17,7 @@ use Rattle.model.specs.Calls.{Words, get, set, setif, del, keys, bucketFor}
 use Rattle.model.specs.Cluster.{Role, follower, Round, Call, Message, Cluster, freshServer, freshCluster, freshCopy}
 use Rattle.model.specs.Leader.{Reaction, ceased, largerNumber, nextNumber}
 use Rattle.model.proofs.Elections.{eleven-above-the-top}
-use Rattle.model.specs.Lines.{Line, cluster, elect, call, deliver, copy, lose, timeout, stop, State, initialState, Tally, firstOf, conditions, conditionsUpTo, either, noServer, noBucket, noBucketFor, badKey, badValue, badWords, limitReached, stoppedAt, isLeading, lastNumber, serverAt, dropAt, Work, afterStep, byLine, lostMessage, delivery, work, tallied, LineResult}
+use Rattle.model.specs.Lines.{Line, cluster, elect, call, deliver, copy, lose, timeout, stop, cut, start, State, initialState, Tally, firstOf, conditions, conditionsUpTo, either, noServer, noBucket, noBucketFor, badKey, badValue, badWords, limitReached, stoppedAt, isLeading, lastNumber, serverAt, dropAt, Work, afterStep, byLine, lostMessage, delivery, cutServer, cutting, work, tallied, LineResult}
 use Rattle.model.specs.Parse.{parse}
 use Rattle.model.specs.Run.{step, stateAfter, stateAfterUpTo}
 use Rattle.limits.specs.Lists.{All, nil, cons, all-head, all-tail, all-imply, all-append, all-take, all-drop, all-set, all-at, all-replicate, map-replicate}
@@ -25,7 +25,7 @@ use Rattle.limits.specs.Refusals.{ComesOut, refused-by, founded, took, c
 use Rattle.limits.specs.Tally.{none-applies, message-there, work-counts}
 use Rattle.limits.specs.Measures.{limitsAfter, one-above-within, KeySized, ValueSized, WordsSized, idle, ServerWithin, MessageWithin, AnswersWithin, endings, ReactionWithin, ClusterWithin, Grows, next-line, server-grows, message-grows}
 use Rattle.limits.specs.Tables.{fresh-copy-within}
-use Rattle.limits.specs.Rules.{role-elected, cease-within, elect-within, beginCall-within, handle-within}
+use Rattle.limits.specs.Rules.{role-elected, forgotten-within, cut-within, cease-within, elect-within, beginCall-within, handle-within}
 
 -- ---- what the tests of a line tell
 
@@ -207,6 +207,27 @@ module _ (n b k : ℕ) (c : Cluster) (bLow : 1 ≤ b) (w : ClusterWithin n b k c
       byLine-taken s _ same-calls
       (record { server = record { stored = y .stored; frame = y .frame; slots = y .slots; resting = y .resting }; sends = nil; answers = endings {out = []} (omega arith) nil })
 
+  start-taken : (s : ℕ) → noServer c s ≡ false → Taken n b k (work c (start s))
+  unfolding work
+  start-taken s e =
+      let y = all-at s _ (server-there c s e) (kept-servers same-calls) in
+      byLine-taken s _ same-calls
+      (record { server = forgotten-within n b (limitsAfter (k + 1) (c .calls)) y; sends = nil; answers = endings {out = []} (omega arith) nil })
+
+  cut-taken : (m : Message) (kept : List Message) (j : ℕ) → MessageWithin n b (limitsAfter k (c .calls)) m →
+      All (MessageWithin n b (limitsAfter k (c .calls))) kept → Taken n b k (cutting c m kept j)
+  cut-taken m kept j x o =
+      let g = message-grows (line-grows 0 (omega arith) same-calls) m x in
+      let there : m .receiver < length (c .servers) = omega (arith, x .receiver, w .size) in
+      let y : ServerWithin n b (limitsAfter (k + 1) (c .calls)) 0 (serverAt c (m .receiver)) = all-at (m .receiver) _ there (kept-servers same-calls) in
+      let none-told : AnswersWithin b (limitsAfter (k + 1) (c .calls)) [] = endings {out = []} (omega arith) nil in
+      record {
+        cluster =
+            stepped-within (m .receiver) kept _ same-calls o
+            (record { server = cut-within n b (limitsAfter (k + 1) (c .calls)) j m _ g y; sends = nil; answers = none-told });
+        answers = none-told;
+      }
+
   work-within : (l : Line) → All (λ x. x .applies ≡ false) (conditions c l) → Taken n b k (work c l)
   unfolding conditionsUpTo work
   work-within (cluster x y) (cons p nil) = let z : _≡_ {A = ℕ} 0 1 = cc in absurd (omega arith)
@@ -219,6 +240,8 @@ module _ (n b k : ℕ) (c : Cluster) (bLow : 1 ≤ b) (w : ClusterWithin n b k c
   work-within (lose i) (cons e (cons f nil)) = lost-within _ 0 (dropped i)
   work-within (timeout s i) (cons e (cons f (cons g (cons h nil)))) = timeout-taken s i (either-false _ _ e .0)
   work-within (stop s) (cons e (cons f (cons g nil))) = stop-taken s e
+  work-within (cut i j) (cons e (cons f (cons g nil))) = cut-taken _ _ j (all-at i _ (message-there c i f) (w .messages)) (dropped i)
+  work-within (start s) (cons e (cons f (cons g nil))) = start-taken s e
 
 not-spent : (c : Cluster) (l : Line) → All (λ x. x .applies ≡ false) (conditions c l) → c .accepted < maxAccepted
 unfolding conditionsUpTo limitReached
@@ -230,6 +253,8 @@ not-spent c (copy i) h = leb-false _ _ (all-head h)
 not-spent c (lose i) h = leb-false _ _ (all-head h)
 not-spent c (timeout s i) h = leb-false _ _ (all-head (all-tail h))
 not-spent c (stop s) h = leb-false _ _ (all-head (all-tail h))
+not-spent c (cut i j) h = leb-false _ _ (all-head h)
+not-spent c (start s) h = leb-false _ _ (all-head (all-tail h))
 
 -- a line is taken only where fewer than 1,000,000 were
 pub room-for-line : (c : Cluster) (l : Line) → firstOf (conditions c l) ≡ none → c .accepted < maxAccepted

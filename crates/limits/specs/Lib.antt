@@ -6,5 +6,6 @@ pub mod Measures
 pub mod Tables
 pub mod Rules
 pub mod Always
+pub mod Starts
 pub mod Printed
 pub mod Prints

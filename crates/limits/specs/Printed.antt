@@ -120,7 +120,7 @@ answers-length {b} {l} out h k (endings few w) = omega (arith, endings-length l 
 
 -- ---- lines
 
-refusal-length : (number r : ℕ) → number ≤ maxLines → r ≤ 12 → length (outcomeText number (refusal r)) ≤ maxPrinted
+refusal-length : (number r : ℕ) → number ≤ maxLines → r ≤ 18 → length (outcomeText number (refusal r)) ≤ maxPrinted
 unfolding outcomeText bytes
 refusal-length number r h k =
     let line = digits 9 number (omega arith) in
@@ -134,7 +134,7 @@ few-calls (suc calls) k h f = omega (arith, f (omega arith))
 line-length : (number : ℕ) (s : State) (o : Option Line) (x : LineResult) → number ≤ maxLines → Measured (s .cluster) (s .tally) → ComesOut s o x →
     length (outcomeText number (x .outcome)) ≤ maxPrinted
 unfolding outcomeText answerTexts
-line-length number s o x h m (refused-by r low high) = refusal-length number r h high
+line-length number s o x h m (refused-by r low high) = refusal-length number r h (high .top)
 line-length number s o x h m (founded n b i p q e) = omega arith
 line-length number s o x h m (took c l i e f room) =
     let k = subst (λ o. Measured o (s .tally)) e m in

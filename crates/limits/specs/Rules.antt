@@ -17,10 +17,13 @@ use Rattle.model.specs.Measures.{majority}
 use Rattle.model.specs.Calls.{Words, bucketFor, Result, done, Effect, answers, writes}
 use Rattle.model.specs.Cluster.{Version, version, above, Copy, freshCopy, Stored, copyAt, Role, follower, candidate, leading, Purpose, recoveryRead, recoveryWrite, check, ownWrite, Mark, silent, acknowledged, refused, Round, Call, Volatile, Server, Body, pleaseVote, ackVote, nackVote, replicaWrite, ackWrite, nackWrite, replicaRead, ackRead, nackRead, Message, roundAt, callAt}
 use Rattle.model.specs.Replica.{voting, grants, afterVote, Request, reading, writing, requestBody, mayAccept, storing, accepting, acknowledging, refusing}
-use Rattle.model.specs.Leader.{Reaction, noReaction, withStored, withVolatile, below, without, broadcast, ended, ceased, cease, stepDown, votesFor, standing, standForElection, nextNumber, raisedTo, elect, onAckVote, closes, fails, oneMore, isOwn, reportTo, newRound, opening, openRound, answerOf, finish, nextVersion, applying, afterRead, checking, recovering, recovered, startRead, startCall, beginCall, closed, better, markedBy, counted, withRound, counting, onReply, replyTo, onPleaseVote, onRequest, handle}
+use Rattle.model.specs.Stores.{storesCopy, putStore}
+use Rattle.model.specs.Lines.{cutServer}
+use Rattle.model.specs.Leader.{Reaction, noReaction, withStored, withVolatile, below, without, broadcast, ended, ceased, forgotten, cease, stepDown, votesFor, standing, standForElection, nextNumber, raisedTo, elect, onAckVote, closes, fails, oneMore, isOwn, reportTo, newRound, opening, openRound, answerOf, finish, nextVersion, applying, afterRead, checking, recovering, recovered, startRead, startCall, beginCall, closed, better, markedBy, counted, withRound, counting, onReply, replyTo, onPleaseVote, onRequest, handle}
 use Rattle.model.specs.Leader
 use Rattle.model.proofs.Elections.{above-the-number}
 use Rattle.model.proofs.FirstRound.{first-round}
+use Rattle.model.proofs.Stores.{cut-cases}
 use Rattle.limits.specs.Lists.{All, nil, cons, all-imply, all-append, all-set, all-at, all-map}
 use Rattle.limits.specs.Tables.{EffectWithin, effect-within, fresh-copy-within}
 use Rattle.limits.specs.Measures.{Limits, Fits, CopyWithin, StoredWithin, WordsSized, CallWithin, left, RoundWithin, SlotWithin, idle, busy, RoleWithin, FrameWithin, ServerWithin, RequestWithin, OfVote, OfRound, BodyWithin, MessageWithin, ResultWithin, AnswerWithin, Ending, AnswersWithin, single, endings, ReactionWithin, fewer, copy-grows, stored-grows, frame-grows, server-grows}
@@ -86,19 +89,20 @@ module _ (n b : ℕ) (l : Limits) where
       go true d = rw (afterVote, d) (record { within = voting-within e p h k w; same = refl })
       go false d = rw (afterVote, d) (record { within = w; same = refl })
 
+  copied-within : {q : ℕ} (i : ℕ) (v : Version) (t : List Entry) (st : Stored) →
+      CopyWithin l q (record { version = v; table = t }) → StoredWithin n b l q st → StoredWithin n b l q (putStore (storesCopy i v t) st)
+  unfolding putStore
+  copied-within i v t st new w =
+      record { number = w .number; vote = w .vote; leader = w .leader; size = rw length-set (w .size); copies = all-set i (w .copies) new }
+
   storing-kept : {q : ℕ} (i : ℕ) (v : Version) (t : List Entry) (st : Stored) →
       CopyWithin l q (record { version = v; table = t }) → StoredWithin n b l q st → Kept q (st .number) (storing i v t st)
-  unfolding storing
+  unfolding storing putStore
   storing-kept {q} i v t st new w = go (above v (copyAt st i .version)) refl
     where
       go : (a : Bool) → above v (copyAt st i .version) ≡ a → Kept q (st .number) (storing i v t st)
       go true d =
-          rw (storing, d)
-          (record {
-            within =
-                record { number = w .number; vote = w .vote; leader = w .leader; size = rw length-set (w .size); copies = all-set i (w .copies) new };
-            same = refl;
-          })
+          rw (storing, d) (record { within = copied-within i v t st new w; same = refl })
       go false d = rw (storing, d) (record { within = w; same = refl })
 
   accepting-kept : {q : ℕ} (i e p : ℕ) (request : Request) (st : Stored) → e ≤ l .elections → p < n →
@@ -168,6 +172,44 @@ module _ (n b : ℕ) (l : Limits) where
         slots = λ i h. rw (List·getD-map (λ x. none) (v .rounds) i none, List·getD-map (λ x. none) (v .calls) i none) idle;
         resting = λ e. simp map-map;
       }
+
+  -- a server that comes back
+  pub forgotten-within : {s : Server} {x : Bool} → ServerWithin n b l 0 s →
+      ServerWithin n b l 0 (record { stored = s .stored; volatile = forgotten (s .volatile); stopped = x })
+  unfolding forgotten ceased
+  forgotten-within {s} w =
+      let v = s .volatile in
+      record {
+        stored = w .stored;
+        frame =
+            record {
+              votes = rw length-map (w .frame .votes);
+              rounds = rw length-map (w .frame .rounds);
+              calls = rw length-map (w .frame .calls);
+              lastRound = omega arith;
+              standing = tt;
+            };
+        slots = λ i h. rw (List·getD-map (λ x. none) (v .rounds) i none, List·getD-map (λ x. none) (v .calls) i none) idle;
+        resting = λ e. simp map-map;
+      }
+
+  -- a server that is stopped after some of its stores
+  pub cut-within : (k : ℕ) (m : Message) (s : Server) → MessageWithin n b l m → ServerWithin n b l 0 s → ServerWithin n b l 0 (cutServer k m s)
+  cut-within k m s w h =
+      let r = with-stored (cut-cases m (s .stored) (Kept 0 (s .stored .number)) (same-number (h .stored)) (λ e i. same-number voted) (λ e i. same-number voted)
+      (λ v t e i. same-number voted) (λ v t e i j. copied v t e (h .stored)) (λ v t e i j. copied v t e voted) k) h in
+      record { stored = r .stored; frame = r .frame; slots = r .slots; resting = r .resting }
+    where
+      same-number : {st : Stored} → StoredWithin n b l 0 st → Kept 0 (st .number) st
+      same-number x = record { within = x; same = refl }
+
+      voted : StoredWithin n b l 0 (voting (m .election) (m .sender) (s .stored))
+      voted = voting-within (m .election) (m .sender) (w .election) (w .sender) (h .stored)
+
+      copied : (v : Version) (t : List Entry) → m .body ≡ replicaWrite v t → {st : Stored} → StoredWithin n b l 0 st → Kept 0 (st .number) (putStore (storesCopy (m .bucket) v t) st)
+      copied v t e {st} x =
+          let body : BodyWithin l m (replicaWrite v t) = subst (BodyWithin l m) e (w .body) in
+          record { within = copied-within (m .bucket) v t st (body .2) x; same = unfold putStore in refl }
 
   endings-of : {q : ℕ} {s : Server} → ServerWithin n b l q s → AnswersWithin b l (Leader.endings (s .volatile .calls))
   endings-of {q} {s} w =

@@ -1,7 +1,7 @@
 -- The message tally: sent and copied together equal delivered, lost and in flight; in flight is the length of the message
 -- list, which never exceeds 64.
 use mathlib.Core.Path.{_≡_, refl, _∙_}
-use mathlib.Core.List.{List, [], _∷_, _++_}
+use mathlib.Core.List.{List, [], _∷_, _++_, append-nil}
 use mathlib.Core.Bool.{Bool, true, false}
 use mathlib.Core.Option.{Option, none, some}
 use Prim.Native.Nat.{ℕ, _+_, _≤_, _<_}
@@ -11,7 +11,7 @@ use borrow.Author.Tests.{leb-false}
 use Rattle.model.specs.Measures.{maxMessages}
 use Rattle.model.specs.Cluster.{Cluster, Message, freshCluster}
 use Rattle.model.specs.Leader.{Reaction}
-use Rattle.model.specs.Lines.{Line, cluster, elect, call, deliver, copy, lose, timeout, stop, State, initialState, Condition, when, firstOf, conditions, conditionsUpTo, noMessage, limitReached, dropAt, stoppedAt, Work, byLine, delivery, work, LineResult}
+use Rattle.model.specs.Lines.{Line, cluster, elect, call, deliver, copy, lose, timeout, stop, cut, start, State, initialState, Condition, when, firstOf, conditions, conditionsUpTo, noMessage, limitReached, dropAt, stoppedAt, Work, byLine, delivery, work, LineResult}
 use Rattle.model.specs.Parse.{parse}
 use Rattle.model.specs.Run.{step, stateAfter, stateAfterUpTo}
 use Rattle.limits.specs.Lists.{All, nil, cons, all-head, all-tail}
@@ -63,6 +63,12 @@ work-balances c (copy i) e = handing-balances c _ _ 1 (omega arith)
 work-balances c (lose i) e = omega (arith, length-dropAt i (c .messages) (place-taken c i e))
 work-balances c (timeout s b) e = simp length-append (omega arith)
 work-balances c (stop s) e = simp length-append (omega arith)
+work-balances c (cut i k) e =
+    let there = message-there c i (all-head (all-tail (none-applies _ e))) in
+    let rest = dropAt i (c .messages) in
+    let same : length (rest ++ []) ≡ length rest = rw append-nil refl in
+    omega (arith, same, length-dropAt i (c .messages) there)
+work-balances c (start s) e = simp length-append (omega arith)
 
 -- what one line adds to the tally: what it sends stands in the list, and it copies, hands over or loses at most one
 pub record Counts (w : Work) : Type 0 where
@@ -94,6 +100,8 @@ work-counts c (copy i) = handing-counts c _ _ 1 (omega arith)
 work-counts c (lose i) = omega arith
 work-counts c (timeout s b) = byLine-counts c s (c .calls) _
 work-counts c (stop s) = byLine-counts c s (c .calls) _
+work-counts c (cut i k) = omega arith
+work-counts c (start s) = byLine-counts c s (c .calls) _
 
 -- ---- every list of lines
 

@@ -16,10 +16,11 @@ use Rattle.memory.specs.declared.Counts.{Counts}
 use Rattle.refusals.specs.Refusals.{placesLeft, inside}
 use Rattle.moves.specs.declared.Local.{Local}
 use Rattle.moves.specs.declared.Move.{Move}
+use Rattle.restarts.specs.Restarts.{cuttable}
 use Rattle.views.specs.Memory.{Memory}
 use Rattle.plans.specs.declared.Step.{Step}
 use Rattle.plans.specs.declared.Plan.{Plan}
-use Rattle.plans.specs.Plans.{refusedPlan, roomy, lineStep, unless, electPlan, timeoutPlan, stopPlan, electAt, timeoutAt, stopAt, badLengths, callBucket, callStep, callPlan, callAt, lostPlan, gone, handPlan, handAt, loseAt}
+use Rattle.plans.specs.Plans.{refusedPlan, roomy, lineStep, unless, electPlan, timeoutPlan, stopPlan, startPlan, electAt, timeoutAt, stopAt, startAt, cutPlan, cutAt, badLengths, callBucket, callStep, callPlan, callAt, lostPlan, gone, handPlan, handAt, loseAt}
 use Rattle.plans.specs.Arrays.{Measured}
 use Rattle.plans.proofs.Judging.{inside-there, in-list}
 use Rattle.parse.specs.declared.Kind.{Kind}
@@ -113,6 +114,14 @@ module _ (c : Counts) where
   unfolding stopAt
   stops-at a s f m = either (inside c s 0) _ _ (λ h. stops s _ f m h) (λ h. refused 3 f (λ z. omega (arith, z)))
 
+  starts : (s : ℕ) (l : Local) (f : Effect) → Measured c → inside c s 0 ≡ true → Executable c (startPlan c s l f)
+  unfolding startPlan
+  starts s l f m h = accepted _ f _ (λ z. carries _ refl m (placed (lineStep c s 0) refl refl m h))
+
+  starts-at : (a : Memory) (s : ℕ) (f : Effect) → Measured c → Executable c (startAt a c s f)
+  unfolding startAt
+  starts-at a s f m = either (inside c s 0) _ _ (λ h. starts s _ f m h) (λ h. refused 3 f (λ z. omega (arith, z)))
+
   calls-at : (a : Memory) (s : ℕ) (w : Words) (f : Effect) → Measured c → Executable c (callAt a c s w f)
   unfolding callAt
   calls-at a s w f m =
@@ -142,6 +151,19 @@ module _ (c : Counts) where
   unfolding handAt
   hands-at a i removes f m = accepted _ f _ (λ z. hands _ _ _ f m (in-list c i z) (min-le-left 7 _))
 
+  cuts : (x : Step) (k : ℕ) (y : Message) (l : Local) (f : Effect) → Measured c → x .message < c .messages → x .bucket ≤ 7 → Executable c (cutPlan c x k y l f)
+  unfolding cutPlan
+  cuts x k y l f m i b =
+      either (gone c x l) _ _
+      (λ h. refused 18 f (λ z. omega (arith, z)))
+      (λ h. either (cuttable k y l) _ _
+      (λ e. carries _ refl m (record { server = stays x l h; bucket = omega (arith, b); place = omega (arith, i, m .messages); there = λ e. i }))
+      (λ e. refused 18 f (λ z. omega (arith, z))))
+
+  cuts-at : (a : Memory) (i k : ℕ) (f : Effect) → Measured c → Executable c (cutAt a c i k f)
+  unfolding cutAt
+  cuts-at a i k f m = accepted _ f _ (λ z. cuts _ k _ _ f m (in-list c i z) (min-le-left 7 _))
+
   loses-at : (i : ℕ) (f : Effect) → Measured c → Executable c (loseAt c i f)
   unfolding loseAt
   loses-at i f m = accepted _ f _ (λ z. loses i true f m (in-list c i z))
@@ -163,6 +185,8 @@ executable-by K.Copy m c x f h = hands-at c m (x .first) false f h
 executable-by K.Lose m c x f h = loses-at c (x .first) f h
 executable-by K.Timeout m c x f h = times-out-at c m (x .first) (x .second) f h
 executable-by K.Stop m c x f h = stops-at c m (x .first) f h
+executable-by K.Cut m c x f h = cuts-at c m (x .first) (x .second) f h
+executable-by K.Start m c x f h = starts-at c m (x .first) f h
 
 -- the plan of any line
 pub executable : (m : Memory) (c : Counts) (x : Line) (f : Effect) → Measured c → Executable c (linePlan (x .kind) m c x f)

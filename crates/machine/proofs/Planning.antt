@@ -11,8 +11,8 @@ use Rattle.memory.specs.declared.Counts.{Counts}
 use Rattle.memory.specs.Layout.{countsAt}
 use Rattle.views.specs.Memory.{Memory, memory, standing}
 use Rattle.plans.specs.declared.Plan.{Plan}
-use Rattle.plans.specs.Plans.{refusedPlan, electAt, timeoutAt, stopAt, callAt, handAt, loseAt}
-use Rattle.plans.specs.Arrays.{electIn, timeoutIn, stopIn, CallPlanned}
+use Rattle.plans.specs.Plans.{refusedPlan, electAt, timeoutAt, stopAt, startAt, callAt, handAt, loseAt, cutAt}
+use Rattle.plans.specs.Arrays.{electIn, timeoutIn, stopIn, startIn, cutIn, CallPlanned}
 use Rattle.parse.specs.declared.Kind.{Kind}
 use Rattle.parse.specs.declared.Kind.the-variants as K
 use Rattle.parse.specs.declared.Line.{Line}
@@ -48,6 +48,14 @@ module _ (heads slots copies texts queue : List ℕ) (c : Counts) (x : Line) (p 
   pub stop-planned : x .kind ≡ K.Stop → p ≡ stopIn heads slots c (x .first) (p .effect) → LinePlanned heads slots copies texts queue c x p
   unfolding linePlan stopAt
   stop-planned e h = simply K.Stop e h tt
+
+  pub start-planned : x .kind ≡ K.Start → p ≡ startIn heads slots c (x .first) (p .effect) → LinePlanned heads slots copies texts queue c x p
+  unfolding linePlan startAt
+  start-planned e h = simply K.Start e h tt
+
+  pub cut-planned : x .kind ≡ K.Cut → p ≡ cutIn heads slots queue c (x .first) (x .second) (p .effect) → LinePlanned heads slots copies texts queue c x p
+  unfolding linePlan cutAt
+  cut-planned e h = simply K.Cut e h tt
 
   pub lose-planned : x .kind ≡ K.Lose → p ≡ loseAt c (x .first) (p .effect) → LinePlanned heads slots copies texts queue c x p
   unfolding linePlan
@@ -98,7 +106,7 @@ abbrev seenIn : Memory → Memory
 seenIn m = seen (m .heads) (m .slots) (m .copies) (m .texts) (m .queue)
 
 plan-sees : (k : Kind) (m : Memory) (c : Counts) (x : Line) (f : Effect) → linePlan k (seenIn m) c x f ≡ linePlan k m c x f
-unfolding linePlan electAt timeoutAt stopAt callAt handAt
+unfolding linePlan electAt timeoutAt stopAt startAt callAt handAt cutAt
 plan-sees K.Malformed m c x f = refl
 plan-sees K.Cluster m c x f = refl
 plan-sees K.Elect m c x f = refl
@@ -112,6 +120,8 @@ plan-sees K.Copy m c x f = refl
 plan-sees K.Lose m c x f = refl
 plan-sees K.Timeout m c x f = refl
 plan-sees K.Stop m c x f = refl
+plan-sees K.Cut m c x f = refl
+plan-sees K.Start m c x f = refl
 
 effect-seen : (k : Kind) (m : Memory) (c : Counts) (x : Line) (f : Effect) → EffectOf k (seenIn m) c x f → EffectOf k m c x f
 unfolding callAt
@@ -128,6 +138,8 @@ effect-seen K.Copy m c x f h = h
 effect-seen K.Lose m c x f h = h
 effect-seen K.Timeout m c x f h = h
 effect-seen K.Stop m c x f h = h
+effect-seen K.Cut m c x f h = h
+effect-seen K.Start m c x f h = h
 
 -- ---- the run that follows
 
@@ -186,6 +198,8 @@ module _ (m : Memory) (l : List ℕ) (x : Line) where
   malformed-run r f K.Lose e z h = absurd (omega arith)
   malformed-run r f K.Timeout e z h = absurd (omega arith)
   malformed-run r f K.Stop e z h = absurd (omega arith)
+  malformed-run r f K.Cut e z h = absurd (omega arith)
+  malformed-run r f K.Start e z h = absurd (omega arith)
 
   pub cluster-run : (counts heads slots copies : List ℕ) (r : Report) (f : Effect) (n : ℕ) (k : Kind) → x .kind ≡ k → sortOf k ≡ 1
       → Clustered (m .counts) (m .heads) (m .slots) (m .copies) (x .first) (x .second) counts heads slots copies n
@@ -206,6 +220,8 @@ module _ (m : Memory) (l : List ℕ) (x : Line) where
   cluster-run counts heads slots copies r f n K.Lose e z y h = absurd (omega arith)
   cluster-run counts heads slots copies r f n K.Timeout e z y h = absurd (omega arith)
   cluster-run counts heads slots copies r f n K.Stop e z y h = absurd (omega arith)
+  cluster-run counts heads slots copies r f n K.Cut e z y h = absurd (omega arith)
+  cluster-run counts heads slots copies r f n K.Start e z y h = absurd (omega arith)
 
   pub other-run : (m′ : Memory) (l′ : List ℕ) (r : Report) (k : Kind) → x .kind ≡ k → (sortOf k ≡ 0 → ⊥) → (sortOf k ≡ 1 → ⊥) → RanPlan m l x m′ l′ r → RanLine m l x m′ l′ r
   unfolding runBy sortOf
@@ -222,6 +238,8 @@ module _ (m : Memory) (l : List ℕ) (x : Line) where
   other-run m′ l′ r K.Lose e z y h = by-kind K.Lose e (h .is) (subst (λ k. EffectAsked m x k (r .effect)) e (h .effect))
   other-run m′ l′ r K.Timeout e z y h = by-kind K.Timeout e (h .is) (subst (λ k. EffectAsked m x k (r .effect)) e (h .effect))
   other-run m′ l′ r K.Stop e z y h = by-kind K.Stop e (h .is) (subst (λ k. EffectAsked m x k (r .effect)) e (h .effect))
+  other-run m′ l′ r K.Cut e z y h = by-kind K.Cut e (h .is) (subst (λ k. EffectAsked m x k (r .effect)) e (h .effect))
+  other-run m′ l′ r K.Start e z y h = by-kind K.Start e (h .is) (subst (λ k. EffectAsked m x k (r .effect)) e (h .effect))
 
   -- the run of the plan that a kind makes
   abbrev runAs : Kind → Effect → Ran
@@ -248,6 +266,8 @@ module _ (m : Memory) (l : List ℕ) (x : Line) where
   hands-by m′ l′ r K.Lose e z y w h = absurd (w refl)
   hands-by m′ l′ r K.Timeout e z y w h = absurd (w refl)
   hands-by m′ l′ r K.Stop e z y w h = absurd (w refl)
+  hands-by m′ l′ r K.Cut e z y w h = absurd (w refl)
+  hands-by m′ l′ r K.Start e z y w h = absurd (w refl)
 
   -- n is the number of the line's sort
   pub hand-run : (m′ : Memory) (l′ : List ℕ) (r : Report) (n : ℕ) → n ≡ sortOf (x .kind) → (n ≡ 0 → ⊥) → (n ≡ 1 → ⊥) → (n ≡ 2 → ⊥) → HandRan m l (x .first) (eqb n 3) m′ l′ r → RanLine m l x m′ l′ r

@@ -58,7 +58,7 @@ pub record CarriedOn (counts heads slots copies works queue loads answers : List
 
 abbrev pub carriedReport : Told → Step → Effect → Report
 carriedReport t x f =
-    record { refusal = 0; answers = t .answers; sent = t .sent; copied = x .copied; delivered = x .delivered; lost = 0; messages = t .messages; effect = f }
+    record { refusal = 0; answers = t .answers; sent = t .sent; copied = x .copied; delivered = x .delivered; lost = x .lost; messages = t .messages; effect = f }
 
 -- the run x with effect f, as memory, answers and report
 pub record Reported (x : Ran) (f : Effect) (m : Memory) (answers : List ℕ) (r : Report) : Type 0 where
@@ -142,6 +142,8 @@ sortOf K.Copy = 4
 sortOf K.Lose = 2
 sortOf K.Timeout = 2
 sortOf K.Stop = 2
+sortOf K.Cut = 2
+sortOf K.Start = 2
 
 -- the arrays after a cluster line that is refused with r, or taken with 0
 pub record Clustered (counts heads slots copies : List ℕ) (n b : ℕ) (counts′ heads′ slots′ copies′ : List ℕ) (r : ℕ) : Type 0 where

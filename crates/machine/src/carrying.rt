@@ -180,7 +180,7 @@ pub fn report_of(t: Told, x: Step, f: Effect) -> Report
         sent: t.sent,
         copied: x.copied,
         delivered: x.delivered,
-        lost: 0,
+        lost: x.lost,
         messages: t.messages,
         effect: f,
     }

@@ -4,6 +4,7 @@ use runs::Report;
 use runs::Tally;
 
 pub mod carrying;
+mod cutting;
 pub mod entry;
 pub mod fresh;
 pub mod handing;

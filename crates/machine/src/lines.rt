@@ -1,6 +1,7 @@
 // One line: refused, or a cluster made, or its plan carried out.
 use crate::carrying::execute;
 use crate::carrying::refused;
+use crate::cutting::plan_cut;
 use crate::fresh::create;
 use crate::handing::hand_line;
 use crate::numbers::standing;
@@ -18,6 +19,7 @@ use plans::parts::no_effect;
 use plans::parts::no_words;
 use plans::parts::refused_plan;
 use plans::servers::plan_elect;
+use plans::servers::plan_start;
 use plans::servers::plan_stop;
 use plans::servers::plan_timeout;
 use records::counters::load_counts;
@@ -82,6 +84,8 @@ fn words_of(line: Line) -> Words
         Kind::Lose => no_words(),
         Kind::Timeout => no_words(),
         Kind::Stop => no_words(),
+        Kind::Cut => no_words(),
+        Kind::Start => no_words(),
     }
 }
 
@@ -115,6 +119,8 @@ fn plan_line(
         Kind::Lose => plan_lose(c, s),
         Kind::Timeout => plan_timeout(heads, slots, c, s, line.second),
         Kind::Stop => plan_stop(heads, slots, c, s),
+        Kind::Cut => plan_cut(heads, slots, queue, c, s, line.second),
+        Kind::Start => plan_start(heads, slots, c, s),
     }
 }
 
@@ -136,6 +142,8 @@ fn sort(kind: Kind) -> u32
         Kind::Lose => 2,
         Kind::Timeout => 2,
         Kind::Stop => 2,
+        Kind::Cut => 2,
+        Kind::Start => 2,
     }
 }
 

@@ -4,3 +4,4 @@ pub mod Elections
 pub mod FirstRound
 pub mod Majorities
 pub mod Replicas
+pub mod Stores

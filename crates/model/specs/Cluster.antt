@@ -37,7 +37,7 @@ pub record Stored : Type 0 where
   pub leader : ℕ
   pub copies : List Copy
 
--- ---- role, rounds and calls: a stopped server keeps them, unused
+-- ---- role, rounds and calls: a stopped server keeps them, unused, and a start forgets them
 
 pub data Role : Type 0 where
   follower : Role

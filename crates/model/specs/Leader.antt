@@ -72,6 +72,11 @@ ceased w =
 unfoldable pub cease : Server → Reaction
 cease s = reaction (withVolatile s (ceased (s .volatile))) [] (endings (s .volatile .calls))
 
+-- what a server that comes back has (document 02, Change 8): as when leading ends, and its rounds are numbered from 1 again
+unfoldable pub forgotten : Volatile → Volatile
+forgotten w =
+    let v = ceased w in record { role = v .role; votes = v .votes; lastRound = 0; rounds = v .rounds; calls = v .calls }
+
 -- a server whose vote rises above its own number is no longer leader or candidate
 unfoldable pub stepDown : Server → Reaction
 stepDown s = elim (ltb (s .stored .number) (s .stored .vote)) [ true ↦ cease s | false ↦ noReaction s ]
@@ -178,7 +183,7 @@ reportTo check c = freshCopy
 reportTo ownWrite c = freshCopy
 
 -- the open round of a broadcast, with the sender's own acknowledgement. It does not ask whether the sender would refuse: a
--- leader's vote equals its number in every reached state (RoleOk in crates/consistency/specs/Invariant.antt)
+-- running leader's vote equals its number in every reached state (RoleOk in crates/consistency/specs/Invariant.antt)
 unfoldable pub newRound : ℕ → ℕ → ℕ → Purpose → Server → Round
 newRound n me b purpose s =
     record {

@@ -2,6 +2,7 @@ pub mod Measures
 pub mod Calls
 pub mod Cluster
 pub mod Replica
+pub mod Stores
 pub mod Leader
 pub mod Lines
 pub mod Text
@@ -11,3 +12,4 @@ pub mod Run
 pub mod Compute
 pub mod Rows
 pub mod Example
+pub mod Restarts

@@ -11,7 +11,8 @@ use Rattle.model.specs.Measures.{maxServers, maxBuckets, maxKeyBytes, ma
 use Rattle.model.specs.Calls.{Words, bucketFor, Answer}
 use Rattle.model.specs.Calls
 use Rattle.model.specs.Cluster.{Role, follower, candidate, leading, Server, nackVote, Message, Cluster, freshServer, freshCluster, roundAt, callAt}
-use Rattle.model.specs.Leader.{Reaction, reaction, cease, largerNumber, beginCall, handle}
+use Rattle.model.specs.Stores.{putStores, storesOf, asks}
+use Rattle.model.specs.Leader.{Reaction, reaction, forgotten, cease, largerNumber, beginCall, handle}
 use Rattle.model.specs.Leader
 
 pub data Line : Type 0 where
@@ -23,6 +24,8 @@ pub data Line : Type 0 where
   lose : ℕ → Line
   timeout : ℕ → ℕ → Line
   stop : ℕ → Line
+  cut : ℕ → ℕ → Line
+  start : ℕ → Line
 
 -- the tally of messages: sent, copied, delivered, lost, in flight
 pub record Tally : Type 0 where
@@ -130,6 +133,12 @@ present (some a) = true
 unfoldable pub lastNumber : ℕ → Cluster → ℕ → Bool
 lastNumber top c s = leb top (largerNumber (serverAt c s .stored))
 
+-- 18, of a cut: another kind of message, its server stopped, or more stores named than it makes
+unfoldable pub badCut : Cluster → Message → ℕ → Bool
+badCut c m k =
+    either (not (asks (m .body)))
+    (either (stoppedAt c (m .receiver)) (ltb (length (storesOf m (serverAt c (m .receiver) .stored))) k))
+
 unfoldable pub conditionsUpTo : ℕ → Cluster → Line → List Condition
 conditionsUpTo top c (cluster n b) = when 2 true ∷ []
 conditionsUpTo top c (elect s) =
@@ -152,6 +161,8 @@ conditionsUpTo top c (timeout s b) =
     when 10 (not (present (roundAt (serverAt c s .volatile) b))) ∷
     []
 conditionsUpTo top c (stop s) = when 3 (noServer c s) ∷ when 5 (limitReached c) ∷ when 6 (stoppedAt c s) ∷ []
+conditionsUpTo top c (cut i k) = when 5 (limitReached c) ∷ when 7 (noMessage c i) ∷ when 18 (badCut c (messageAt c i) k) ∷ []
+conditionsUpTo top c (start s) = when 3 (noServer c s) ∷ when 5 (limitReached c) ∷ when 18 (not (stoppedAt c s)) ∷ []
 
 abbrev pub conditions : Cluster → Line → List Condition
 conditions = conditionsUpTo maxElection
@@ -225,6 +236,26 @@ delivery c m kept copied =
 abbrev pub halted : Server → Server
 halted s = record { stored = s .stored; volatile = s .volatile; stopped = true }
 
+-- stopped after the first k stores that the message makes, before any reply
+abbrev pub cutServer : ℕ → Message → Server → Server
+cutServer k m s = record { stored = putStores (take k (storesOf m (s .stored))) (s .stored); volatile = s .volatile; stopped = true }
+
+-- the message is counted as lost
+abbrev pub cutting : Cluster → Message → List Message → ℕ → Work
+cutting c m kept k =
+    record {
+      cluster = afterStep c (m .receiver) kept (c .calls) (reaction (cutServer k m (serverAt c (m .receiver))) [] []);
+      sent = 0;
+      copied = 0;
+      delivered = 0;
+      lost = 1;
+      answers = [];
+    }
+
+-- back with what was stored; the open calls are forgotten and never end
+abbrev pub restarted : Server → Server
+restarted s = record { stored = s .stored; volatile = forgotten (s .volatile); stopped = false }
+
 -- a second cluster line is refused with 2 and never comes here
 unfoldable pub work : Cluster → Line → Work
 work c (cluster n b) = byLine c 0 (c .calls) (reaction (serverAt c 0) [] [])
@@ -236,6 +267,8 @@ work c (copy i) = delivery c (messageAt c i) (c .messages) 1
 work c (lose i) = lostMessage c (dropAt i (c .messages)) 0
 work c (timeout s b) = byLine c s (c .calls) (cease (serverAt c s))
 work c (stop s) = byLine c s (c .calls) (reaction (halted (serverAt c s)) [] [])
+work c (cut i k) = cutting c (messageAt c i) (dropAt i (c .messages)) k
+work c (start s) = byLine c s (c .calls) (reaction (restarted (serverAt c s)) [] [])
 
 -- ---- one line
 
@@ -290,6 +323,8 @@ createCluster s (copy i) = refuse s 2
 createCluster s (lose i) = refuse s 2
 createCluster s (timeout x b) = refuse s 2
 createCluster s (stop x) = refuse s 2
+createCluster s (cut i k) = refuse s 2
+createCluster s (start x) = refuse s 2
 
 unfoldable pub performUpTo : ℕ → State → Line → LineResult
 performUpTo top s l = elim (s .cluster) [ none ↦ createCluster s l | some c ↦ inClusterUpTo top s c l ]

@@ -8,7 +8,7 @@ use lib.ListN.{length}
 use Rattle.table.specs.Form.{sameBytes}
 use Rattle.model.specs.Measures.{maxLineBytes}
 use Rattle.model.specs.Calls.{get, set, setif, del, keys}
-use Rattle.model.specs.Lines.{Line, cluster, elect, call, deliver, copy, lose, timeout, stop}
+use Rattle.model.specs.Lines.{Line, cluster, elect, call, deliver, copy, lose, timeout, stop, cut, start}
 use Rattle.model.specs.Text.{bytes}
 
 -- ---- words: one space between them. An empty word stands for a space too many, and fits no form
@@ -118,7 +118,11 @@ lineOf1 w a =
                       elim (sameBytes w (bytes "lose")) [
                         | true ↦ made lose (number a)
                         | false ↦
-                            elim (sameBytes w (bytes "stop")) [ true ↦ made stop (number a) | false ↦ none ]
+                            elim (sameBytes w (bytes "stop")) [
+                              | true ↦ made stop (number a)
+                              | false ↦
+                                  elim (sameBytes w (bytes "start")) [ true ↦ made start (number a) | false ↦ none ]
+                            ]
                       ]
                 ]
           ]
@@ -138,7 +142,11 @@ lineOf2 w a b =
                       elim (sameBytes w (bytes "keys")) [
                         | true ↦ made2 (λ s n. call s (keys n)) (number a) (number b)
                         | false ↦
-                            elim (sameBytes w (bytes "timeout")) [ true ↦ made2 timeout (number a) (number b) | false ↦ none ]
+                            elim (sameBytes w (bytes "timeout")) [
+                              | true ↦ made2 timeout (number a) (number b)
+                              | false ↦
+                                  elim (sameBytes w (bytes "cut")) [ true ↦ made2 cut (number a) (number b) | false ↦ none ]
+                            ]
                       ]
                 ]
           ]

@@ -50,7 +50,7 @@ withCall c l = local (l .head) (l .version) (l .round) c
 
 -- a step that sends a message and does nothing else: kind 0 sends nothing
 abbrev pub sending : ℕ → Version → Local → Move
-sending kind v l = record { local = l; sends = kind; written = v; fills = 0; keeps = 0; answer = noAnswer; ceases = false }
+sending kind v l = record { local = l; sends = kind; written = v; fills = 0; keeps = 0; answer = noAnswer; ceases = false; untold = false }
 
 abbrev pub quiet : Local → Move
 quiet l = sending 0 noVersion l
@@ -68,6 +68,7 @@ readingMove me purpose l =
       keeps = 0;
       answer = noAnswer;
       ceases = false;
+      untold = false;
     }
 
 -- whether version v is stored over the one of the copy
@@ -86,6 +87,7 @@ writingMove me purpose v l =
       keeps = chosen (stores v l) 1 0;
       answer = noAnswer;
       ceases = false;
+      untold = false;
     }
 
 -- the call ends with a result
@@ -99,6 +101,7 @@ finishedMove result l =
       keeps = 0;
       answer = answerWith (l .call) result;
       ceases = false;
+      untold = false;
     }
 
 -- ---- calls
@@ -165,6 +168,7 @@ aloneMove me result l =
             keeps = w .keeps;
             answer = finishedMove 3 (w .local) .answer;
             ceases = false;
+            untold = false;
           }
     ]
 
@@ -200,6 +204,7 @@ ceasing m =
       keeps = m .keeps;
       answer = m .answer;
       ceases = true;
+      untold = m .untold;
     }
 
 -- a server whose vote rises above its own number ceases to lead; a follower has nothing to end, and is left alone
@@ -223,6 +228,7 @@ fetching better m =
       keeps = m .keeps;
       answer = m .answer;
       ceases = m .ceases;
+      untold = m .untold;
     }
 
 -- a round k with a reply counted: it closes, fails or stays open
@@ -265,6 +271,7 @@ writeRequestMove m l =
       keeps = chosen (stores (m .version) l) 2 0;
       answer = noAnswer;
       ceases = false;
+      untold = false;
     }
 
 unfoldable pub requestMove : Bool → Message → Local → Move
@@ -327,6 +334,7 @@ electedMove n me l =
       keeps = 0;
       answer = noAnswer;
       ceases = true;
+      untold = false;
     }
 
 abbrev pub timedOutMove : Local → Move

@@ -41,12 +41,13 @@ ended-most slots s (suc b) l = go (endedCalls slots s b l) (ended-most slots s b
 
 answered-most : (slots : List ℕ) (most s : ℕ) (v : Move) (l : List ℕ) → most ≤ 8 → answered slots most s v l .count ≤ 8
 unfolding answered
-answered-most slots most s v l h = go (v .ceases) refl (eqb (v .answer .result) 0) refl
+answered-most slots most s v l h = go (v .ceases) refl (v .untold) refl (eqb (v .answer .result) 0) refl
   where
-    go : (z : Bool) → v .ceases ≡ z → (y : Bool) → eqb (v .answer .result) 0 ≡ y → answered slots most s v l .count ≤ 8
-    go true e y f = rw (answered, e) (omega (arith, ended-most slots s most l))
-    go false e true f = rw (answered, e, f) (omega arith)
-    go false e false f = rw (answered, e, f) (omega arith)
+    go : (z : Bool) → v .ceases ≡ z → (x : Bool) → v .untold ≡ x → (y : Bool) → eqb (v .answer .result) 0 ≡ y → answered slots most s v l .count ≤ 8
+    go true e true g y f = rw (answered, e, g) (omega arith)
+    go true e false g y f = rw (answered, e, g) (omega (arith, ended-most slots s most l))
+    go false e x g true f = rw (answered, e, f) (omega arith)
+    go false e x g false f = rw (answered, e, f) (omega arith)
 
 module _ (m : Memory) (l : List ℕ) where
   refused-none : (r : ℕ) → refusedRun m l r .count ≤ 8
@@ -111,6 +112,8 @@ module _ (m : Memory) (l : List ℕ) where
   by-kind K.Lose x f = planned-most x f
   by-kind K.Timeout x f = planned-most x f
   by-kind K.Stop x f = planned-most x f
+  by-kind K.Cut x f = planned-most x f
+  by-kind K.Start x f = planned-most x f
 
 pub answers-at-most : (m : Memory) (l : List ℕ) (x : Line) (f : Effect) → lineRun m l x f .count ≤ 8
 unfolding lineRun

@@ -10,7 +10,7 @@ use Rattle.entries.specs.Entries.{order}
 use Rattle.table.specs.Form.{sameBytes}
 use Rattle.model.specs.Text.{bytes}
 use Rattle.model.specs.Calls.{get, set, setif, del, keys}
-use Rattle.model.specs.Lines.{Line, cluster, elect, call, deliver, copy, lose, timeout, stop}
+use Rattle.model.specs.Lines.{Line, cluster, elect, call, deliver, copy, lose, timeout, stop, cut, start}
 use Rattle.model.specs.Parse.{number, hexDigit, pairs, hexadecimal, item, made, made2, made3, made4, lineOf1}
 use Rattle.parse.specs.declared.Kind.{Kind}
 use Rattle.parse.specs.declared.Kind.the-variants as K
@@ -129,44 +129,45 @@ with-key c f h (some s) none = refl
 with-key c f h (some s) (some k) = h s k _ _
 
 -- a line of two words, by the tests of the first
-kindBy : Bool → Bool → Bool → Bool → Bool → Kind
-kindBy p q r s t =
+kindBy : Bool → Bool → Bool → Bool → Bool → Bool → Kind
+kindBy p q r s t u =
     elim p [
       | true ↦ K.Elect
       | false ↦
           elim q [
             | true ↦ K.Deliver
             | false ↦
-                elim r [ true ↦ K.Copy | false ↦ elim s [ true ↦ K.Lose | false ↦ elim t [ true ↦ K.Stop | false ↦ K.Malformed ] ] ]
+                elim r [ true ↦ K.Copy | false ↦ elim s [ true ↦ K.Lose | false ↦ elim t [ true ↦ K.Stop | false ↦ elim u [ true ↦ K.Start | false ↦ K.Malformed ] ] ] ]
           ]
     ]
 
-lineBy : Bool → Bool → Bool → Bool → Bool → Option ℕ → Option Line
-lineBy p q r s t x =
+lineBy : Bool → Bool → Bool → Bool → Bool → Bool → Option ℕ → Option Line
+lineBy p q r s t u x =
     elim p [
       | true ↦ made elect x
       | false ↦
           elim q [
             | true ↦ made deliver x
             | false ↦
-                elim r [ true ↦ made copy x | false ↦ elim s [ true ↦ made lose x | false ↦ elim t [ true ↦ made stop x | false ↦ none ] ] ]
+                elim r [ true ↦ made copy x | false ↦ elim s [ true ↦ made lose x | false ↦ elim t [ true ↦ made stop x | false ↦ elim u [ true ↦ made start x | false ↦ none ] ] ] ]
           ]
     ]
 
-by-tests : (p q r s t : Bool) (x : Option ℕ) → numberFor (kindBy p q r s t) x ≡ keptOf (lineBy p q r s t x)
+by-tests : (p q r s t u : Bool) (x : Option ℕ) → numberFor (kindBy p q r s t u) x ≡ keptOf (lineBy p q r s t u x)
 unfolding kindBy lineBy lineFor keptLine numberFor keptOf
-by-tests true q r s t x = one-number K.Elect elect (λ n. refl) x
-by-tests false true r s t x = one-number K.Deliver deliver (λ n. refl) x
-by-tests false false true s t x = one-number K.Copy copy (λ n. refl) x
-by-tests false false false true t x = one-number K.Lose lose (λ n. refl) x
-by-tests false false false false true x = one-number K.Stop stop (λ n. refl) x
-by-tests false false false false false none = refl
-by-tests false false false false false (some n) = refl
+by-tests true q r s t u x = one-number K.Elect elect (λ n. refl) x
+by-tests false true r s t u x = one-number K.Deliver deliver (λ n. refl) x
+by-tests false false true s t u x = one-number K.Copy copy (λ n. refl) x
+by-tests false false false true t u x = one-number K.Lose lose (λ n. refl) x
+by-tests false false false false true u x = one-number K.Stop stop (λ n. refl) x
+by-tests false false false false false true x = one-number K.Start start (λ n. refl) x
+by-tests false false false false false false none = refl
+by-tests false false false false false false (some n) = refl
 
 pub number-line : (w a : List ℕ) → numberFor (kindOf1 w) (number a) ≡ keptOf (lineOf1 w a)
 unfolding kindBy lineBy kindOf1 lineOf1
 number-line w a =
-    by-tests (sameBytes w (bytes "elect")) (sameBytes w (bytes "deliver")) (sameBytes w (bytes "copy")) (sameBytes w (bytes "lose")) (sameBytes w (bytes "stop")) (number a)
+    by-tests (sameBytes w (bytes "elect")) (sameBytes w (bytes "deliver")) (sameBytes w (bytes "copy")) (sameBytes w (bytes "lose")) (sameBytes w (bytes "stop")) (sameBytes w (bytes "start")) (number a)
 
 pub cluster-line : (x y : Option ℕ) → numbersFor K.Cluster x y ≡ keptOf (made2 cluster x y)
 unfolding lineFor keptLine
@@ -175,6 +176,10 @@ cluster-line = two-numbers K.Cluster cluster (λ n m. refl)
 pub timeout-line : (x y : Option ℕ) → numbersFor K.Timeout x y ≡ keptOf (made2 timeout x y)
 unfolding lineFor keptLine
 timeout-line = two-numbers K.Timeout timeout (λ n m. refl)
+
+pub cut-line : (x y : Option ℕ) → numbersFor K.Cut x y ≡ keptOf (made2 cut x y)
+unfolding lineFor keptLine
+cut-line = two-numbers K.Cut cut (λ n m. refl)
 
 pub keys-line : (x y : Option ℕ) → numbersFor K.Keys x y ≡ keptOf (made2 (λ s n. call s (keys n)) x y)
 unfolding lineFor keptLine keptWords

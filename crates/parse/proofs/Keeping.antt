@@ -10,7 +10,7 @@ use lib.Seq.{take-all}
 use borrow.Author.Tests.{ltb-false}
 use Rattle.model.specs.Calls.{Words, get, set, setif, del, keys}
 use Rattle.model.specs.Cluster.{Cluster}
-use Rattle.model.specs.Lines.{Line, cluster, elect, call, deliver, copy, lose, timeout, stop, State, either, noServer, noBucketFor, badKey, badValue, badWords, firstOf, conditions, conditionsUpTo, inCluster, inClusterUpTo, createCluster, perform, performUpTo}
+use Rattle.model.specs.Lines.{Line, cluster, elect, call, deliver, copy, lose, timeout, stop, cut, start, State, either, noServer, noBucketFor, badKey, badValue, badWords, firstOf, conditions, conditionsUpTo, inCluster, inClusterUpTo, createCluster, perform, performUpTo}
 use Rattle.parse.specs.Kept.{kept, keptItem}
 use Rattle.parse.specs.Meaning.{keptWords, keptLine}
 
@@ -107,6 +107,8 @@ in-cluster-alike s c (copy i) = refl
 in-cluster-alike s c (lose i) = refl
 in-cluster-alike s c (timeout x b) = refl
 in-cluster-alike s c (stop x) = refl
+in-cluster-alike s c (cut i k) = refl
+in-cluster-alike s c (start x) = refl
 
 founding-alike : (s : State) (l : Line) → createCluster s (keptLine l) ≡ createCluster s l
 unfolding keptLine createCluster
@@ -118,6 +120,8 @@ founding-alike s (copy i) = refl
 founding-alike s (lose i) = refl
 founding-alike s (timeout x b) = refl
 founding-alike s (stop x) = refl
+founding-alike s (cut i k) = refl
+founding-alike s (start x) = refl
 
 pub performed : (s : State) (l : Line) → perform s (keptLine l) ≡ perform s l
 performed s l = go (s .cluster) refl

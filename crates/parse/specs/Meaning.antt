@@ -8,7 +8,7 @@ use Rattle.table.specs.Form.{sameBytes}
 use Rattle.model.specs.Text.{bytes}
 use Rattle.model.specs.Measures.{maxKeyBytes}
 use Rattle.model.specs.Calls.{Words, get, set, setif, del, keys}
-use Rattle.model.specs.Lines.{Line, cluster, elect, call, deliver, copy, lose, timeout, stop}
+use Rattle.model.specs.Lines.{Line, cluster, elect, call, deliver, copy, lose, timeout, stop, cut, start}
 use Rattle.model.specs.Parse.{number, made2}
 use Rattle.entries.specs.declared.Item.{Item}
 use Rattle.parse.specs.Kept.{kept, keptItem, keyIn, givenIn}
@@ -31,18 +31,27 @@ kindOf1 w =
                       elim (sameBytes w (bytes "lose")) [
                         | true ↦ K.Lose
                         | false ↦
-                            elim (sameBytes w (bytes "stop")) [ true ↦ K.Stop | false ↦ K.Malformed ]
+                            elim (sameBytes w (bytes "stop")) [
+                              | true ↦ K.Stop
+                              | false ↦
+                                  elim (sameBytes w (bytes "start")) [ true ↦ K.Start | false ↦ K.Malformed ]
+                            ]
                       ]
                 ]
           ]
     ]
 
--- the lines of three words that name a server and a bucket
-unfoldable pub bucketLine : List ℕ → List ℕ → List ℕ → Option Line
-bucketLine w a b =
+-- the lines of two numbers behind their first word: a server and a bucket, or a message and how many stores
+unfoldable pub twoNumbersLine : List ℕ → List ℕ → List ℕ → Option Line
+twoNumbersLine w a b =
     elim (sameBytes w (bytes "keys")) [
       | true ↦ made2 (λ s n. call s (keys n)) (number a) (number b)
-      | false ↦ elim (sameBytes w (bytes "timeout")) [ true ↦ made2 timeout (number a) (number b) | false ↦ none ]
+      | false ↦
+          elim (sameBytes w (bytes "timeout")) [
+            | true ↦ made2 timeout (number a) (number b)
+            | false ↦
+                elim (sameBytes w (bytes "cut")) [ true ↦ made2 cut (number a) (number b) | false ↦ none ]
+          ]
     ]
 
 -- the line of a kind with its numbers, key, expected value and value; what the kind does not use is not looked at
@@ -60,6 +69,8 @@ lineFor K.Copy a b k e v = some (copy a)
 lineFor K.Lose a b k e v = some (lose a)
 lineFor K.Timeout a b k e v = some (timeout a b)
 lineFor K.Stop a b k e v = some (stop a)
+lineFor K.Cut a b k e v = some (cut a b)
+lineFor K.Start a b k e v = some (start a)
 
 -- the expected value and the new value of a line that was read
 abbrev pub expectedItem : Parsed → Item
@@ -87,6 +98,8 @@ keptLine (copy i) = copy i
 keptLine (lose i) = lose i
 keptLine (timeout s b) = timeout s b
 keptLine (stop s) = stop s
+keptLine (cut i k) = cut i k
+keptLine (start s) = start s
 
 unfoldable pub keptOf : Option Line → Option Line
 keptOf none = none

@@ -34,11 +34,13 @@ pub enum Kind {
     Lose,
     Timeout,
     Stop,
+    Cut,
+    Start,
 }
 
-// A line that was read. `first` is its server, place or number of servers, `second` its bucket or number of buckets. A
-// key or value has its whole length, which may be above its room, and as many of its bytes as there is room for. Whether
-// the expected value and the value are there stands last: a flag among the arrays makes every line slower.
+// A line that was read. `first` is its server, place or number of servers, `second` its bucket, its number of buckets or
+// of stores. A key or value has its whole length, which may be above its room, and as many of its bytes as there is room
+// for. Whether the expected value and the value are there stands last: a flag among the arrays makes every line slower.
 pub struct Line {
     pub key: Key,
     pub expected: Value,

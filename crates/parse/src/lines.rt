@@ -19,7 +19,7 @@ ghost use Rattle.model.specs.Text.{bytes};
 ghost use Rattle.model.specs.Parse.{number, hexadecimal, item, words, lineOf1, lineOf2, lineOf3, lineOf4, lineOf};
 ghost use Rattle.parse.specs.Digits.{present, allThree};
 ghost use Rattle.parse.specs.Kept.{keyIn, givenIn};
-ghost use Rattle.parse.specs.Meaning.{kindOf1, bucketLine, lineFor, lineIn, keptOf, numbersFor, callFor};
+ghost use Rattle.parse.specs.Meaning.{kindOf1, twoNumbersLine, lineFor, lineIn, keptOf, numbersFor, callFor};
 
 fn blank_key() -> Key
     ensures { λ r. ⌜ keyIn r ≡ [] ⌝ }
@@ -126,6 +126,9 @@ fn kind_of_1(word: &[u8]) -> Kind
     if same_word(word, b"stop") {
         return Kind::Stop;
     }
+    if same_word(word, b"start") {
+        return Kind::Start;
+    }
     Kind::Malformed
 }
 
@@ -147,15 +150,18 @@ fn key_line(kind: Kind, server: &[u8], key: &[u8]) -> Line
     call_line(kind, server, key, b"-", b"-")
 }
 
-// A line of three words that names a server and a bucket.
-fn bucket_line(word: &[u8], a: &[u8], b: &[u8]) -> Line
-    ensures { λ r. ⌜ lineIn r ≡ keptOf (bucketLine (now (word .entry)) (now (a .entry)) (now (b .entry))) ⌝ }
+// A line of two numbers behind its first word: a server and a bucket, or a message and how many stores.
+fn two_numbers_line(word: &[u8], a: &[u8], b: &[u8]) -> Line
+    ensures { λ r. ⌜ lineIn r ≡ keptOf (twoNumbersLine (now (word .entry)) (now (a .entry)) (now (b .entry))) ⌝ }
 {
     if same_word(word, b"keys") {
         return numbers_line(Kind::Keys, a, b);
     }
     if same_word(word, b"timeout") {
         return numbers_line(Kind::Timeout, a, b);
+    }
+    if same_word(word, b"cut") {
+        return numbers_line(Kind::Cut, a, b);
     }
     malformed()
 }
@@ -172,7 +178,7 @@ fn line_of_2(word: &[u8], a: &[u8], b: &[u8]) -> Line
     if same_word(word, b"del") {
         return key_line(Kind::Del, a, b);
     }
-    bucket_line(word, a, b)
+    two_numbers_line(word, a, b)
 }
 
 fn line_of_3(word: &[u8], a: &[u8], b: &[u8], c: &[u8]) -> Line

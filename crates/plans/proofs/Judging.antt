@@ -4,7 +4,7 @@ use mathlib.Core.Bool.{Bool, true, false, true≢false}
 use mathlib.Core.List.{List}
 use native.Mathlib.Omega.{arith}
 use native.Mathlib.Nat.{min-le-left}
-use Prim.Native.Nat.{ℕ, _+_, _*_, _≤_, _<_}
+use Prim.Native.Nat.{ℕ, _+_, _*_, _≤_, _<_, min}
 use borrow.Author.Tests.{leb-false, eq-eqb, ne-eqb}
 use lib.Dec.{eqb, leb}
 use Rattle.model.specs.Measures.{maxAccepted, maxElection}
@@ -16,11 +16,12 @@ use Rattle.server.specs.Views.{among, wordsIn}
 use Rattle.memory.specs.declared.Counts.{Counts}
 use Rattle.refusals.specs.Refusals.{placesLeft, inside, messageRefusal}
 use Rattle.moves.specs.declared.Local.{Local}
+use Rattle.restarts.specs.Restarts.{cuttable}
 use Rattle.moves.specs.Reactions.{EffectNeeded}
 use Rattle.views.specs.Memory.{Memory, slotOf, localAt, tableAt}
 use Rattle.plans.specs.declared.Step.{Step}
 use Rattle.plans.specs.declared.Plan.{Plan}
-use Rattle.plans.specs.Plans.{refusedPlan, roomy, unless, electPlan, timeoutPlan, stopPlan, electAt, timeoutAt, stopAt, badLengths, callBucket, callPlan, callAt, messageStep, loseAt}
+use Rattle.plans.specs.Plans.{refusedPlan, roomy, unless, electPlan, timeoutPlan, stopPlan, startPlan, electAt, timeoutAt, stopAt, startAt, cutStep, cutPlan, cutAt, gone, badLengths, callBucket, callPlan, callAt, messageStep, loseAt}
 use Rattle.plans.specs.Arrays.{Measured, servers, Called, CallPlanned}
 
 -- ---- the effect of a plan
@@ -67,6 +68,22 @@ timeout-at-keeps m c s b f = either-keeps (inside c s b) _ _ f (timeout-keeps c 
 pub stop-at-keeps : (m : Memory) (c : Counts) (s : ℕ) (f : Effect) → stopAt m c s f .effect ≡ f
 unfolding stopAt
 stop-at-keeps m c s f = either-keeps (inside c s 0) _ _ f (stop-keeps c s _ f) refl
+
+start-keeps : (c : Counts) (s : ℕ) (l : Local) (f : Effect) → startPlan c s l f .effect ≡ f
+unfolding startPlan
+start-keeps c s l f = unless-keeps _ f _ (roomy-keeps c _)
+
+pub start-at-keeps : (m : Memory) (c : Counts) (s : ℕ) (f : Effect) → startAt m c s f .effect ≡ f
+unfolding startAt
+start-at-keeps m c s f = either-keeps (inside c s 0) _ _ f (start-keeps c s _ f) refl
+
+cut-keeps : (c : Counts) (x : Step) (k : ℕ) (m : Message) (l : Local) (f : Effect) → cutPlan c x k m l f .effect ≡ f
+unfolding cutPlan
+cut-keeps c x k m l f = either-keeps (gone c x l) _ _ f refl (either-keeps (cuttable k m l) _ _ f (roomy-keeps c _) refl)
+
+pub cut-at-keeps : (m : Memory) (c : Counts) (i k : ℕ) (f : Effect) → cutAt m c i k f .effect ≡ f
+unfolding cutAt
+cut-at-keeps m c i k f = unless-keeps _ f _ (cut-keeps c _ k _ _ f)
 
 call-keeps : (c : Counts) (s b : ℕ) (w : Words) (l : Local) (f : Effect) → callPlan c s b w l f .effect ≡ f
 unfolding callPlan
@@ -125,11 +142,17 @@ unfolding messageRefusal
 in-list c i h = leb-false _ _ (refused-or (leb maxAccepted (c .lines)) (leb (c .messages) i) h)
 
 -- the server and the bucket that a message names have a place in the arrays
-pub step-slot : (c : Counts) (i : ℕ) (removes : Bool) (m : Message) (x : Step) → x ≡ messageStep c i removes m → (x .server < 7) × (x .server * 8 + x .bucket < 56)
-step-slot c i removes m x e =
-    let s : x .server ≤ 6 = rw (ap (λ y. y .server) e) (min-le-left 6 (m .receiver)) in
-    let b : x .bucket ≤ 7 = rw (ap (λ y. y .bucket) e) (min-le-left 7 (m .bucket)) in
+receiver-slot : (x : Step) (m : Message) → x .server ≡ min 6 (m .receiver) → x .bucket ≡ min 7 (m .bucket) → (x .server < 7) × (x .server * 8 + x .bucket < 56)
+receiver-slot x m e f =
+    let s : x .server ≤ 6 = rw e (min-le-left 6 (m .receiver)) in
+    let b : x .bucket ≤ 7 = rw f (min-le-left 7 (m .bucket)) in
     (omega arith, omega arith)
+
+pub step-slot : (c : Counts) (i : ℕ) (removes : Bool) (m : Message) (x : Step) → x ≡ messageStep c i removes m → (x .server < 7) × (x .server * 8 + x .bucket < 56)
+step-slot c i removes m x e = receiver-slot x m (ap (λ y. y .server) e) (ap (λ y. y .bucket) e)
+
+pub cut-slot : (c : Counts) (i : ℕ) (m : Message) (x : Step) → x ≡ cutStep c i m → (x .server < 7) × (x .server * 8 + x .bucket < 56)
+cut-slot c i m x e = receiver-slot x m (ap (λ y. y .server) e) (ap (λ y. y .bucket) e)
 
 -- ---- calls
 

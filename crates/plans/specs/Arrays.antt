@@ -14,7 +14,7 @@ use Rattle.moves.specs.Reactions.{EffectNeeded}
 use Rattle.views.specs.Memory.{Memory, memory, slotOf, localAt, tableAt}
 use Rattle.plans.specs.declared.Step.{Step}
 use Rattle.plans.specs.declared.Plan.{Plan}
-use Rattle.plans.specs.Plans.{electAt, timeoutAt, stopAt, badLengths, callBucket, callPlan, callAt}
+use Rattle.plans.specs.Plans.{electAt, timeoutAt, stopAt, startAt, cutAt, badLengths, callBucket, callPlan, callAt}
 
 -- counts within document 01's measures
 pub record Measured (c : Counts) : Type 0 where
@@ -36,6 +36,12 @@ timeoutIn heads slots c s b f = timeoutAt (servers heads slots) c s b f
 
 abbrev pub stopIn : (heads slots : List ℕ) → Counts → ℕ → Effect → Plan
 stopIn heads slots c s f = stopAt (servers heads slots) c s f
+
+abbrev pub startIn : (heads slots : List ℕ) → Counts → ℕ → Effect → Plan
+startIn heads slots c s f = startAt (servers heads slots) c s f
+
+abbrev pub cutIn : (heads slots queue : List ℕ) → Counts → ℕ → ℕ → Effect → Plan
+cutIn heads slots queue c i k f = cutAt (memory [] heads slots [] [] [] queue []) c i k f
 
 -- ---- plans that may ask for a call's effect on its bucket's table
 

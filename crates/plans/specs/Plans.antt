@@ -19,10 +19,11 @@ use Rattle.server.specs.Views.{flagIn, among, chosen}
 use Rattle.rounds.specs.Rounds.{noVersion}
 use Rattle.memory.specs.declared.Counts.{Counts}
 use Rattle.memory.specs.Layout.{messageAt}
-use Rattle.refusals.specs.Refusals.{placesLeft, serverRefusal, inside, messageRefusal}
+use Rattle.refusals.specs.Refusals.{placesLeft, serverRefusal, startRefusal, inside, messageRefusal}
 use Rattle.moves.specs.declared.Local.{Local}
 use Rattle.moves.specs.declared.Move.{Move}
 use Rattle.moves.specs.Moves.{noRound, noCall, local, quiet, begunMove, handledMove, electedMove, timedOutMove, stoppedMove}
+use Rattle.restarts.specs.Restarts.{restartedMove, cuttable, cutMove}
 use Rattle.views.specs.Memory.{Memory, slotOf, localAt}
 use Rattle.plans.specs.declared.Step.{Step}
 use Rattle.plans.specs.declared.Plan.{Plan}
@@ -39,7 +40,7 @@ abbrev pub noMessage : Message
 noMessage = record { kind = 0; sender = 0; receiver = 0; bucket = 0; election = 0; round = 0; version = noVersion }
 
 abbrev pub noStep : Step
-noStep = record { server = 0; bucket = 0; message = 0; removes = false; asked = noMessage; copied = 0; delivered = 0; calls = 0 }
+noStep = record { server = 0; bucket = 0; message = 0; removes = false; asked = noMessage; copied = 0; delivered = 0; lost = 0; calls = 0 }
 
 abbrev pub noHead : Head
 noHead = record { number = 0; vote = 0; leader = 0; role = 0; last = 0; stopped = 0; votes = replicate 7 0 }
@@ -60,7 +61,7 @@ roomy c p = elim (placesLeft c (p .step .removes) (p .next .sends)) [ true ↦ p
 
 abbrev pub lineStep : Counts → ℕ → ℕ → Step
 lineStep c s b =
-    record { server = s; bucket = b; message = 0; removes = false; asked = noMessage; copied = 0; delivered = 0; calls = c .calls }
+    record { server = s; bucket = b; message = 0; removes = false; asked = noMessage; copied = 0; delivered = 0; lost = 0; calls = c .calls }
 
 abbrev pub movePlan : Step → Move → Effect → Plan
 movePlan x v f = record { refusal = 0; loses = false; takes = false; words = noWords; step = x; next = v; effect = f }
@@ -90,6 +91,12 @@ timeoutAt m c s b f = elim (inside c s b) [ true ↦ timeoutPlan c s b (localAt 
 unfoldable pub stopAt : Memory → Counts → ℕ → Effect → Plan
 stopAt m c s f = elim (inside c s 0) [ true ↦ stopPlan c s (localAt m s (slotOf s 0)) f | false ↦ refusedPlan 3 f ]
 
+unfoldable pub startPlan : Counts → ℕ → Local → Effect → Plan
+startPlan c s l f = unless (startRefusal c (l .head)) f (roomy c (movePlan (lineStep c s 0) (restartedMove l) f))
+
+unfoldable pub startAt : Memory → Counts → ℕ → Effect → Plan
+startAt m c s f = elim (inside c s 0) [ true ↦ startPlan c s (localAt m s (slotOf s 0)) f | false ↦ refusedPlan 3 f ]
+
 -- ---- calls
 
 -- 4, by the lengths of key, expected value and value
@@ -117,7 +124,7 @@ callBucket c w = elim (eqb (w .kind) 5) [ true ↦ w .bucket | false ↦ bucketO
 
 abbrev pub callStep : Counts → ℕ → ℕ → Step
 callStep c s b =
-    record { server = s; bucket = b; message = 0; removes = false; asked = noMessage; copied = 0; delivered = 0; calls = (c .calls + 1) % 2 ^ 32 }
+    record { server = s; bucket = b; message = 0; removes = false; asked = noMessage; copied = 0; delivered = 0; lost = 0; calls = (c .calls + 1) % 2 ^ 32 }
 
 abbrev pub takePlan : Step → Words → Move → Effect → Plan
 takePlan x w v f = record { refusal = 0; loses = false; takes = true; words = w; step = x; next = v; effect = f }
@@ -157,6 +164,7 @@ messageStep c i removes x =
       asked = x;
       copied = chosen removes 0 1;
       delivered = 1;
+      lost = 0;
       calls = c .calls;
     }
 
@@ -167,7 +175,7 @@ lostPlan c i removes f =
       loses = true;
       takes = false;
       words = noWords;
-      step = record { server = 0; bucket = 0; message = i; removes = removes; asked = noMessage; copied = chosen removes 0 1; delivered = 0; calls = c .calls };
+      step = record { server = 0; bucket = 0; message = i; removes = removes; asked = noMessage; copied = chosen removes 0 1; delivered = 0; lost = 1; calls = c .calls };
       next = noMove;
       effect = f;
     }
@@ -195,3 +203,32 @@ handAt m c i removes f =
 
 unfoldable pub loseAt : Counts → ℕ → Effect → Plan
 loseAt c i f = unless (messageRefusal c i) f (lostPlan c i true f)
+
+-- ---- a message cut short: it leaves the list and counts as lost
+
+abbrev pub cutStep : Counts → ℕ → Message → Step
+cutStep c i x =
+    record {
+      server = min 6 (x .receiver);
+      bucket = min 7 (x .bucket);
+      message = i;
+      removes = true;
+      asked = x;
+      copied = 0;
+      delivered = 0;
+      lost = 1;
+      calls = c .calls;
+    }
+
+-- 18 for a server that is not there or that is stopped, for another kind of message, and for more stores than it makes
+unfoldable pub cutPlan : Counts → Step → ℕ → Message → Local → Effect → Plan
+cutPlan c x k m l f =
+    elim (gone c x l) [
+      | true ↦ refusedPlan 18 f
+      | false ↦
+          elim (cuttable k m l) [ true ↦ roomy c (movePlan x (cutMove k m l) f) | false ↦ refusedPlan 18 f ]
+    ]
+
+unfoldable pub cutAt : Memory → Counts → ℕ → ℕ → Effect → Plan
+cutAt m c i k f =
+    unless (messageRefusal c i) f (cutPlan c (cutStep c i (messageAt (m .queue) i)) k (messageAt (m .queue) i) (receiverAt m i) f)

@@ -130,6 +130,7 @@ fn call_step(c: Counts, s: u32, b: u32) -> Step
         asked: no_message(),
         copied: 0,
         delivered: 0,
+        lost: 0,
         calls: wrapping_add_u32(c.calls, 1),
     }
 }

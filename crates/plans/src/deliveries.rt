@@ -45,6 +45,7 @@ pub fn message_step(c: Counts, i: u32, removes: bool, m: Message) -> Step
         asked: m,
         copied: chosen(removes, 0, 1),
         delivered: 1,
+        lost: 0,
         calls: c.calls,
     }
 }
@@ -60,6 +61,7 @@ fn lost_plan(c: Counts, i: u32, removes: bool, f: Effect) -> Plan
         asked: no_message(),
         copied: chosen(removes, 0, 1),
         delivered: 0,
+        lost: 1,
         calls: c.calls,
     };
     Plan {

@@ -6,6 +6,7 @@ use server::Message;
 use server::Words;
 
 pub mod calls;
+pub mod cuts;
 pub mod deliveries;
 pub mod limits;
 pub mod parts;
@@ -21,6 +22,7 @@ pub struct Step {
     pub asked: Message,
     pub copied: u32,
     pub delivered: u32,
+    pub lost: u32,
     // the calls made so far, this one included
     pub calls: u32,
 }

@@ -68,6 +68,7 @@ fn no_step() -> Step
         asked: no_message(),
         copied: 0,
         delivered: 0,
+        lost: 0,
         calls: 0,
     }
 }
@@ -114,6 +115,7 @@ pub fn no_move() -> Move
         keeps: 0,
         answer,
         ceases: false,
+        untold: false,
     }
 }
 
@@ -164,6 +166,7 @@ pub fn line_step(c: Counts, s: u32, b: u32) -> Step
         asked: no_message(),
         copied: 0,
         delivered: 0,
+        lost: 0,
         calls: c.calls,
     }
 }

@@ -1,4 +1,4 @@
-// Lines that name a server: `elect`, `timeout` and `stop`.
+// Lines that name a server: `elect`, `timeout`, `stop` and `start`.
 use crate::Plan;
 use crate::limits::roomy;
 use crate::limits::unless;
@@ -17,6 +17,8 @@ use records::slots::load_round;
 use records::slots::load_version;
 use refusals::inside;
 use refusals::server_refusal;
+use refusals::start_refusal;
+use restarts::starts::restarted_move;
 use rounds::replies::is_open;
 use server::Effect;
 use server::votes::last_number;
@@ -24,8 +26,8 @@ ghost use mathlib.Core.Path.{_≡_};
 ghost use Prim.Native.Nat.{_<_};
 ghost use Rattle.memory.specs.Layout.{serverRoom, slotRoom, headAt, versionAt, roundAt, callAt};
 ghost use Rattle.moves.specs.Moves.{local};
-ghost use Rattle.plans.specs.Plans.{electPlan, timeoutPlan, stopPlan};
-ghost use Rattle.plans.specs.Arrays.{Measured, electIn, timeoutIn, stopIn};
+ghost use Rattle.plans.specs.Plans.{electPlan, timeoutPlan, stopPlan, startPlan};
+ghost use Rattle.plans.specs.Arrays.{Measured, electIn, timeoutIn, stopIn, startIn};
 
 // The head of server s with slot k.
 pub fn load_local(heads: &[u32; 112], slots: &[u32; 1792], s: usize, k: usize) -> Local
@@ -122,6 +124,32 @@ pub fn plan_stop(heads: &[u32; 112], slots: &[u32; 1792], c: Counts, s: u32) -> 
         let at = s as usize;
         let l = load_local(heads, slots, at, at * 8);
         return stop_plan(c, s, l, f);
+    }
+    refused_plan(3, f)
+}
+
+// 5 and 18, or the start.
+fn start_plan(c: Counts, s: u32, l: Local, f: Effect) -> Plan
+    requires { ⌜ Measured c ⌝ }
+    ensures { λ r. ⌜ r ≡ startPlan c s l f ⌝ }
+{
+    let r = start_refusal(c, l.head);
+    unless(
+        r,
+        f,
+        roomy(c, move_plan(line_step(c, s, 0), restarted_move(l), f)),
+    )
+}
+
+pub fn plan_start(heads: &[u32; 112], slots: &[u32; 1792], c: Counts, s: u32) -> Plan
+    requires { ⌜ Measured c ⌝ }
+    ensures { λ r. ⌜ r ≡ startIn (now (heads .entry)) (now (slots .entry)) c s (r .effect) ⌝ }
+{
+    let f = no_effect();
+    if inside(c, s, 0) {
+        let at = s as usize;
+        let l = load_local(heads, slots, at, at * 8);
+        return start_plan(c, s, l, f);
     }
     refused_plan(3, f)
 }

@@ -3,7 +3,8 @@ use mathlib.Core.Bool.{Bool, true, false}
 use native.Mathlib.Omega.{arith}
 use Prim.Native.Nat.{ℕ, _-_, _≤_}
 use lib.Dec.{eqb}
-use Rattle.refusals.specs.Refusals.{isBroadcast, sendCount}
+use Rattle.server.specs.Views.{isBroadcast}
+use Rattle.refusals.specs.Refusals.{sendCount}
 
 few : (n : ℕ) (t u : Bool) → n ≤ 7 → elim t [ true ↦ 0 | false ↦ elim u [ true ↦ n - 1 | false ↦ 1 ] ] ≤ 7
 few n true u h = omega arith

@@ -4,7 +4,7 @@ use Prim.Native.Nat.{ℕ, _+_, _-_}
 use lib.Dec.{eqb, leb}
 use Rattle.model.specs.Measures.{maxMessages, maxAccepted}
 use Rattle.server.specs.declared.Head.{Head}
-use Rattle.server.specs.Views.{flagIn, chosen}
+use Rattle.server.specs.Views.{flagIn, chosen, isBroadcast}
 use Rattle.memory.specs.declared.Counts.{Counts}
 
 -- there are such a server and such a bucket; 3 is given where this is false
@@ -15,13 +15,13 @@ inside c s b = elim (leb (c .servers) s) [ true ↦ false | false ↦ elim (leb 
 unfoldable pub serverRefusal : Counts → Head → ℕ
 serverRefusal c h = elim (leb maxAccepted (c .lines)) [ true ↦ 5 | false ↦ elim (flagIn (h .stopped)) [ true ↦ 6 | false ↦ 0 ] ]
 
+-- 5 and 18, or 0: 6 is not given for a start
+unfoldable pub startRefusal : Counts → Head → ℕ
+startRefusal c h = elim (leb maxAccepted (c .lines)) [ true ↦ 5 | false ↦ elim (flagIn (h .stopped)) [ true ↦ 0 | false ↦ 18 ] ]
+
 -- 5 and 7, or 0
 unfoldable pub messageRefusal : Counts → ℕ → ℕ
 messageRefusal c i = elim (leb maxAccepted (c .lines)) [ true ↦ 5 | false ↦ elim (leb (c .messages) i) [ true ↦ 7 | false ↦ 0 ] ]
-
--- kinds 1, 4 and 7 go to all others
-unfoldable pub isBroadcast : ℕ → Bool
-isBroadcast kind = elim (eqb kind 1) [ true ↦ true | false ↦ elim (eqb kind 4) [ true ↦ true | false ↦ eqb kind 7 ] ]
 
 -- how many messages a step sends, by their kind, among n servers
 unfoldable pub sendCount : ℕ → ℕ → ℕ

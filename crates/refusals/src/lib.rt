@@ -1,11 +1,12 @@
-// Refusals 3, 5, 6, 7 and 12, which bear on several kinds of lines: from the counts of a cluster, 6 with a server's head, 12 with the kind of
-// message that is sent.
+// Refusals 3, 5, 6, 7 and 12, which bear on several kinds of lines, and 18 of a start: from the counts of a cluster, 6 and 18 with a
+// server's head, 12 with the kind of message that is sent.
 use memory::Counts;
 use server::Head;
+use server::kinds::is_broadcast;
 use server::numbers::chosen;
 ghost use mathlib.Core.Path.{_≡_};
 ghost use Prim.Native.Nat.{_≤_};
-ghost use Rattle.refusals.specs.Refusals.{isBroadcast, sendCount, placesLeft, serverRefusal, inside, messageRefusal};
+ghost use Rattle.refusals.specs.Refusals.{sendCount, placesLeft, serverRefusal, startRefusal, inside, messageRefusal};
 
 // 3: whether there are such a server and such a bucket.
 pub fn inside(c: Counts, s: u32, b: u32) -> bool
@@ -33,6 +34,19 @@ pub fn server_refusal(c: Counts, h: Head) -> u32
     0
 }
 
+// 5 and 18, or 0: a server that runs cannot be started.
+pub fn start_refusal(c: Counts, h: Head) -> u32
+    ensures { λ r. ⌜ r ≡ startRefusal c h ⌝ }
+{
+    if 1000000 <= c.lines {
+        return 5;
+    }
+    if h.stopped != 1 {
+        return 18;
+    }
+    0
+}
+
 // 5 and 7, or 0.
 pub fn message_refusal(c: Counts, i: u32) -> u32
     ensures { λ r. ⌜ r ≡ messageRefusal c i ⌝ }
@@ -44,19 +58,6 @@ pub fn message_refusal(c: Counts, i: u32) -> u32
         return 7;
     }
     0
-}
-
-// Kinds 1, 4 and 7 go to all others.
-pub fn is_broadcast(kind: u32) -> bool
-    ensures { λ r. ⌜ r ≡ isBroadcast kind ⌝ }
-{
-    if kind == 1 {
-        return true;
-    }
-    if kind == 4 {
-        return true;
-    }
-    kind == 7
 }
 
 // How many messages are sent among n servers.

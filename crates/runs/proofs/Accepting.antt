@@ -42,7 +42,7 @@ workOf m x r =
       sent = length (r .sends);
       copied = x .copied;
       delivered = x .delivered;
-      lost = 0;
+      lost = x .lost;
       answers = r .answers;
     }
 

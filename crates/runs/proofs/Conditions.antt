@@ -1,6 +1,6 @@
 -- How plans answer the conditions of document 01, one condition after the other, and what plans that are accepted come to.
 use mathlib.Core.Path.{_≡_, refl, sym, ap, _∙_}
-use mathlib.Core.Bool.{Bool, true, false}
+use mathlib.Core.Bool.{Bool, true, false, not}
 use mathlib.Core.List.{List, _∷_}
 use mathlib.Core.Logic.{_≢_}
 use mathlib.Core.Option.{none, some}
@@ -16,7 +16,7 @@ use Rattle.server.specs.declared.Effect.{Effect}
 use Rattle.server.specs.Views.{flagIn, chosen}
 use Rattle.memory.specs.declared.Counts.{Counts}
 use Rattle.memory.specs.Layout.{countsAt, headAt}
-use Rattle.refusals.specs.Refusals.{placesLeft, inside, serverRefusal, messageRefusal}
+use Rattle.refusals.specs.Refusals.{placesLeft, inside, serverRefusal, messageRefusal, startRefusal}
 use Rattle.moves.specs.declared.Move.{Move}
 use Rattle.views.specs.Memory.{Memory, serverAt, clusterAt}
 use Rattle.views.specs.Queue.{flight}
@@ -106,6 +106,17 @@ unless-server c h f p =
       | false ↦ elim stopped as (λ z. unless (elim z [ true ↦ 6 | false ↦ 0 ]) f p ≡ refusing 6 z f p) [ true ↦ refl | false ↦ refl ]
     ]
 
+unless-start : (c : Counts) (h : Head) (f : Effect) (p : Plan)
+    → unless (startRefusal c h) f p ≡ refusing 5 (leb maxAccepted (c .lines)) f (refusing 18 (not (flagIn (h .stopped))) f p)
+unfolding unless startRefusal
+unless-start c h f p =
+    let stopped = flagIn (h .stopped) in
+    elim (leb maxAccepted (c .lines)) as
+    (λ z. unless (elim z [ true ↦ 5 | false ↦ elim stopped [ true ↦ 0 | false ↦ 18 ] ]) f p ≡ refusing 5 z f (refusing 18 (not stopped) f p)) [
+      | true ↦ refl
+      | false ↦ elim stopped as (λ z. unless (elim z [ true ↦ 0 | false ↦ 18 ]) f p ≡ refusing 18 (not z) f p) [ true ↦ refl | false ↦ refl ]
+    ]
+
 unless-message : (c : Counts) (i : ℕ) (f : Effect) (p : Plan)
     → unless (messageRefusal c i) f p ≡ refusing 5 (leb maxAccepted (c .lines)) f (refusing 7 (leb (c .messages) i) f p)
 unfolding unless messageRefusal
@@ -168,6 +179,17 @@ module _ (m : Memory) (l : List ℕ) (t : lines.Tally) (f : Effect) (rest : List
       (condition-judged m l t (countsIn m) 5 (leb maxAccepted (countsIn m .lines)) _ w _ f (λ z. omega arith)
       (λ a. condition-judged m l t (countsIn m) 6 (flagIn (headAt (m .heads) s .stopped)) rest w p f (λ z. omega arith)
       (λ b. e (unfold serverRefusal in rw (serverRefusal, a, b)))))
+
+  -- 5 and 18
+  pub start-judged : (s : ℕ) → s < countsIn m .servers
+      → judged (stateIn m t) rest w ≡ planned m l t (countsIn m) f p
+      → judged (stateIn m t) (lines.when 5 (lines.limitReached (clusterAt m)) ∷ lines.when 18 (not (lines.stoppedAt (clusterAt m) s)) ∷ rest) w
+      ≡ planned m l t (countsIn m) f (unless (startRefusal (countsIn m) (headAt (m .heads) s)) f p)
+  unfolding lines.limitReached
+  start-judged s h e =
+      rw (stopped-seen m s h, unless-start)
+      (condition-judged m l t (countsIn m) 5 (leb maxAccepted (countsIn m .lines)) _ w _ f (λ z. omega arith)
+      (λ a. condition-judged m l t (countsIn m) 18 (not (flagIn (headAt (m .heads) s .stopped))) rest w p f (λ z. omega arith) (λ b. e)))
 
   -- 5 and 7
   pub message-judged : (i : ℕ)

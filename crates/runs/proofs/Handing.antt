@@ -58,25 +58,25 @@ apart-several (suc (suc n)) p q h j d = omega arith
 -- ---- a message in flight
 
 module _ {m : Memory} {l : List ℕ} {t : lines.Tally} (ready : Ready m l t) (i : ℕ) (here : i < countsAt (m .counts) .messages) where
-  abbrev n : ℕ
+  abbrev pub n : ℕ
   n = countsAt (m .counts) .servers
 
-  abbrev most : ℕ
+  abbrev pub most : ℕ
   most = countsAt (m .counts) .buckets
 
-  abbrev asked : Message
+  abbrev pub asked : Message
   asked = messageAt (m .queue) i
 
-  abbrev message : cluster.Message
+  abbrev pub message : cluster.Message
   message = messageIn asked (tableAt (m .loads) i)
 
   sound : Sound (flight (m .queue) (m .loads) (countsAt (m .counts) .messages))
   sound = record { queue = ready .sized .queue; loads = ready .sized .loads; count = measured ready .messages }
 
-  message-there : lines.messageAt (clusterAt m) i ≡ message
+  pub message-there : lines.messageAt (clusterAt m) i ≡ message
   message-there = message-at (flight (m .queue) (m .loads) (countsAt (m .counts) .messages)) i _ sound here
 
-  message-within : MessageWithin n most (limitsAfter (countsAt (m .counts) .lines) (countsAt (m .counts) .calls)) message
+  pub message-within : MessageWithin n most (limitsAfter (countsAt (m .counts) .lines) (countsAt (m .counts) .calls)) message
   message-within =
       let c = countsAt (m .counts) in
       let size = length-flight (flight (m .queue) (m .loads) (c .messages)) in
@@ -85,16 +85,16 @@ module _ {m : Memory} {l : List ℕ} {t : lines.Tally} (ready : Ready m l t) (i 
   -- ---- its receiver s
 
   module _ (removes : Bool) (s : ℕ) (to : s ≡ asked .receiver) where
-    abbrev server : cluster.Server
+    abbrev pub server : cluster.Server
     server = serverAt n most m s
 
-    mine : s < n
+    pub mine : s < n
     mine = omega (arith, message-within .receiver)
 
-    receiver-there : lines.serverAt (clusterAt m) (asked .receiver) ≡ server
+    pub receiver-there : lines.serverAt (clusterAt m) (asked .receiver) ≡ server
     receiver-there = ap (λ q. lines.serverAt (clusterAt m) q) (sym to) ∙ server-stands m s mine
 
-    receiver-stopped : lines.stoppedAt (clusterAt m) (asked .receiver) ≡ flagIn (headAt (m .heads) s .stopped)
+    pub receiver-stopped : lines.stoppedAt (clusterAt m) (asked .receiver) ≡ flagIn (headAt (m .heads) s .stopped)
     receiver-stopped = ap (λ q. lines.stoppedAt (clusterAt m) q) (sym to) ∙ stopped-seen m s mine
 
     abbrev kept : List cluster.Message
@@ -119,7 +119,7 @@ module _ {m : Memory} {l : List ℕ} {t : lines.Tally} (ready : Ready m l t) (i 
 
       abbrev stepAt : ℕ → Step
       stepAt q =
-          record { server = q; bucket = b; message = i; removes = removes; asked = asked; copied = chosen removes 0 1; delivered = 1; calls = countsAt (m .counts) .calls }
+          record { server = q; bucket = b; message = i; removes = removes; asked = asked; copied = chosen removes 0 1; delivered = 1; lost = 0; calls = countsAt (m .counts) .calls }
 
       abbrev step : Step
       step = stepAt s

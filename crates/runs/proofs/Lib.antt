@@ -10,6 +10,7 @@ pub mod LineRuns
 pub mod Resting
 pub mod Filling
 pub mod Handing
+pub mod Cutting
 pub mod Wording
 pub mod Calling
 pub mod LineMeans

@@ -21,8 +21,9 @@ use Rattle.runs.specs.Meaning.{stateIn, performed, resultOf, WholeLine}
 use Rattle.runs.proofs.Accepting.{Ready}
 use Rattle.runs.proofs.Standing.{standing-cluster, no-cluster}
 use Rattle.runs.proofs.Fresh.{created-means, second-cluster}
-use Rattle.runs.proofs.LineRuns.{elect-runs, timeout-runs, stop-runs, lose-runs}
+use Rattle.runs.proofs.LineRuns.{elect-runs, timeout-runs, stop-runs, start-runs, lose-runs}
 use Rattle.runs.proofs.Handing.{hand-runs}
+use Rattle.runs.proofs.Cutting.{cut-runs}
 use Rattle.runs.proofs.Wording.{get-said, set-said, setif-said, del-said, keys-said}
 use Rattle.runs.proofs.Calling.{call-runs}
 
@@ -66,6 +67,8 @@ module _ (m : Memory) (l : List ℕ) (t : lines.Tally) (x : Line) (f : Effect) w
     standing-means K.Lose e g = by-plan K.Lose e (lose-runs m l t f ready (x .first))
     standing-means K.Timeout e g = by-plan K.Timeout e (timeout-runs m l t f ready (x .first) (x .second))
     standing-means K.Stop e g = by-plan K.Stop e (stop-runs m l t f ready (x .first))
+    standing-means K.Cut e g = by-plan K.Cut e (cut-runs m l t ready (x .first) (x .second) f)
+    standing-means K.Start e g = by-plan K.Start e (start-runs m l t f ready (x .first))
 
   -- ---- where none does
 
@@ -90,6 +93,8 @@ module _ (m : Memory) (l : List ℕ) (t : lines.Tally) (x : Line) (f : Effect) w
     bare-means K.Lose = two _ refl
     bare-means K.Timeout = two _ refl
     bare-means K.Stop = two _ refl
+    bare-means K.Cut = two _ refl
+    bare-means K.Start = two _ refl
 
 -- every line, on arrays of the lent sizes that stand for a state within the measures
 pub line-means : (m : Memory) (l : List ℕ) (t : lines.Tally) (x : Line) (f : Effect) → Sized m → length l ≡ 32 → WholeLine x → Measured (clusterIn m) t

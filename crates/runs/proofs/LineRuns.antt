@@ -1,4 +1,4 @@
--- Elections, timeouts, stops and lost messages: the run of such a line is what document 01 makes of it.
+-- Elections, timeouts, stops, starts and lost messages: the run of such a line is what document 01 makes of it.
 use mathlib.Core.Path.{_≡_, refl, sym, ap, ap₂, _∙_}
 use mathlib.Core.Bool.{Bool, true, false, not}
 use mathlib.Core.List.{List, [], _∷_}
@@ -20,12 +20,14 @@ use Rattle.memory.specs.Layout.{countsAt, headAt, roundAt}
 use Rattle.refusals.specs.Refusals.{inside}
 use Rattle.moves.specs.declared.Move.{Move}
 use Rattle.moves.specs.Moves.{electedMove, timedOutMove, stoppedMove}
+use Rattle.restarts.specs.Restarts.{restartedMove}
 use Rattle.moves.proofs.LineMoves.{elected-means, timed-out-means, stopped-means}
+use Rattle.restarts.proofs.Starting.{restarted-means}
 use Rattle.views.specs.Memory.{Memory, WholeLocal, slotOf, localAt, clusterAt}
 use Rattle.views.proofs.Seen.{length-servers, larger-there, round-there, server-seen}
-use Rattle.views.proofs.Whole.{whole-at, whole-electedMove, whole-timedOut, whole-stopped}
+use Rattle.views.proofs.Whole.{whole-at, whole-electedMove, whole-timedOut, whole-stopped, whole-restarted}
 use Rattle.plans.specs.declared.Plan.{Plan}
-use Rattle.plans.specs.Plans.{refusedPlan, lineStep, movePlan, roomy, electPlan, timeoutPlan, stopPlan, electAt, timeoutAt, stopAt, loseAt}
+use Rattle.plans.specs.Plans.{refusedPlan, lineStep, movePlan, roomy, electPlan, timeoutPlan, stopPlan, startPlan, electAt, timeoutAt, stopAt, startAt, loseAt}
 use Rattle.runs.specs.Runs.{executed}
 use Rattle.runs.specs.Meaning.{stateIn, resultOf}
 use Rattle.runs.proofs.Accepting.{Ready, Possible, reactionOf}
@@ -40,6 +42,7 @@ use Rattle.runs.proofs.Conditions.{
   server-stands,
   place-judged,
   server-judged,
+  start-judged,
   message-judged,
   moved-run,
   lost-run,
@@ -155,6 +158,21 @@ module _ (m : Memory) (l : List ℕ) (t : lines.Tally) (f : Effect) (ready : Rea
   stop-runs s =
       ready-perform ready (lines.stop s)
       ∙ server-named m l t f _ _ s _ (measured ready .someBuckets) (λ h k. server-judged m l t f [] _ _ s h (λ taken. stop-moves s h k))
+
+  start-moves : (s : ℕ) → s < countsIn m .servers → 0 < countsIn m .buckets
+      → judged (stateIn m t) [] (lines.work (clusterAt m) (lines.start s))
+      ≡ planned m l t (countsIn m) f (roomy (countsIn m) (movePlan (lineStep (countsIn m) s 0) (restartedMove (localAt m s (slotOf s 0))) f))
+  unfolding lines.work restartedMove
+  start-moves s h k =
+      let n = countsIn m .servers in
+      line-moves s 0 _ _ h k (whole-restarted _ (whole-at m s (slotOf s 0))) refl
+      (ap (λ x. reaction (lines.restarted x) [] []) (server-stands m s h) ∙ restarted-means n s 0 _ _ _ _ _ _ _ (server-seen n (countsIn m .buckets) m s 0 k))
+
+  pub start-runs : (s : ℕ) → lines.perform (stateIn m t) (lines.start s) ≡ resultOf t (executed m l (countsAt (m .counts)) (startAt m (countsAt (m .counts)) s f)) f
+  unfolding lines.conditionsUpTo startAt startPlan
+  start-runs s =
+      ready-perform ready (lines.start s)
+      ∙ server-named m l t f _ _ s _ (measured ready .someBuckets) (λ h k. start-judged m l t f [] _ _ s h (start-moves s h k))
 
 -- ---- a message that is lost
 

@@ -27,7 +27,7 @@ use Rattle.views.specs.Queue.{Flight, flight, withoutMessage, sent}
 use Rattle.plans.specs.declared.Step.{Step}
 use Rattle.plans.specs.declared.Plan.{Plan}
 use Rattle.plans.specs.Arrays.{askedAt}
-use Rattle.plans.specs.Plans.{badLengths, noKey, noWords, refusedPlan, callBucket, messageStep, gone, receiverAt, electAt, timeoutAt, stopAt, callAt, handAt, loseAt}
+use Rattle.plans.specs.Plans.{badLengths, noKey, noWords, refusedPlan, callBucket, messageStep, gone, receiverAt, electAt, timeoutAt, stopAt, startAt, callAt, handAt, loseAt, cutAt}
 use Rattle.parse.specs.declared.Kind.{Kind}
 use Rattle.parse.specs.declared.Kind.the-variants as K
 use Rattle.parse.specs.declared.Line.{Line}
@@ -120,7 +120,7 @@ carriedRun m l c x v made =
       sent = sendCount (c .servers) (v .sends);
       copied = x .copied;
       delivered = x .delivered;
-      lost = 0;
+      lost = x .lost;
       messages = y .count;
     }
 
@@ -183,6 +183,8 @@ wordsOf K.Copy x = noWords
 wordsOf K.Lose x = noWords
 wordsOf K.Timeout x = noWords
 wordsOf K.Stop x = noWords
+wordsOf K.Cut x = noWords
+wordsOf K.Start x = noWords
 
 unfoldable pub linePlan : Kind → Memory → Counts → Line → Effect → Plan
 linePlan K.Malformed m c x f = refusedPlan 1 f
@@ -198,6 +200,8 @@ linePlan K.Copy m c x f = handAt m c (x .first) false f
 linePlan K.Lose m c x f = loseAt c (x .first) f
 linePlan K.Timeout m c x f = timeoutAt m c (x .first) (x .second) f
 linePlan K.Stop m c x f = stopAt m c (x .first) f
+linePlan K.Cut m c x f = cutAt m c (x .first) (x .second) f
+linePlan K.Start m c x f = startAt m c (x .first) f
 
 -- 2: no cluster yet
 unfoldable pub plannedRun : Memory → List ℕ → Line → Effect → Ran
@@ -219,6 +223,8 @@ runBy K.Copy m l x f = plannedRun m l x f
 runBy K.Lose m l x f = plannedRun m l x f
 runBy K.Timeout m l x f = plannedRun m l x f
 runBy K.Stop m l x f = plannedRun m l x f
+runBy K.Cut m l x f = plannedRun m l x f
+runBy K.Start m l x f = plannedRun m l x f
 
 unfoldable pub lineRun : Memory → List ℕ → Line → Effect → Ran
 lineRun m l x f = runBy (x .kind) m l x f
@@ -252,3 +258,5 @@ EffectOf K.Copy m c x f = HandEffect m c (x .first) f
 EffectOf K.Lose m c x f = Unit {0}
 EffectOf K.Timeout m c x f = Unit {0}
 EffectOf K.Stop m c x f = Unit {0}
+EffectOf K.Cut m c x f = Unit {0}
+EffectOf K.Start m c x f = Unit {0}

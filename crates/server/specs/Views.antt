@@ -49,6 +49,10 @@ purposeIn x =
 unfoldable pub among : ℕ → ℕ → Bool
 among top x = elim (leb 1 x) [ true ↦ leb x top | false ↦ false ]
 
+-- kinds 1, 4 and 7 go to all others
+unfoldable pub isBroadcast : ℕ → Bool
+isBroadcast kind = elim (eqb kind 1) [ true ↦ true | false ↦ elim (eqb kind 4) [ true ↦ true | false ↦ eqb kind 7 ] ]
+
 -- the first number, or the second
 unfoldable pub chosen : Bool → ℕ → ℕ → ℕ
 chosen b x y = elim b [ true ↦ x | false ↦ y ]

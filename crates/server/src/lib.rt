@@ -4,6 +4,7 @@ use entries::Item;
 use entries::Key;
 use entries::Value;
 
+pub mod kinds;
 pub mod numbers;
 pub mod votes;
 

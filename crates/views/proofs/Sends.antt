@@ -15,9 +15,9 @@ use Rattle.model.specs.Cluster as cluster
 use Rattle.model.specs.Leader.{below, without, broadcast}
 use Rattle.model.proofs.Broadcasts.{without-skips, without-takes, length-others}
 use Rattle.server.specs.declared.Message.{Message}
-use Rattle.server.specs.Views.{versionIn, chosen}
+use Rattle.server.specs.Views.{versionIn, chosen, isBroadcast}
 use Rattle.memory.specs.Layout.{contentAt}
-use Rattle.refusals.specs.Refusals.{isBroadcast, sendCount}
+use Rattle.refusals.specs.Refusals.{sendCount}
 use Rattle.moves.specs.declared.Move.{Move}
 use Rattle.moves.specs.Reactions.{Tables, workAfter, copyAfter, messageIn, Asked, askedIn, bodyIn, sendsIn}
 use Rattle.views.specs.Memory.{tableAt}
@@ -113,7 +113,7 @@ kinds P p0 p1 p4 p7 other k = zeroth (eqb k 0) refl
 -- a move that sends kind k instead
 abbrev sendingKind : ℕ → Move → Move
 sendingKind k v =
-    record { local = v .local; sends = k; written = v .written; fills = v .fills; keeps = v .keeps; answer = v .answer; ceases = v .ceases }
+    record { local = v .local; sends = k; written = v .written; fills = v .fills; keeps = v .keeps; answer = v .answer; ceases = v .ceases; untold = v .untold }
 
 length-broadcast : (n me c e r : ℕ) (body : cluster.Body) → me < n → length (broadcast n me c e r body) ≡ n - 1
 unfolding broadcast

@@ -54,6 +54,7 @@ use Rattle.moves.specs.Moves.{
   timedOutMove,
   stoppedMove,
 }
+use Rattle.restarts.specs.Restarts.{restartedMove, votesBy, cutHead, cutMove}
 use Rattle.views.specs.Memory.{Memory, WholeLocal, localAt}
 
 -- what holds of both cases
@@ -218,6 +219,14 @@ whole-electedMove n me l w = record { votes = whole-elected n me (l .head); mark
 
 pub whole-timedOut : (l : Local) → WholeLocal l → WholeLocal (timedOutMove l .local)
 whole-timedOut l w = whole-ceasing (quiet l) w
+
+pub whole-restarted : (l : Local) → WholeLocal l → WholeLocal (restartedMove l .local)
+unfolding restartedMove
+whole-restarted l w = record { votes = refl; marks = w .marks }
+
+pub whole-cut : (k : ℕ) (m : Message) (l : Local) → WholeLocal l → WholeLocal (cutMove k m l .local)
+unfolding cutMove cutHead
+whole-cut k m l w = record { votes = either WholeHead (votesBy k m (l .head)) _ _ (w .votes) (w .votes); marks = w .marks }
 
 pub whole-stopped : (l : Local) → WholeLocal l → WholeLocal (stoppedMove l .local)
 whole-stopped l w = record { votes = w .votes; marks = w .marks }

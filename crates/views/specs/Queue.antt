@@ -8,9 +8,8 @@ use lib.ListN.{length}
 use Rattle.blocks.specs.Blocks.{block}
 use Rattle.model.specs.Cluster as cluster
 use Rattle.server.specs.declared.Message.{Message}
-use Rattle.server.specs.Views.{chosen}
+use Rattle.server.specs.Views.{chosen, isBroadcast}
 use Rattle.memory.specs.Layout.{messageSize, contentSize, putMessage, putContent}
-use Rattle.refusals.specs.Refusals.{isBroadcast}
 use Rattle.messages.specs.Messages.{closedUp}
 use Rattle.moves.specs.declared.Move.{Move}
 use Rattle.views.specs.Memory.{flightAt}

@@ -6,24 +6,28 @@ use borrow.Author.Needs.{needs}
 use Rattle.answers.proofs.answer.Statement.{statement}
 use Rattle.answers.proofs.answer.Tie as tie
 
+returns : tie.Need-returns
+unfolding answered
+returns c = record { is = rw (answered, c .before .if1 .taken, c .if2 .taken); few = omega arith }
+
 end-calls-requires : tie.Need-end-calls-requires
 end-calls-requires c κs = search needs
 
-returns : tie.Need-returns
-unfolding answered
-returns c = rw (answered, c .before .before .if1 .taken) (c .end-calls .ensures)
-
 returns-2 : tie.Need-returns-2
 unfolding answered
-returns-2 c = record { is = rw (answered, c .before .before .if1 .left, eq-eqb _ _ (c .if2 .taken)); few = omega arith }
+returns-2 c = rw (answered, c .before .before .before .if1 .taken, c .before .before .if2 .left) (c .end-calls .ensures)
+
+returns-3 : tie.Need-returns-3
+unfolding answered
+returns-3 c = record { is = rw (answered, c .before .before .if1 .left, eq-eqb _ _ (c .if3 .taken)); few = omega arith }
 
 put-answer-requires : tie.Need-put-answer-requires
 put-answer-requires c κs = search needs
 
-returns-3 : tie.Need-returns-3
+returns-4 : tie.Need-returns-4
 unfolding answered
-returns-3 c = record { is = rw (c .put-answer .ensures, answered, c .before .before .before .before .if1 .left, ne-eqb _ _ (c .before .before .if2 .left)); few = omega arith }
+returns-4 c = record { is = rw (c .put-answer .ensures, answered, c .before .before .before .before .if1 .left, ne-eqb _ _ (c .before .before .if3 .left)); few = omega arith }
 
 pub answer-spec : {M : Type 1} → statement M
 answer-spec =
-    tie.close (tie.spec end-calls-requires returns returns-2 put-answer-requires returns-3)
+    tie.close (tie.spec returns end-calls-requires returns-2 returns-3 put-answer-requires returns-4)

@@ -1,5 +1,5 @@
 -- `lines::plan_line` meets its contract: kind by kind.
-use Rattle.machine.proofs.Planning.{malformed-planned, cluster-planned, elect-planned, timeout-planned, stop-planned, lose-planned, get-planned, set-planned, setif-planned, del-planned, keys-planned, deliver-unplanned, copy-unplanned}
+use Rattle.machine.proofs.Planning.{malformed-planned, cluster-planned, elect-planned, timeout-planned, stop-planned, cut-planned, start-planned, lose-planned, get-planned, set-planned, setif-planned, del-planned, keys-planned, deliver-unplanned, copy-unplanned}
 use borrow.Author.Needs.{needs}
 use Rattle.machine.proofs.lines.plan_line.Statement.{statement}
 use Rattle.machine.proofs.lines.plan_line.Tie as tie
@@ -97,6 +97,18 @@ enum-told-13 c = search needs
 plan-stop-requires : tie.Need-plan-stop-requires
 plan-stop-requires c κs = search needs
 
+enum-told-14 : tie.Need-enum-told-14
+enum-told-14 c = search needs
+
+plan-cut-requires : tie.Need-plan-cut-requires
+plan-cut-requires c κs = search needs
+
+enum-told-15 : tie.Need-enum-told-15
+enum-told-15 c = search needs
+
+plan-start-requires : tie.Need-plan-start-requires
+plan-start-requires c κs = search needs
+
 returns : tie.Need-returns
 returns c = malformed-planned _ _ _ _ _ _ _ _ _ (c .before .before .enum-told .given .1) (c .refused-plan .ensures)
 
@@ -136,6 +148,12 @@ returns-12 c = timeout-planned _ _ _ _ _ _ _ _ (c .before .enum-told12 .given .1
 returns-13 : tie.Need-returns-13
 returns-13 c = stop-planned _ _ _ _ _ _ _ _ (c .before .enum-told13 .given .1) (c .plan-stop .ensures)
 
+returns-14 : tie.Need-returns-14
+returns-14 c = cut-planned _ _ _ _ _ _ _ _ (c .before .enum-told14 .given .1) (c .plan-cut .ensures)
+
+returns-15 : tie.Need-returns-15
+returns-15 c = start-planned _ _ _ _ _ _ _ _ (c .before .enum-told15 .given .1) (c .plan-start .ensures)
+
 pub plan-line-spec : {M : Type 1} → statement M
 plan-line-spec =
     tie.close
@@ -171,6 +189,10 @@ plan-line-spec =
     plan-timeout-requires
     enum-told-13
     plan-stop-requires
+    enum-told-14
+    plan-cut-requires
+    enum-told-15
+    plan-start-requires
     returns
     returns-2
     returns-3
@@ -183,4 +205,6 @@ plan-line-spec =
     returns-10
     returns-11
     returns-12
-    returns-13)
+    returns-13
+    returns-14
+    returns-15)

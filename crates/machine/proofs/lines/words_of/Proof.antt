@@ -89,6 +89,18 @@ enum-told-13 c = search needs
 no-words-requires-8 : tie.Need-no-words-requires-8
 no-words-requires-8 c κs = search needs
 
+enum-told-14 : tie.Need-enum-told-14
+enum-told-14 c = search needs
+
+no-words-requires-9 : tie.Need-no-words-requires-9
+no-words-requires-9 c κs = search needs
+
+enum-told-15 : tie.Need-enum-told-15
+enum-told-15 c = search needs
+
+no-words-requires-10 : tie.Need-no-words-requires-10
+no-words-requires-10 c κs = search needs
+
 returns : tie.Need-returns
 unfolding wordsOf
 returns c = c .no-words .ensures ∙ sym (ap (λ k. wordsOf k (c .before .before .before .before .before .before .before .args .line)) (c .before .enum-told .given .1))
@@ -141,6 +153,14 @@ returns-13 : tie.Need-returns-13
 unfolding wordsOf
 returns-13 c = c .no-words8 .ensures ∙ sym (ap (λ k. wordsOf k (c .before .before .before .before .before .before .before .args .line)) (c .before .enum-told13 .given .1))
 
+returns-14 : tie.Need-returns-14
+unfolding wordsOf
+returns-14 c = c .no-words9 .ensures ∙ sym (ap (λ k. wordsOf k (c .before .before .before .before .before .before .before .args .line)) (c .before .enum-told14 .given .1))
+
+returns-15 : tie.Need-returns-15
+unfolding wordsOf
+returns-15 c = c .no-words10 .ensures ∙ sym (ap (λ k. wordsOf k (c .before .before .before .before .before .before .before .args .line)) (c .before .enum-told15 .given .1))
+
 pub words-of-spec : {M : Type 1} → statement M
 words-of-spec =
     tie.close
@@ -173,6 +193,10 @@ words-of-spec =
     no-words-requires-7
     enum-told-13
     no-words-requires-8
+    enum-told-14
+    no-words-requires-9
+    enum-told-15
+    no-words-requires-10
     returns
     returns-2
     returns-3
@@ -185,4 +209,6 @@ words-of-spec =
     returns-10
     returns-11
     returns-12
-    returns-13)
+    returns-13
+    returns-14
+    returns-15)

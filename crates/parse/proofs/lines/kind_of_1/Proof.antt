@@ -56,9 +56,19 @@ returns-5 : tie.Need-returns-5
 unfolding kindOf1 bytes
 returns-5 c = rw (kindOf1, sym (c .before .before .before .before .before .before .before .before .before .before .before .before .before .same-word .ensures) ∙ c .before .before .before .before .before .before .before .before .before .before .before .before .if1 .left, sym (c .before .before .before .before .before .before .before .before .before .before .same-word2 .ensures) ∙ c .before .before .before .before .before .before .before .before .before .if2 .left, sym (c .before .before .before .before .before .before .before .same-word3 .ensures) ∙ c .before .before .before .before .before .before .if3 .left, sym (c .before .before .before .before .same-word4 .ensures) ∙ c .before .before .before .if4 .left, sym (c .before .same-word5 .ensures) ∙ c .if5 .taken)
 
+slice-aggregate-same-word-6 : tie.Need-slice-aggregate-same-word-6
+slice-aggregate-same-word-6 c = search needs
+
+same-word-requires-6 : tie.Need-same-word-requires-6
+same-word-requires-6 c κs = search needs
+
 returns-6 : tie.Need-returns-6
 unfolding kindOf1 bytes
-returns-6 c = rw (kindOf1, sym (c .before .before .before .before .before .before .before .before .before .before .before .before .before .same-word .ensures) ∙ c .before .before .before .before .before .before .before .before .before .before .before .before .if1 .left, sym (c .before .before .before .before .before .before .before .before .before .before .same-word2 .ensures) ∙ c .before .before .before .before .before .before .before .before .before .if2 .left, sym (c .before .before .before .before .before .before .before .same-word3 .ensures) ∙ c .before .before .before .before .before .before .if3 .left, sym (c .before .before .before .before .same-word4 .ensures) ∙ c .before .before .before .if4 .left, sym (c .before .same-word5 .ensures) ∙ c .if5 .left)
+returns-6 c = rw (kindOf1, sym (c .before .before .before .before .before .before .before .before .before .before .before .before .before .before .before .before .same-word .ensures) ∙ c .before .before .before .before .before .before .before .before .before .before .before .before .before .before .before .if1 .left, sym (c .before .before .before .before .before .before .before .before .before .before .before .before .before .same-word2 .ensures) ∙ c .before .before .before .before .before .before .before .before .before .before .before .before .if2 .left, sym (c .before .before .before .before .before .before .before .before .before .before .same-word3 .ensures) ∙ c .before .before .before .before .before .before .before .before .before .if3 .left, sym (c .before .before .before .before .before .before .before .same-word4 .ensures) ∙ c .before .before .before .before .before .before .if4 .left, sym (c .before .before .before .before .same-word5 .ensures) ∙ c .before .before .before .if5 .left, sym (c .before .same-word6 .ensures) ∙ c .if6 .taken)
+
+returns-7 : tie.Need-returns-7
+unfolding kindOf1 bytes
+returns-7 c = rw (kindOf1, sym (c .before .before .before .before .before .before .before .before .before .before .before .before .before .before .before .before .same-word .ensures) ∙ c .before .before .before .before .before .before .before .before .before .before .before .before .before .before .before .if1 .left, sym (c .before .before .before .before .before .before .before .before .before .before .before .before .before .same-word2 .ensures) ∙ c .before .before .before .before .before .before .before .before .before .before .before .before .if2 .left, sym (c .before .before .before .before .before .before .before .before .before .before .same-word3 .ensures) ∙ c .before .before .before .before .before .before .before .before .before .if3 .left, sym (c .before .before .before .before .before .before .before .same-word4 .ensures) ∙ c .before .before .before .before .before .before .if4 .left, sym (c .before .before .before .before .same-word5 .ensures) ∙ c .before .before .before .if5 .left, sym (c .before .same-word6 .ensures) ∙ c .if6 .left)
 
 pub kind-of-1-spec : {M : Type 1} → statement M
 kind-of-1-spec =
@@ -79,4 +89,7 @@ kind-of-1-spec =
     slice-aggregate-same-word-5
     same-word-requires-5
     returns-5
-    returns-6)
+    slice-aggregate-same-word-6
+    same-word-requires-6
+    returns-6
+    returns-7)

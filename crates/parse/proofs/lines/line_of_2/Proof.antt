@@ -2,7 +2,7 @@
 use mathlib.Core.Path.{sym, _∙_}
 use Rattle.model.specs.Text.{bytes}
 use Rattle.model.specs.Parse.{lineOf2}
-use Rattle.parse.specs.Meaning.{bucketLine}
+use Rattle.parse.specs.Meaning.{twoNumbersLine}
 use Rattle.parse.proofs.Forms.{cluster-line, get-line, del-line}
 use borrow.Author.Needs.{needs}
 use Rattle.parse.proofs.lines.line_of_2.Statement.{statement}
@@ -47,12 +47,12 @@ returns-3 : tie.Need-returns-3
 unfolding lineOf2 bytes
 returns-3 c = c .key-line2 .ensures ∙ del-line _ _ ∙ rw (lineOf2, sym (c .before .before .before .before .before .before .before .before .same-word .ensures) ∙ c .before .before .before .before .before .before .before .if1 .left, sym (c .before .before .before .before .before .same-word2 .ensures) ∙ c .before .before .before .before .if2 .left, sym (c .before .before .same-word3 .ensures) ∙ c .before .if3 .taken)
 
-bucket-line-requires : tie.Need-bucket-line-requires
-bucket-line-requires c κs = search needs
+two-numbers-line-requires : tie.Need-two-numbers-line-requires
+two-numbers-line-requires c κs = search needs
 
 returns-4 : tie.Need-returns-4
-unfolding bucketLine lineOf2 bytes
-returns-4 c = c .bucket-line .ensures ∙ rw (lineOf2, sym (c .before .before .before .before .before .before .before .before .same-word .ensures) ∙ c .before .before .before .before .before .before .before .if1 .left, sym (c .before .before .before .before .before .same-word2 .ensures) ∙ c .before .before .before .before .if2 .left, sym (c .before .before .same-word3 .ensures) ∙ c .before .if3 .left)
+unfolding twoNumbersLine lineOf2 bytes
+returns-4 c = c .two-numbers-line .ensures ∙ rw (lineOf2, sym (c .before .before .before .before .before .before .before .before .same-word .ensures) ∙ c .before .before .before .before .before .before .before .if1 .left, sym (c .before .before .before .before .before .same-word2 .ensures) ∙ c .before .before .before .before .if2 .left, sym (c .before .before .same-word3 .ensures) ∙ c .before .if3 .left)
 
 pub line-of-2-spec : {M : Type 1} → statement M
 line-of-2-spec =
@@ -70,5 +70,5 @@ line-of-2-spec =
     same-word-requires-3
     key-line-requires-2
     returns-3
-    bucket-line-requires
+    two-numbers-line-requires
     returns-4)

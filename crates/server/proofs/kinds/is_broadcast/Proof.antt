@@ -1,8 +1,8 @@
--- `is_broadcast` meets its contract: by the kind.
+-- `kinds::is_broadcast` meets its contract: by the kind.
 use borrow.Author.Tests.{eq-eqb, ne-eqb}
-use Rattle.refusals.proofs.is_broadcast.Statement.{statement}
-use Rattle.refusals.proofs.is_broadcast.Tie as tie
-use Rattle.refusals.specs.Refusals.{isBroadcast}
+use Rattle.server.proofs.kinds.is_broadcast.Statement.{statement}
+use Rattle.server.proofs.kinds.is_broadcast.Tie as tie
+use Rattle.server.specs.Views.{isBroadcast}
 
 returns : tie.Need-returns
 unfolding isBroadcast

@@ -1,0 +1,117 @@
+-- A server is stopped, cut in the middle of what a message makes it store, or brought back. A cut stores a prefix of what handing the
+-- message over stores, and is logged as far as that: a fresh vote is in the log with its store, and nothing is acknowledged.
+use mathlib.Core.Path.{_≡_, refl, sym}
+use mathlib.Core.List.{List, [], _∷_}
+use mathlib.Core.Bool.{Bool, true, false}
+use mathlib.Core.Option.{none}
+use Prim.Native.Nat.{ℕ, zero, suc, _≤_, _<_}
+use native.Mathlib.Omega.{arith}
+use lib.Dec.{ltb}
+use lib.ListN.{length, set, take, length-set, length-map, List·getD-map}
+use borrow.Author.Tests.{ltb-true, ltb-false}
+use Rattle.entries.specs.Entries.{Entry}
+use Rattle.model.specs.Cluster.{Version, above, Stored, copyAt, Role, follower, leading, Volatile, Server, Body, pleaseVote, replicaWrite, replicaRead, Message}
+use Rattle.model.specs.Replica.{voting}
+use Rattle.model.specs.Stores.{storesCopy, putStore}
+use Rattle.model.proofs.Stores.{cut-cases}
+use Rattle.model.specs.Leader.{reaction, ceased, forgotten}
+use Rattle.model.specs.Lines.{halted, cutServer, restarted}
+use Rattle.history.specs.Members.{none-in}
+use Rattle.consistency.specs.Log.{Log}
+use Rattle.consistency.specs.Claims.{Won, later, BodyOk, MessageOk}
+use Rattle.consistency.specs.Invariant.{LogOk, StoredOk, Idle, HeldOk}
+use Rattle.consistency.specs.Growth.{won-grows, Adds, adds-refl}
+use Rattle.consistency.specs.Acts.{Held}
+use Rattle.consistency.specs.Added.{adds-vote}
+use Rattle.consistency.specs.Above.{above-lt}
+use Rattle.consistency.specs.Voting.{freshVote, vote-stored, vote-fact}
+use Rattle.consistency.specs.Storing.{heeded-stored, copy-stored}
+
+module _ (n buckets now taken p : ℕ) (log : Log) (ok : LogOk n now taken log) (s : Server) (agrees : HeldOk n buckets log p s) where
+  -- stopped, with what it stores by then
+  stopped-with : (next : Log) → Adds p log next → LogOk n now taken next → next .begins ≡ log .begins → next .ends ≡ log .ends
+      → (st : Stored) → StoredOk next p st → st .number ≡ s .stored .number → length (st .copies) ≡ length (s .stored .copies)
+      → Held n buckets now taken p log (reaction (record { stored = st; volatile = s .volatile; stopped = true }) [] [])
+  stopped-with next add facts e f st k i j =
+      record {
+        next = next;
+        adds = add;
+        facts = facts;
+        server =
+            record {
+              shape = record { copies = rw j (agrees .shape .copies); votes = agrees .shape .votes; rounds = agrees .shape .rounds; calls = agrees .shape .calls };
+              stored = k;
+              won = λ l. rw i (won-grows (add .grows) (agrees .won l));
+              role = λ x. let z : _≡_ {A = ℕ} 0 1 = cc in absurd (omega arith);
+            };
+        sends = λ m x. none-in x;
+        begins = e;
+        ends = λ x. rw f (λ y. y, λ y. y);
+      }
+
+  -- with nothing logged
+  stopped-still : (st : Stored) → StoredOk log p st → st .number ≡ s .stored .number → length (st .copies) ≡ length (s .stored .copies)
+      → Held n buckets now taken p log (reaction (record { stored = st; volatile = s .volatile; stopped = true }) [] [])
+  stopped-still st k i j = stopped-with log (adds-refl p log) ok refl refl st k i j
+
+  pub stop-held : Held n buckets now taken p log (reaction (halted s) [] [])
+  stop-held = stopped-still (s .stored) (agrees .stored) refl refl
+
+  pub start-held : Held n buckets now taken p log (reaction (restarted s) [] [])
+  unfolding forgotten ceased
+  start-held =
+      record {
+        next = log;
+        adds = adds-refl p log;
+        facts = ok;
+        server =
+            record {
+              shape = record { copies = agrees .shape .copies; votes = simp length-map (agrees .shape .votes); rounds = simp length-map (agrees .shape .rounds); calls = simp length-map (agrees .shape .calls) };
+              stored = agrees .stored;
+              won = λ l. let z : _≡_ {A = ℕ} 0 1 = cc in absurd (omega arith);
+              role = λ x b. (List·getD-map (λ y. none) (s .volatile .rounds) b none, List·getD-map (λ y. none) (s .volatile .calls) b none);
+            };
+        sends = λ m x. none-in x;
+        begins = refl;
+        ends = λ x. (λ y. y, λ y. y);
+      }
+
+  module _ (m : Message) (good : MessageOk buckets log m) where
+    -- the server, stopped with this stored
+    abbrev Left : Stored → Type 0
+    Left st = Held n buckets now taken p log (reaction (record { stored = st; volatile = s .volatile; stopped = true }) [] [])
+
+    abbrev voted : Stored
+    voted = voting (m .election) (m .sender) (s .stored)
+
+    -- a fresh vote is in the log with its store
+    fresh-vote : s .stored .vote < m .election → Left voted
+    fresh-vote l =
+        stopped-with _ (adds-vote log (freshVote p (m .election) (m .sender))) (vote-fact p (m .election) (m .sender) log ok (agrees .stored) l) refl refl voted
+        (vote-stored p (m .election) (m .sender) log (agrees .stored) (s .stored .number) (omega arith) (omega (arith, agrees .stored .number)) l) refl refl
+
+    module _ (v : Version) (t : List Entry) (body : m .body ≡ replicaWrite v t) where
+      claim : BodyOk buckets log m (replicaWrite v t)
+      claim = rw body at (good .claim)
+
+      -- the bucket, where the vote stands as the leader's number
+      newer-copy : above v (copyAt (s .stored) (m .bucket) .version) ≡ true → (st : Stored) → StoredOk log p st
+          → st .vote ≡ m .election → st .number ≡ s .stored .number → st .copies ≡ s .stored .copies → Left (putStore (storesCopy (m .bucket) v t) st)
+      unfolding putStore
+      newer-copy newer st h e i j =
+          stopped-still _
+          (copy-stored p (m .bucket) v log t st h (omega (arith, claim .1)) (rw (j, agrees .shape .copies) (claim .8))
+          (later (claim .2) (claim .3) (claim .4) (claim .5) (claim .6)) (rw j (above-lt _ _ newer)))
+          i (rw (length-set, j) refl)
+
+    -- the number of a leader that is heeded becomes the vote: nothing is logged for that
+    heeded : s .stored .vote ≤ m .election → Won log (m .election) (m .sender) → StoredOk log p voted
+    heeded l won = heeded-stored (agrees .stored) l won
+
+    pub cut-held : (k : ℕ) → Held n buckets now taken p log (reaction (cutServer k m s) [] [])
+    cut-held k =
+        cut-cases m (s .stored) Left stop-held (λ e l. fresh-vote l)
+        (λ e l. let c : BodyOk buckets log m replicaRead = rw e at (good .claim) in stopped-still voted (heeded l (c .0)) refl refl)
+        (λ v t e l. stopped-still voted (heeded l (claim v t e .0)) refl refl)
+        (λ v t e newer i. newer-copy v t e newer (s .stored) (agrees .stored) (sym i) refl refl)
+        (λ v t e newer l. newer-copy v t e newer voted (heeded l (claim v t e .0)) refl refl refl) k

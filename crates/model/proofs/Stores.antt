@@ -1,0 +1,296 @@
+-- Laws of stores, cuts and starts (document 02, Change 8). All stores of a message together are what handling it stores; after any cut
+-- the stored server holds the old state, the new vote with the old bucket, or the new state; a server that comes back has what a fresh
+-- one has, but for what is stored. The proofs of `limits` and `consistency` go by `cut-cases`.
+use mathlib.Core.Path.{_≡_, refl, sym, _∙_, ap, subst}
+use mathlib.Core.Logic.{_⊎_, inl, inr}
+use mathlib.Core.List.{List, [], _∷_, _++_, map}
+use mathlib.Core.Bool.{Bool, true, false}
+use mathlib.Core.Option.{Option, none}
+use Prim.Native.Nat.{ℕ, zero, suc, _≤_, _<_}
+use native.Mathlib.Omega.{arith}
+use lib.Dec.{ltb, eqb}
+use lib.ListN.{length, take, replicate, set}
+use borrow.Author.Tests.{eqb-true, ltb-true, ltb-false}
+use Rattle.entries.specs.Entries.{Entry}
+use Rattle.model.specs.Cluster.{Version, above, Stored, copyAt, Round, Call, Volatile, Server, Body, pleaseVote, ackVote, nackVote, replicaWrite, ackWrite, nackWrite, replicaRead, ackRead, nackRead, Message, freshServer}
+use Rattle.model.specs.Replica.{voting, afterVote, Request, reading, writing, mayAccept, storing, accepting, acknowledging, refusing}
+use Rattle.model.specs.Stores.{Store, storesVote, storesCopy, putStore, putStores, voteStores, copyStores, acceptStores, requestStores, pleaseVoteStores, storesOf, asks, newVoteOldBuckets}
+use Rattle.model.specs.Leader.{Reaction, reaction, withStored, ceased, forgotten, stepDown, replyTo, replying, onPleaseVote, onRequest, handle}
+use Rattle.model.specs.Lines.{cutServer}
+use Rattle.model.proofs.Replicas.{step-down-keeps}
+
+-- ---- all stores
+
+-- one list of stores after another
+puts-append : (l k : List Store) (st : Stored) → putStores (l ++ k) st ≡ putStores k (putStores l st)
+unfolding putStores
+puts-append [] k st = refl
+puts-append (x ∷ l) k st = puts-append l k (putStore x st)
+
+same-vote : (e p : ℕ) (st : Stored) → e ≡ st .vote → p ≡ st .leader → st ≡ voting e p st
+same-vote e p st i j = rw (i, j) refl
+
+-- the vote is stored, or stands there already
+all-of-vote : (e p : ℕ) (st : Stored) → putStores (voteStores e p st) st ≡ voting e p st
+unfolding voteStores putStores putStore
+all-of-vote e p st = go (eqb e (st .vote)) refl (eqb p (st .leader)) refl
+  where
+    go : (a : Bool) → eqb e (st .vote) ≡ a → (b : Bool) → eqb p (st .leader) ≡ b
+        → putStores (elim a [ false ↦ storesVote e p ∷ [] | true ↦ elim b [ true ↦ [] | false ↦ storesVote e p ∷ [] ] ]) st ≡ voting e p st
+    go false i b j = refl
+    go true i false j = refl
+    go true i true j = same-vote e p st (eqb-true _ _ i) (eqb-true _ _ j)
+
+-- a bucket's store looks at the copies alone
+all-of-copy : (b : ℕ) (v : Version) (t : List Entry) (st u : Stored) → st .copies ≡ u .copies → putStores (copyStores b v t st) u ≡ storing b v t u
+unfolding copyStores putStores putStore storing
+all-of-copy b v t st u e = rw e (go (above v (copyAt u b .version)))
+  where
+    go : (a : Bool) → putStores (elim a [ true ↦ storesCopy b v t ∷ [] | false ↦ [] ]) u
+        ≡ elim a [ false ↦ u | true ↦ record { number = u .number; vote = u .vote; leader = u .leader; copies = set (u .copies) b (record { version = v; table = t }) } ]
+    go true = refl
+    go false = refl
+
+all-of-request : (b e p : ℕ) (request : Request) (st : Stored) → putStores (acceptStores b e p request st) st ≡ accepting b e p request st
+unfolding acceptStores accepting
+all-of-request b e p reading st = all-of-vote e p st
+all-of-request b e p (writing v t) st =
+    puts-append (voteStores e p st) (copyStores b v t st) st
+    ∙ ap (putStores (copyStores b v t st)) (all-of-vote e p st)
+    ∙ all-of-copy b v t st (voting e p st) refl
+
+all-of-please-vote : (e p : ℕ) (st : Stored) → putStores (pleaseVoteStores e p st) st ≡ afterVote e p st
+unfolding pleaseVoteStores afterVote putStores putStore
+all-of-please-vote e p st = go (ltb (st .vote) e)
+  where
+    go : (a : Bool) → putStores (elim a [ true ↦ storesVote e p ∷ [] | false ↦ [] ]) st ≡ elim a [ true ↦ voting e p st | false ↦ st ]
+    go true = refl
+    go false = refl
+
+request-stored : (me : ℕ) (m : Message) (request : Request) (s : Server)
+    → putStores (requestStores m request (s .stored)) (s .stored) ≡ onRequest me m request s .server .stored
+unfolding requestStores onRequest putStores
+request-stored me m request s = go (mayAccept (m .election) (s .stored))
+  where
+    st : Stored
+    st = accepting (m .bucket) (m .election) (m .sender) request (s .stored)
+
+    go : (a : Bool) → putStores (elim a [ false ↦ [] | true ↦ acceptStores (m .bucket) (m .election) (m .sender) request (s .stored) ]) (s .stored)
+        ≡ (elim a as (λ _. Reaction) [
+          | false ↦ reaction s (replyTo me m (refusing request) ∷ []) []
+          | true ↦ replying (stepDown (withStored s st)) (replyTo me m (acknowledging (m .bucket) request st))
+        ]) .server .stored
+    go false = refl
+    go true = all-of-request (m .bucket) (m .election) (m .sender) request (s .stored) ∙ sym (step-down-keeps (withStored s st) .0)
+
+-- a message of kind 1, 4 or 7 makes its server store, by all its stores, what handling it makes it store
+pub all-stores : (n me : ℕ) (m : Message) (s : Server) → asks (m .body) ≡ true → putStores (storesOf m (s .stored)) (s .stored) ≡ handle n me m s .server .stored
+unfolding storesOf handle asks onPleaseVote
+all-stores n me m s h = go (m .body) refl h
+  where
+    go : (x : Body) → m .body ≡ x → asks x ≡ true → putStores (storesOf m (s .stored)) (s .stored) ≡ handle n me m s .server .stored
+    go pleaseVote e i =
+        rw (storesOf, handle, e)
+        (all-of-please-vote (m .election) (m .sender) (s .stored) ∙ sym (step-down-keeps (withStored s (afterVote (m .election) (m .sender) (s .stored))) .0))
+    go ackVote e i = let z : _≡_ {A = ℕ} 0 1 = cc in absurd (omega arith)
+    go nackVote e i = let z : _≡_ {A = ℕ} 0 1 = cc in absurd (omega arith)
+    go (replicaWrite v t) e i = rw (storesOf, handle, e) (request-stored me m (writing v t) s)
+    go ackWrite e i = let z : _≡_ {A = ℕ} 0 1 = cc in absurd (omega arith)
+    go nackWrite e i = let z : _≡_ {A = ℕ} 0 1 = cc in absurd (omega arith)
+    go replicaRead e i = rw (storesOf, handle, e) (request-stored me m reading s)
+    go (ackRead v t) e i = let z : _≡_ {A = ℕ} 0 1 = cc in absurd (omega arith)
+    go nackRead e i = let z : _≡_ {A = ℕ} 0 1 = cc in absurd (omega arith)
+
+-- ---- the stores, by cases
+
+heeds : (e : ℕ) (st : Stored) → mayAccept e st ≡ true → st .vote ≤ e
+unfolding mayAccept
+heeds e st = go (ltb e (st .vote)) refl
+  where
+    go : (t : Bool) → ltb e (st .vote) ≡ t → (elim t as (λ _. Bool) [ true ↦ false | false ↦ true ]) ≡ true → st .vote ≤ e
+    go true i h = let z : _≡_ {A = ℕ} 0 1 = cc in absurd (omega arith)
+    go false i h = ltb-false _ _ i
+
+-- a PLEASEVOTE makes one store or none; a request that is accepted the vote's, unless it stands there, and the bucket's, if its version
+-- is above the stored one
+module _ (m : Message) (st : Stored) (P : List Store → Type 0) where
+  abbrev theVote : Store
+  theVote = storesVote (m .election) (m .sender)
+
+  vote-cases : P [] → P (theVote ∷ []) → P (voteStores (m .election) (m .sender) st)
+  unfolding voteStores
+  vote-cases p q = go (eqb (m .election) (st .vote)) (eqb (m .sender) (st .leader))
+    where
+      go : (a b : Bool) → P (elim a [ false ↦ theVote ∷ [] | true ↦ elim b [ true ↦ [] | false ↦ theVote ∷ [] ] ])
+      go false b = q
+      go true true = p
+      go true false = q
+
+  -- with the bucket's store the vote's is left out only where the vote stands there
+  write-cases : (v : Version) (t : List Entry) → P [] → P (theVote ∷ [])
+      → (above v (copyAt st (m .bucket) .version) ≡ true → m .election ≡ st .vote → P (storesCopy (m .bucket) v t ∷ []))
+      → (above v (copyAt st (m .bucket) .version) ≡ true → P (theVote ∷ storesCopy (m .bucket) v t ∷ []))
+      → P (voteStores (m .election) (m .sender) st ++ copyStores (m .bucket) v t st)
+  unfolding voteStores copyStores
+  write-cases v t p q r s = go (eqb (m .election) (st .vote)) refl (eqb (m .sender) (st .leader)) (above v (copyAt st (m .bucket) .version)) refl
+    where
+      go : (a : Bool) → eqb (m .election) (st .vote) ≡ a → (b c : Bool) → above v (copyAt st (m .bucket) .version) ≡ c
+          → P ((elim a as (λ _. List Store) [ false ↦ theVote ∷ [] | true ↦ elim b [ true ↦ [] | false ↦ theVote ∷ [] ] ])
+          ++ (elim c as (λ _. List Store) [ true ↦ storesCopy (m .bucket) v t ∷ [] | false ↦ [] ]))
+      go false e b true i = s i
+      go false e b false i = q
+      go true e true true i = r i (eqb-true _ _ e)
+      go true e true false i = p
+      go true e false true i = s i
+      go true e false false i = q
+
+  request-cases : (request : Request) → P [] → (st .vote ≤ m .election → P (acceptStores (m .bucket) (m .election) (m .sender) request st))
+      → P (requestStores m request st)
+  unfolding requestStores
+  request-cases request p q = go (mayAccept (m .election) st) refl
+    where
+      go : (a : Bool) → mayAccept (m .election) st ≡ a → P (elim a [ false ↦ [] | true ↦ acceptStores (m .bucket) (m .election) (m .sender) request st ])
+      go false e = p
+      go true e = q (heeds _ _ e)
+
+  please-vote-cases : P [] → (st .vote < m .election → P (theVote ∷ [])) → P (pleaseVoteStores (m .election) (m .sender) st)
+  unfolding pleaseVoteStores
+  please-vote-cases p q = go (ltb (st .vote) (m .election)) refl
+    where
+      go : (a : Bool) → ltb (st .vote) (m .election) ≡ a → P (elim a [ true ↦ theVote ∷ [] | false ↦ [] ])
+      go true e = q (ltb-true _ _ e)
+      go false e = p
+
+  pub stores-cases : P []
+      → (m .body ≡ pleaseVote → st .vote < m .election → P (theVote ∷ []))
+      → (m .body ≡ replicaRead → st .vote ≤ m .election → P (theVote ∷ []))
+      → ((v : Version) (t : List Entry) → m .body ≡ replicaWrite v t → st .vote ≤ m .election → P (theVote ∷ []))
+      → ((v : Version) (t : List Entry) → m .body ≡ replicaWrite v t → above v (copyAt st (m .bucket) .version) ≡ true → m .election ≡ st .vote
+      → P (storesCopy (m .bucket) v t ∷ []))
+      → ((v : Version) (t : List Entry) → m .body ≡ replicaWrite v t → above v (copyAt st (m .bucket) .version) ≡ true → st .vote ≤ m .election
+      → P (theVote ∷ storesCopy (m .bucket) v t ∷ []))
+      → P (storesOf m st)
+  unfolding storesOf acceptStores
+  stores-cases p ballot read write copy both = go (m .body) refl
+    where
+      go : (x : Body) → m .body ≡ x → P (elim x as (λ _. List Store) [
+        | pleaseVote ↦ pleaseVoteStores (m .election) (m .sender) st
+        | ackVote ↦ []
+        | nackVote ↦ []
+        | replicaWrite v t ↦ requestStores m (writing v t) st
+        | ackWrite ↦ []
+        | nackWrite ↦ []
+        | replicaRead ↦ requestStores m reading st
+        | ackRead v t ↦ []
+        | nackRead ↦ []
+      ])
+      go pleaseVote e = please-vote-cases p (ballot e)
+      go ackVote e = p
+      go nackVote e = p
+      go (replicaWrite v t) e = request-cases (writing v t) p (λ h. write-cases v t p (write v t e h) (copy v t e) (λ i. both v t e i h))
+      go ackWrite e = p
+      go nackWrite e = p
+      go replicaRead e = request-cases reading p (λ h. vote-cases p (read e h))
+      go (ackRead v t) e = p
+      go nackRead e = p
+
+-- at most two
+pub few-stores : (m : Message) (st : Stored) → length (storesOf m st) ≤ 2
+few-stores m st = stores-cases m st (λ l. length l ≤ 2) (omega arith) (λ e h. omega arith) (λ e h. omega arith) (λ v t e h. omega arith) (λ v t e h i. omega arith) (λ v t e h i. omega arith)
+
+-- ---- cuts
+
+-- the first k of no store, of one, of two
+module _ (st : Stored) (P : Stored → Type 0) (before : P st) where
+  none-made : (k : ℕ) → P (putStores (take k []) st)
+  unfolding putStores
+  none-made zero = before
+  none-made (suc k) = before
+
+  one-made : (x : Store) → P (putStore x st) → (k : ℕ) → P (putStores (take k (x ∷ [])) st)
+  unfolding putStores
+  one-made x h zero = before
+  one-made x h (suc zero) = h
+  one-made x h (suc (suc k)) = h
+
+  two-made : (x y : Store) → P (putStore x st) → P (putStore y (putStore x st)) → (k : ℕ) → P (putStores (take k (x ∷ y ∷ [])) st)
+  unfolding putStores
+  two-made x y h i zero = before
+  two-made x y h i (suc zero) = h
+  two-made x y h i (suc (suc zero)) = i
+  two-made x y h i (suc (suc (suc k))) = i
+
+-- what holds of the old state, of the state with the new vote, and of those with the new bucket besides, holds after any cut
+module _ (m : Message) (st : Stored) (P : Stored → Type 0) where
+  abbrev voted : Stored
+  voted = voting (m .election) (m .sender) st
+
+  pub cut-cases : P st
+      → (m .body ≡ pleaseVote → st .vote < m .election → P voted)
+      → (m .body ≡ replicaRead → st .vote ≤ m .election → P voted)
+      → ((v : Version) (t : List Entry) → m .body ≡ replicaWrite v t → st .vote ≤ m .election → P voted)
+      → ((v : Version) (t : List Entry) → m .body ≡ replicaWrite v t → above v (copyAt st (m .bucket) .version) ≡ true → m .election ≡ st .vote
+      → P (putStore (storesCopy (m .bucket) v t) st))
+      → ((v : Version) (t : List Entry) → m .body ≡ replicaWrite v t → above v (copyAt st (m .bucket) .version) ≡ true → st .vote ≤ m .election
+      → P (putStore (storesCopy (m .bucket) v t) voted))
+      → (k : ℕ) → P (putStores (take k (storesOf m st)) st)
+  unfolding putStore
+  cut-cases p ballot read write copy both k =
+      stores-cases m st (λ l. P (putStores (take k l) st)) (none-made st P p k)
+      (λ e h. one-made st P p _ (ballot e h) k)
+      (λ e h. one-made st P p _ (read e h) k)
+      (λ v t e h. one-made st P p _ (write v t e h) k)
+      (λ v t e h i. one-made st P p _ (copy v t e h i) k)
+      (λ v t e h i. two-made st P p _ _ (write v t e i) (both v t e h i) k)
+
+-- with all stores of the message as the new state
+abbrev Left : Stored → List Store → ℕ → Type 0
+Left st l k =
+    let u = putStores (take k l) st in
+    let new = putStores l st in
+    (u ≡ st) ⊎ ((u ≡ newVoteOldBuckets st new) ⊎ (u ≡ new))
+
+left-of-stores : (k : ℕ) (m : Message) (st : Stored) → Left st (storesOf m st) k
+unfolding putStores putStore
+left-of-stores k m st =
+    stores-cases m st (λ l. Left st l k) (none-left k) (λ e h. one-left _ k) (λ e h. one-left _ k) (λ v t e h. one-left _ k) (λ v t e h i. one-left _ k)
+    (λ v t e h i. two-left _ v t k)
+  where
+    none-left : (i : ℕ) → Left st [] i
+    none-left zero = inl refl
+    none-left (suc i) = inl refl
+
+    one-left : (x : Store) (i : ℕ) → Left st (x ∷ []) i
+    one-left x zero = inl refl
+    one-left x (suc zero) = inr (inr refl)
+    one-left x (suc (suc i)) = inr (inr refl)
+
+    two-left : (b : ℕ) (v : Version) (t : List Entry) (i : ℕ) → Left st (storesVote (m .election) (m .sender) ∷ storesCopy b v t ∷ []) i
+    two-left b v t zero = inl refl
+    two-left b v t (suc zero) = inr (inl refl)
+    two-left b v t (suc (suc zero)) = inr (inr refl)
+    two-left b v t (suc (suc (suc i))) = inr (inr refl)
+
+-- after any cut of a message of kind 1, 4 or 7 the stored server holds the old state, the new vote with the old bucket, or the new state
+pub cut-leaves : (n me k : ℕ) (m : Message) (s : Server) → asks (m .body) ≡ true
+    → let old = s .stored in
+    let new = handle n me m s .server .stored in
+    let left = cutServer k m s .stored in
+    (left ≡ old) ⊎ ((left ≡ newVoteOldBuckets old new) ⊎ (left ≡ new))
+cut-leaves n me k m s h =
+    subst (λ new. let left = cutServer k m s .stored in (left ≡ s .stored) ⊎ ((left ≡ newVoteOldBuckets (s .stored) new) ⊎ (left ≡ new)))
+    (all-stores n me m s h) (left-of-stores k m (s .stored))
+
+-- ---- starts
+
+all-replaced : {A B : Type 0} (x : B) (l : List A) (n : ℕ) → length l ≡ n → map (λ y. x) l ≡ replicate n x
+all-replaced x [] zero e = refl
+all-replaced x [] (suc n) e = absurd (omega arith)
+all-replaced x (y ∷ l) zero e = absurd (omega arith)
+all-replaced x (y ∷ l) (suc n) e = ap (λ r. x ∷ r) (all-replaced x l n (omega arith))
+
+-- beside what is stored, a server that comes back has what a fresh server of its cluster has
+pub forgotten-is-fresh : (n b : ℕ) (w : Volatile) → length (w .votes) ≡ n → length (w .rounds) ≡ b → length (w .calls) ≡ b → forgotten w ≡ freshServer n b .volatile
+unfolding forgotten ceased freshServer
+forgotten-is-fresh n b w i j k =
+    rw (all-replaced false (w .votes) n i, all-replaced {B = Option Round} none (w .rounds) b j, all-replaced {B = Option Call} none (w .calls) b k) refl

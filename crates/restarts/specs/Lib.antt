@@ -1,0 +1,2 @@
+-- What the contracts of `restarts` cite.
+pub mod Restarts

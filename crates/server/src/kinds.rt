@@ -1,0 +1,16 @@
+// Kinds of messages: 1, 4 and 7 are what a candidate or leader asks the others, the rest are replies.
+ghost use mathlib.Core.Path.{_≡_};
+ghost use Rattle.server.specs.Views.{isBroadcast};
+
+// Kinds 1, 4 and 7 go to all others.
+pub fn is_broadcast(kind: u32) -> bool
+    ensures { λ r. ⌜ r ≡ isBroadcast kind ⌝ }
+{
+    if kind == 1 {
+        return true;
+    }
+    if kind == 4 {
+        return true;
+    }
+    kind == 7
+}
