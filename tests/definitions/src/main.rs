@@ -1,5 +1,5 @@
 //! Prints an antt module of equations `run SCRIPT ≡ OUTPUT`: random scripts,
-//! with what the reference bench prints for them, and a script with stored
+//! with what the reference bench prints for them, and scripts with stored
 //! output. The checker evaluates the definitions of crates/model on each script,
 //! so the two are compared byte for byte.
 
@@ -16,11 +16,24 @@ const SCRIPTS: [(Kind, usize, u64); 6] = [
     (Kind::Settled, 100, 8),
 ];
 
-/// A stored script of three servers with empty values, and its output.
-const STORED: (&[u8], &[u8]) = (
-    include_bytes!("../../scripts/empty-values-of-three.txt"),
-    include_bytes!("../../scripts/empty-values-of-three.out"),
-);
+/// A stored script by name, with its output.
+macro_rules! stored {
+    ($name:literal) => {
+        (
+            include_bytes!(concat!("../../scripts/", $name, ".txt")),
+            include_bytes!(concat!("../../scripts/", $name, ".out")),
+        )
+    };
+}
+
+/// Stored scripts of three servers: empty values, a write stored by half, a
+/// leader with open calls that comes back, a new leader under the same number.
+const STORED: [(&[u8], &[u8]); 4] = [
+    stored!("empty-values-of-three"),
+    stored!("cut-after-1"),
+    stored!("cut-leader-ends-no-call"),
+    stored!("new-leader-same-number"),
+];
 
 const HEADER: &str = "\
 use mathlib.Core.Path.{_≡_, refl}
@@ -61,7 +74,7 @@ fn random() -> impl Iterator<Item = (Vec<u8>, Vec<u8>)> {
 
 fn main() {
     println!("{HEADER}");
-    let stored = [(STORED.0.to_vec(), STORED.1.to_vec())];
+    let stored = STORED.map(|(script, out)| (script.to_vec(), out.to_vec()));
     for (number, (script, out)) in random().chain(stored).enumerate() {
         println!("t{number} : run {} ≡ {}", list(&script), list(&out));
         println!("unfolding computing\nt{number} = refl\n");

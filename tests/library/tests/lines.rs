@@ -84,7 +84,7 @@ fn random_scripts() {
     }
     let empty = met.empty_values();
     assert!(empty > 100, "empty values: {empty}");
-    for number in [1, 2, 3, 4, 6, 7, 8, 9, 10, 12] {
+    for number in [1, 2, 3, 4, 6, 7, 8, 9, 10, 12, 18] {
         assert!(
             met.refusal(number) > 50,
             "{number}: {}",
@@ -165,6 +165,11 @@ fn the_last_line() {
         ("lose 0", 5),
         ("timeout 0 0", 5),
         ("stop 0", 5),
+        ("start", 1),
+        ("cut 0", 1),
+        ("start 1", 3),
+        ("start 0", 5),
+        ("cut 0 0", 5),
     ] {
         let printed = pair.line(line.as_bytes()).printed;
         let end = format!(" refused {refusal}\n");

@@ -58,12 +58,12 @@ fn the_readme() {
 
 #[test]
 fn the_tour() {
-    assert_eq!(check_document("docs/TOUR.md"), 10);
+    assert_eq!(check_document("docs/TOUR.md"), 11);
 }
 
 #[test]
 fn the_script_language() {
-    assert_eq!(check_document("docs/SCRIPT.md"), 4);
+    assert_eq!(check_document("docs/SCRIPT.md"), 5);
 }
 
 #[test]

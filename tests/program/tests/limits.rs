@@ -19,7 +19,7 @@ fn last_lines(out: &[u8], count: usize) -> Vec<&str> {
 fn after_a_million_accepted_lines_5_is_given() {
     let mut text = b"cluster 1 1\nelect 0\nnonsense\n".to_vec();
     text.extend(b"get 0 61\n".repeat(999_999));
-    text.extend(b"elect 0\nelect\ncluster 1 1\nelect 1\nget 0 -\nlose 0\ntimeout 0 0\nget 0 61");
+    text.extend(b"elect 0\nelect\ncluster 1 1\nelect 1\nget 0 -\nlose 0\ntimeout 0 0\ncut 0 0\nstart 0\nget 0 61");
     let ran = run(&bench(), &text);
     let last = [
         "999999 value 1 -",
@@ -31,6 +31,8 @@ fn after_a_million_accepted_lines_5_is_given() {
         "line 1000008 refused 5",
         "line 1000009 refused 5",
         "line 1000010 refused 5",
+        "line 1000011 refused 5",
+        "line 1000012 refused 5",
         "messages 0 0 0 0 0",
     ];
     assert_eq!(last_lines(&ran.out, last.len()), last);
@@ -51,7 +53,7 @@ fn a_million_calls() {
 #[test]
 fn a_million_lines_of_five_servers() {
     let mut text = generate(Kind::Speed, 2, 1_000_000);
-    text.extend_from_slice(b"elect 0\ndeliver 0\nstop 0\n");
+    text.extend_from_slice(b"elect 0\ndeliver 0\nstop 0\ncut 0 0\nstart 0\n");
     let (ran, memory) = run_fed(&bench(), |feeder| {
         feeder.write(&text);
         feeder.peak_memory()
@@ -60,8 +62,10 @@ fn a_million_lines_of_five_servers() {
         "line 1000002 refused 5",
         "line 1000003 refused 5",
         "line 1000004 refused 5",
+        "line 1000005 refused 5",
+        "line 1000006 refused 5",
     ];
-    assert_eq!(last_lines(&ran.out, 4)[..3], refused);
+    assert_eq!(last_lines(&ran.out, 6)[..5], refused);
     check("Speed, seed 2", &ran, &expected(&text));
     assert!(memory < MEMORY, "{memory} kB");
 }

@@ -57,7 +57,7 @@ fn result(out: &str, number: u32) -> Option<&str> {
 #[test]
 fn random_quiet_calls() {
     let mut results = BTreeMap::new();
-    for (at, state) in (0..800).filter_map(State::quiet).enumerate() {
+    for (at, state) in (0..1600).filter_map(State::quiet).enumerate() {
         let calls = state.calls();
         let call = &calls[at % calls.len()];
         let mut script = after(&state.text);

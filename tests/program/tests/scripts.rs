@@ -65,7 +65,7 @@ fn short_scripts(kind: Kind, count: u64, met: &mut Met) {
     }
 }
 
-/// Rival leaders, copies, losses, stops; few lines are refused.
+/// Rival leaders, copies, losses, stops, cuts, starts; few lines are refused.
 #[test]
 fn traffic() {
     let mut met = Met::default();
@@ -79,7 +79,7 @@ fn traffic() {
         short_scripts(kind, 300, &mut met);
     }
     assert_eq!(met.scripts, 1500);
-    met.demand(100, &[7, 8, 9]);
+    met.demand(100, &[7, 8, 9, 18]);
 }
 
 /// A list of messages that is full or nearly so.
@@ -98,7 +98,7 @@ fn hostile_input() {
     short_scripts(Kind::Hostile, 500, &mut met);
     short_scripts(Kind::Damaged, 500, &mut met);
     assert_eq!(met.scripts, 1000);
-    met.demand(100, &[1, 2, 3, 4, 6, 7, 8, 9, 10]);
+    met.demand(100, &[1, 2, 3, 4, 6, 7, 8, 9, 10, 18]);
 }
 
 #[test]

@@ -3,6 +3,7 @@
 
 pub mod call;
 pub mod messages;
+mod restarts;
 pub mod server;
 
 use crate::datagram::{Header, Version, PLEASEVOTE, REPLICAREAD, REPLICAWRITE};
@@ -32,6 +33,9 @@ pub enum Step {
     Lose(u32),
     Timeout(u32, u32),
     Stop(u32),
+    /// The place of a message, and how many stores are made before the stop.
+    Cut(u32, u32),
+    Start(u32),
 }
 
 /// Counts over the whole script.
@@ -44,6 +48,7 @@ pub struct Tally {
     pub under_way: u32,
 }
 
+#[derive(Clone)]
 pub struct Cluster {
     size: usize,
     buckets: usize,
@@ -105,11 +110,11 @@ impl Cluster {
     pub fn admit(&self, step: &Step) -> Result<(), Refusal> {
         let (size, buckets) = (self.size as u32, self.buckets as u32);
         let known = match *step {
-            Step::Elect(server) | Step::Stop(server) => server < size,
+            Step::Elect(server) | Step::Stop(server) | Step::Start(server) => server < size,
             Step::Timeout(server, bucket) => server < size && bucket < buckets,
             Step::Call(server, Request::Keys { bucket }) => server < size && bucket < buckets,
             Step::Call(server, _) => server < size,
-            Step::Deliver(_) | Step::Copy(_) | Step::Lose(_) => true,
+            Step::Deliver(_) | Step::Copy(_) | Step::Lose(_) | Step::Cut(..) => true,
         };
         if !known {
             return Err(RANGE);
@@ -120,7 +125,7 @@ impl Cluster {
         }
     }
 
-    /// Does what an admitted line asks for, or refuses it with 6 to 12 and
+    /// Does what an admitted line asks for, or refuses it with 6 to 12 or 18 and
     /// changes nothing.
     #[inline]
     pub fn step(&mut self, step: &Step, answers: &mut impl Answers) -> Result<(), Refusal> {
@@ -134,6 +139,8 @@ impl Cluster {
                 self.timeout(*server as usize, *bucket as usize, answers)
             }
             Step::Stop(server) => self.stop(*server as usize),
+            Step::Cut(place, stores) => self.cut(*place as usize, *stores as usize),
+            Step::Start(server) => self.start(*server as usize),
         }
     }
 

@@ -1,4 +1,5 @@
-//! The numbers that document 01 gives to lines and records turned down.
+//! The numbers that document 01 and its changes give to lines and records
+//! turned down.
 
 pub type Refusal = u8;
 
@@ -32,3 +33,6 @@ pub const BUCKET_FORM: Refusal = 13;
 pub const DATAGRAM_FORM: Refusal = 14;
 /// Lent output too short.
 pub const OUTPUT_SHORT: Refusal = 15;
+/// Start of a running server, or a cut of another kind of message, at a stopped
+/// server, or after more stores than are made.
+pub const RESTART: Refusal = 18;

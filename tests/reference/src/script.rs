@@ -21,6 +21,7 @@ pub enum Line {
 }
 
 /// A running script: it takes input in chunks of any size.
+#[derive(Clone)]
 pub struct Script {
     cluster: Option<Box<Cluster>>,
     accepted: u32,
@@ -30,6 +31,7 @@ pub struct Script {
 
 /// The start of a line whose end has not come yet. One byte past the longest
 /// line is enough to know that it is too long.
+#[derive(Clone)]
 struct Unfinished {
     len: usize,
     bytes: [u8; LONGEST + 1],
@@ -199,6 +201,8 @@ pub fn parse(line: &[u8]) -> Option<Line> {
         b"elect" => Step::Elect(number(rest)?),
         b"timeout" => Step::Timeout(number(rest)?, number(rest)?),
         b"stop" => Step::Stop(number(rest)?),
+        b"cut" => Step::Cut(number(rest)?, number(rest)?),
+        b"start" => Step::Start(number(rest)?),
         b"cluster" => {
             let line = Line::Cluster(number(rest)?, number(rest)?);
             return rest.is_empty().then_some(line);

@@ -7,6 +7,7 @@ mod damaged;
 mod hostile;
 mod maker;
 mod random;
+mod restarts;
 mod rivals;
 mod rough;
 mod settled;
@@ -18,7 +19,8 @@ use maker::Maker;
 /// Kinds of scripts.
 #[derive(Clone, Copy, PartialEq, Eq, Debug)]
 pub enum Kind {
-    /// Rival leaders, copies, losses, timeouts and stops.
+    /// Rival leaders, copies, losses, timeouts, stops and cuts; most servers that
+    /// stop come back.
     Ordinary,
     /// Six or seven servers, the list of messages full or nearly so.
     Crowded,

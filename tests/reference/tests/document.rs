@@ -115,12 +115,14 @@ fn edge_58_under_way_lets_an_election_through() {
 }
 
 #[rustfmt::skip]
-const MALFORMED: [&str; 39] = [
+const MALFORMED: [&str; 48] = [
     "elect", "", " ", "elect ", "elect  0", " elect 0", "elect 0 ", "elect\t0", "elect 0\r",
     "Elect 0", "elect 00", "elect 01", "elect 1000000000", "elect -", "elect 0 0", "elect +1",
     "elect 0x1", "get 0", "get 0 ", "get 0 6", "get 0 616", "get 0 6A", "get 0 6g", "get 0 61 ",
     "get 0 --", "get 0 -61", "get 0 61-", "set 0 61", "setif 0 61 -", "del 0 61 -", "keys 0",
-    "timeout 0", "cluster 3", "cluster 3 4 5", "deliver", "copy", "lose", "stop", "start 0",
+    "timeout 0", "cluster 3", "cluster 3 4 5", "deliver", "copy", "lose", "stop",
+    "start", "start ", "start 00", "start 0 0", "cut", "cut 0", "cut 0 1 2", "cut 0 -1", "cut 0 01",
+    "join 3",
 ];
 
 #[test]
@@ -153,6 +155,8 @@ fn refusal_2_cluster() {
         "keys 9 9",
         "deliver 0",
         "stop 7",
+        "start 7",
+        "cut 0 0",
         "set 0 - 61",
     ] {
         assert_eq!(print(line), "line 1 refused 2\nmessages 0 0 0 0 0");
@@ -174,6 +178,7 @@ fn refusals_3_and_4_names_and_lengths() {
     for line in [
         "elect 3",
         "stop 3",
+        "start 3",
         "get 3 61",
         "get 3 -",
         "keys 3 0",
@@ -211,7 +216,13 @@ fn refusals_6_to_10_examples() {
     let mut bench = Bench::new("cluster 3 1");
     assert_eq!(bench.refusal("get 1 61"), 8);
     assert_eq!(bench.refusal("timeout 0 0"), 10);
-    for line in ["lose 0", "deliver 0", "copy 0", "deliver 999999999"] {
+    for line in [
+        "lose 0",
+        "deliver 0",
+        "copy 0",
+        "cut 0 0",
+        "deliver 999999999",
+    ] {
         assert_eq!(bench.refusal(line), 7);
     }
     bench.quiet(&["stop 1"]);

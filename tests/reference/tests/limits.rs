@@ -12,7 +12,8 @@ fn after_a_million_accepted_lines_5_is_given() {
     for _ in 0..999_999 {
         text.extend_from_slice(b"get 0 61\n");
     }
-    text.extend_from_slice(b"elect 0\nelect\ncluster 1 1\nelect 1\nget 0 -\nlose 0\nget 0 61");
+    text.extend_from_slice(b"elect 0\nelect\ncluster 1 1\nelect 1\nget 0 -\nlose 0\nget 0 61\n");
+    text.extend_from_slice(b"cut 0 0\nstart 0\nstart 1\ncut 0");
     let out = String::from_utf8(run(&text)).unwrap();
     let last: Vec<&str> = out.lines().skip(1_000_000 - 1).collect();
     assert_eq!(
@@ -26,6 +27,10 @@ fn after_a_million_accepted_lines_5_is_given() {
             "line 1000007 refused 4",
             "line 1000008 refused 5",
             "line 1000009 refused 5",
+            "line 1000010 refused 5",
+            "line 1000011 refused 5",
+            "line 1000012 refused 3",
+            "line 1000013 refused 1",
             "messages 0 0 0 0 0",
         ]
     );

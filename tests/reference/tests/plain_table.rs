@@ -1,56 +1,16 @@
 //! Answers held against document 01's plain table, which tells empty from
 //! absent since Change 2. Calls are made one after another, so that there is
-//! only one order of them.
+//! only one order of them; between them servers stop and come back.
 
 mod common;
 
+use common::plain::Plain;
 use common::Bench;
+use reference::cluster::server::Role;
 use reference::cluster::{Step, SERVERS};
 use reference::script::{parse, Line};
 use reference::scripts::Random;
-use std::collections::{BTreeMap, BTreeSet};
-
-/// A bucket's keys with their values, in the words of the script. Pairs of
-/// digits stand in the order of the bytes.
-#[derive(Default)]
-struct Plain(BTreeMap<String, String>);
-
-impl Plain {
-    /// The answer to a call, given without its server: the result and the data.
-    fn answer(&mut self, call: &[&str]) -> String {
-        match *call {
-            ["get", key] => format!("value {}", self.value(key)),
-            ["keys", _] => format!("keys {}", self.keys()),
-            ["set", key, value] => self.set(key, value).to_string(),
-            ["setif", key, expected, _] if self.value(key) != expected => "mismatch".to_string(),
-            ["setif", key, _, value] => self.set(key, value).to_string(),
-            ["del", key] => self.set(key, "-").to_string(),
-            _ => panic!("no call: {call:?}"),
-        }
-    }
-
-    fn value(&self, key: &str) -> &str {
-        self.0.get(key).map_or("-", String::as_str)
-    }
-
-    fn keys(&self) -> String {
-        match self.0.is_empty() {
-            true => "-".to_string(),
-            false => self.0.keys().cloned().collect::<Vec<_>>().join(" "),
-        }
-    }
-
-    fn set(&mut self, key: &str, value: &str) -> &'static str {
-        if value == "-" {
-            self.0.remove(key);
-        } else if self.0.contains_key(key) || self.0.len() < 4 {
-            self.0.insert(key.to_string(), value.to_string());
-        } else {
-            return "full";
-        }
-        "done"
-    }
-}
+use std::collections::BTreeSet;
 
 const KEYS: [&str; 7] = ["61", "6100", "62", "63", "64", "00", "ffffffffffffffff"];
 const VALUES: [&str; 5] = ["-", ".", "00", "2e", "000102030405060708090a0b0c0d0e0f"];
@@ -85,6 +45,29 @@ fn without_numbers(answer: &str) -> String {
     kept.map(|(_, word)| word).collect::<Vec<_>>().join(" ")
 }
 
+/// A server that stops and comes back keeps what it stored.
+fn restart(bench: &mut Bench, server: usize) {
+    bench.quiet(&[&format!("stop {server}"), &format!("start {server}")]);
+}
+
+/// Delivers the messages of an election; where a majority is left without it,
+/// one server is cut meanwhile.
+fn cut_one_vote(bench: &mut Bench, random: &mut Random) {
+    let size = bench.cluster().size();
+    let messages = bench.cluster().messages();
+    let asked = messages.slot(0).map(|slot| messages.header(slot).to);
+    let Some(server) = asked.filter(|_| size > 2) else {
+        assert_eq!(bench.deliver_all(), "");
+        return;
+    };
+    // With or without the vote; a request below it has no store to make.
+    if random.chance(500) || bench.refusal("cut 0 1") != 0 {
+        bench.quiet(&["cut 0 0"]);
+    }
+    assert_eq!(bench.deliver_all(), "");
+    bench.quiet(&[&format!("start {server}")]);
+}
+
 /// Makes calls in a cluster of this size, with elections between them; what
 /// was answered.
 fn compare(size: usize, buckets: usize, random: &mut Random) -> Vec<String> {
@@ -94,10 +77,13 @@ fn compare(size: usize, buckets: usize, random: &mut Random) -> Vec<String> {
     let mut answers = Vec::new();
     while answers.len() < 2000 {
         let Some(server) = leader.filter(|_| random.chance(900)) else {
+            restart(&mut bench, random.below(size));
             let server = random.below(size);
             bench.quiet(&[&format!("elect {server}")]);
-            assert_eq!(bench.deliver_all(), "");
-            leader = Some(server);
+            cut_one_vote(&mut bench, random);
+            // One whose vote was cut before may stand too low.
+            let leads = bench.cluster().server(server).role == Role::Leader;
+            leader = leads.then_some(server);
             continue;
         };
         let words = call(random, buckets);

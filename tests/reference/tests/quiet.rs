@@ -206,6 +206,31 @@ fn a_call_stays_open_at_a_stopped_server() {
         ..Conditions::ALL
     };
     assert_eq!(bench.conditions(1), failed);
+    // Once the server has come back, nobody has that call any more.
+    bench.quiet(&["start 0"]);
+    assert_eq!(bench.conditions(1), Conditions::ALL);
+}
+
+#[test]
+fn servers_that_came_back_take_part() {
+    let mut bench = led(3);
+    bench.quiet(&["stop 1", "start 1", "get 0 62", "cut 1 0", "start 2"]);
+    assert_eq!(bench.deliver_all(), "1 value 3 -");
+    bench.elect(0, &[1]);
+    assert_eq!(bench.deliver_all(), "");
+    assert_eq!(bench.conditions(0), Conditions::ALL);
+    let out = bench.line("set 0 61 01") + &bench.deliver_all();
+    assert_eq!(out, "2 done 4");
+}
+
+#[test]
+fn a_vote_that_a_cut_stored_counts_once_its_server_is_back() {
+    let mut bench = led(3);
+    bench.quiet(&["elect 1", "cut 1 1", "lose 0", "stop 1"]);
+    let running = bench.conditions(0).number_no_lower_than_a_vote;
+    bench.quiet(&["start 2"]);
+    let back = bench.conditions(0).number_no_lower_than_a_vote;
+    assert_eq!((running, back), (true, false));
 }
 
 #[test]

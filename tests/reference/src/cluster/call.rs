@@ -137,7 +137,7 @@ pub enum Stage {
 }
 
 /// An open round: one mark for each server, in one of the two sets.
-#[derive(Clone, Copy)]
+#[derive(Clone, Copy, PartialEq, Eq, Debug)]
 pub struct Round {
     pub number: u32,
     pub election: u16,
@@ -157,7 +157,7 @@ impl Round {
 }
 
 /// The place of one call at a server and bucket, with its open round.
-#[derive(Clone, Copy)]
+#[derive(Clone, Copy, PartialEq, Eq, Debug)]
 pub struct Call {
     pub stage: Stage,
     pub number: u32,

@@ -9,6 +9,7 @@ pub const PLACES: usize = 64;
 /// Messages lie in fixed slots; `order` holds the slots in list order, the
 /// first `len` of them in use, the others free. So a removal moves single
 /// bytes and never a message.
+#[derive(Clone)]
 pub struct Messages {
     len: usize,
     order: [u8; PLACES],

@@ -3,7 +3,7 @@
 
 use crate::bucket::Table;
 use crate::cluster::call::Call;
-use crate::datagram::Version;
+use crate::datagram::{Header, Version, PLEASEVOTE, REPLICAWRITE};
 
 /// Most buckets of a cluster.
 pub const BUCKETS: usize = 8;
@@ -32,6 +32,23 @@ impl Replica {
     };
 }
 
+/// A change of one stored part. A server may stop after any of them, so each
+/// is whole in itself.
+#[derive(Clone, Copy, PartialEq, Eq, Debug)]
+pub enum Store<'a> {
+    /// The vote with its leader.
+    Vote { number: u16, leader: u8 },
+    /// A bucket with its version.
+    Bucket {
+        bucket: usize,
+        version: Version,
+        table: &'a Table,
+    },
+}
+
+/// Number, vote, leader and replicas are stored and outlast a restart; all the
+/// rest is forgotten.
+#[derive(Clone, PartialEq, Eq, Debug)]
 pub struct Server {
     /// Highest election that this server stood in.
     pub number: u16,
@@ -67,8 +84,8 @@ impl Server {
     #[inline]
     pub fn please_vote(&mut self, number: u16, source: u8) -> bool {
         if number > self.vote {
-            self.vote = number;
-            self.leader = source;
+            let leader = source;
+            self.store(Store::Vote { number, leader });
             return true;
         }
         number == self.vote && self.leader == source
@@ -105,10 +122,12 @@ impl Server {
         if !self.follow(version.number, source) {
             return false;
         }
-        let replica = &mut self.replicas[bucket];
-        if version > replica.version {
-            replica.version = version;
-            replica.table = *table;
+        if version > self.replicas[bucket].version {
+            self.store(Store::Bucket {
+                bucket,
+                version,
+                table,
+            });
         }
         true
     }
@@ -119,9 +138,61 @@ impl Server {
         if number < self.vote {
             return false;
         }
-        self.vote = number;
-        self.leader = source;
+        let leader = source;
+        self.store(Store::Vote { number, leader });
         true
+    }
+
+    /// Changes one stored part.
+    #[inline]
+    pub fn store(&mut self, store: Store) {
+        match store {
+            Store::Vote { number, leader } => (self.vote, self.leader) = (number, leader),
+            Store::Bucket {
+                bucket,
+                version,
+                table,
+            } => {
+                let replica = &mut self.replicas[bucket];
+                replica.version = version;
+                replica.table = *table;
+            }
+        }
+    }
+
+    /// The stores that handling a request makes, in their order: the vote, then
+    /// the bucket. What would not change is not stored.
+    pub fn stores<'a>(
+        &self,
+        request: &Header,
+        table: &'a Table,
+    ) -> impl Iterator<Item = Store<'a>> + Clone {
+        let bucket = self.bucket_store(request, table);
+        [self.vote_store(request), bucket].into_iter().flatten()
+    }
+
+    /// A request to vote is granted anew only under a higher number; a leader is
+    /// followed under the same one too, and may differ from whom the vote went to.
+    fn vote_store<'a>(&self, request: &Header) -> Option<Store<'a>> {
+        let (number, leader) = (request.number, request.from);
+        let changes = match request.kind {
+            PLEASEVOTE => number > self.vote,
+            _ => number >= self.vote && (number, leader) != (self.vote, self.leader),
+        };
+        changes.then_some(Store::Vote { number, leader })
+    }
+
+    fn bucket_store<'a>(&self, request: &Header, table: &'a Table) -> Option<Store<'a>> {
+        let bucket = usize::from(request.bucket);
+        let version = request.version;
+        let changes = request.kind == REPLICAWRITE
+            && request.number >= self.vote
+            && version > self.replicas[bucket].version;
+        changes.then_some(Store::Bucket {
+            bucket,
+            version,
+            table,
+        })
     }
 
     /// The number of its next election, one above the larger of its number and

@@ -32,6 +32,7 @@ impl Maker {
             _ => random.below(count + 2),
         };
         let key = *random.pick(&KEYS);
+        let stores = random.below(4).saturating_sub(1);
         let (expected, value) = (*random.pick(&VALUES), *random.pick(&VALUES));
         match random.below(1000) {
             0..=11 => format!("elect {server}"),
@@ -49,6 +50,8 @@ impl Maker {
             315..=399 if count == 0 => format!("elect {server}"),
             400..=599 if count == 0 => format!("get {server} {key}"),
             600..=899 if count == 0 => format!("set {server} {key} {value}"),
+            900..=909 => format!("cut {place} {stores}"),
+            910..=939 => format!("start {server}"),
             _ => format!("deliver {place}"),
         }
     }

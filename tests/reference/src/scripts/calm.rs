@@ -2,6 +2,7 @@
 //! and the two that reach a limit.
 
 use super::maker::Maker;
+use super::restarts::Request;
 use crate::script::MOST_ACCEPTED;
 
 /// Shares out of 100,000 lines; what is left over are calls and deliveries.
@@ -11,8 +12,17 @@ struct Calm {
     elections: usize,
     timeouts: usize,
     stops: usize,
+    cuts: usize,
     /// Messages under way at which no further call is made.
     fill: usize,
+}
+
+/// A server that was cut, if it has not come back, and the line until which
+/// nothing changes in this.
+#[derive(Default)]
+struct Pause {
+    server: Option<usize>,
+    until: usize,
 }
 
 impl Maker {
@@ -25,20 +35,25 @@ impl Maker {
             losses: self.random.within(0, 1000),
             elections: self.random.within(0, 200),
             timeouts: self.random.within(0, 100),
-            stops: 2,
+            stops: 5,
+            cuts: self.random.within(0, 1200),
             fill: self.random.within(6, 40),
         };
         for _ in 0..lines {
-            let line = self.calm_line(&calm);
+            let line = match self.comes_back(40) {
+                Some(line) => line,
+                None => self.calm_line(&calm),
+            };
             self.add(line);
         }
     }
 
-    /// Two of the five servers stop on the way; a majority always runs.
+    /// Two of the five servers stop for good on the way, others for some lines
+    /// only; a majority always runs.
     pub fn speed(&mut self, lines: usize) {
         self.form(5, 8);
-        // Without them it is the same script as ever, so that times can be
-        // compared.
+        // Without them, and with few cuts, it is the same mix of lines as ever,
+        // so that times can be compared.
         self.leave_out_empty_values();
         let mut calm = Calm {
             copies: 1000,
@@ -46,19 +61,51 @@ impl Maker {
             elections: 50,
             timeouts: 20,
             stops: 0,
+            cuts: 0,
             fill: 15,
         };
         let mut stops = [lines * 7 / 10, lines * 9 / 10].into_iter().peekable();
+        let mut pause = Pause::default();
         let mut accepted = 0;
         while accepted < lines {
             let line = if stops.next_if(|&at| at <= accepted).is_some() {
                 calm.losses /= 4;
                 self.stop_follower()
+            } else if let Some(line) = self.pause_line(&mut pause, accepted) {
+                line
             } else {
                 self.calm_line(&calm)
             };
             accepted += usize::from(self.add_accepted(line));
         }
+    }
+
+    /// Now and then a cut at a server that does not lead, and its start soon
+    /// after.
+    fn pause_line(&mut self, pause: &mut Pause, accepted: usize) -> Option<String> {
+        if accepted < pause.until {
+            return None;
+        }
+        if let Some(server) = pause.server.take() {
+            pause.until = accepted + self.random.within(1000, 3000);
+            return Some(format!("start {server}"));
+        }
+        if !self.can_spare_one() {
+            return None;
+        }
+        let leaders = self.leaders();
+        let mut requests = self.requests();
+        requests.retain(|request| !leaders.contains(&request.to));
+        let Request { place, to, stores } = *requests.last()?;
+        *pause = Pause {
+            server: Some(to),
+            until: accepted + self.random.within(5, 40),
+        };
+        let kept = match self.random.chance(600) {
+            true => stores,
+            false => self.random.below(stores + 1),
+        };
+        Some(format!("cut {place} {kept}"))
     }
 
     fn stop_follower(&mut self) -> String {
@@ -81,6 +128,7 @@ impl Maker {
             calm.elections,
             calm.timeouts,
             calm.stops,
+            calm.cuts,
         ];
         for (choice, share) in shares.into_iter().enumerate() {
             if draw < share {
@@ -97,7 +145,8 @@ impl Maker {
             1 => format!("lose {place}"),
             2 => format!("elect {}", self.running_server()),
             3 => self.timeout(),
-            _ => format!("stop {}", self.random.below(self.cluster().size())),
+            4 => format!("stop {}", self.random.below(self.cluster().size())),
+            _ => self.cut().unwrap_or_else(|| format!("deliver {place}")),
         }
     }
 
@@ -138,6 +187,8 @@ impl Maker {
                 0..=1 => self.timeout(),
                 2..=4 => self.any_call(0),
                 5..=20 if count > 0 => format!("deliver {}", self.random.below(count)),
+                21 => self.cut().unwrap_or_else(|| format!("elect {}", size - 1)),
+                22..=26 if !self.stopped().is_empty() => self.start().unwrap_or_default(),
                 _ if count > 50 || (count > 4 && self.random.chance(450)) => "lose 0".to_string(),
                 _ if self.random.chance(900) => "elect 0".to_string(),
                 _ => format!("elect {}", self.random.below(size)),
@@ -153,14 +204,22 @@ impl Maker {
         self.form(1, buckets);
         self.add("elect 0");
         while self.script.accepted() < MOST_ACCEPTED {
-            match self.random.chance(10) {
-                true => self.add("elect 0"),
-                false => match self.free_call(0) {
+            match self.random.below(1000) {
+                0 => self.reboot(),
+                1..=9 => self.add("elect 0"),
+                _ => match self.free_call(0) {
                     Some(line) => self.add(line),
                     None => self.add("get 0 61"),
                 },
             };
         }
         self.hostile_lines(lines);
+    }
+
+    /// The only server stops, comes back and leads again.
+    fn reboot(&mut self) -> bool {
+        ["stop 0", "start 0", "elect 0"]
+            .into_iter()
+            .all(|line| self.add(line))
     }
 }

@@ -5,7 +5,7 @@ use super::rough::Phase;
 use crate::script::LONGEST;
 
 /// Lines that are refused as they stand, or are near to accepted ones.
-const ODD_LINES: [&str; 45] = [
+const ODD_LINES: [&str; 54] = [
     "",
     " ",
     "-",
@@ -30,9 +30,18 @@ const ODD_LINES: [&str; 45] = [
     "elect 1000000000",
     "elect 999999999",
     "elect 9999999999",
-    "start 0",
+    "start",
+    "start ",
+    "start 01",
+    "start 0 0",
+    "start .",
     "join 3",
-    "cut 0 1",
+    "cut",
+    "cut 0",
+    "cut 0 ",
+    "cut 0 1 2",
+    "cut 0 -1",
+    "cut 0 01",
     "fetch 0 1 0",
     "cluster",
     "cluster 3",
@@ -119,13 +128,15 @@ impl Maker {
     /// A line for the time before the cluster line.
     fn early_line(&mut self) -> Vec<u8> {
         let (size, buckets) = (self.random.below(12), self.random.below(12));
-        match self.random.below(5) {
+        match self.random.below(7) {
             0 if !((1..=7).contains(&size) && (1..=8).contains(&buckets)) => {
                 format!("cluster {size} {buckets}").into_bytes()
             }
             1 => self.any_call(9).into_bytes(),
             2 => b"get 9 -".to_vec(),
             3 => b"get 9 .".to_vec(),
+            4 => b"start 9".to_vec(),
+            5 => b"cut 0 1".to_vec(),
             _ => match *self.random.pick(&ODD_LINES) {
                 "cluster 3 4" => b"elect 0".to_vec(),
                 line => line.as_bytes().to_vec(),
@@ -193,14 +204,16 @@ impl Maker {
         let odd = *self.random.pick(&ODD_NUMBERS);
         let word = *self
             .random
-            .pick(&["elect", "deliver", "copy", "lose", "stop"]);
-        match self.random.below(7) {
+            .pick(&["elect", "deliver", "copy", "lose", "stop", "start"]);
+        match self.random.below(9) {
             0 => format!("get {odd} 61"),
             1 => format!("keys {odd} 0"),
             2 => format!("keys 0 {odd}"),
             3 => format!("timeout {odd} 0"),
             4 => format!("timeout 0 {odd}"),
             5 => format!("cluster {odd} {odd}"),
+            6 => format!("cut {odd} 0"),
+            7 => format!("cut 0 {odd}"),
             _ => format!("{word} {odd}"),
         }
     }
@@ -269,7 +282,7 @@ impl Maker {
     fn misplaced_line(&mut self) -> String {
         let (server, bucket) = (self.random.below(9), self.random.below(10));
         let place = self.random.below(80);
-        match self.random.below(9) {
+        match self.random.below(11) {
             0 => format!("elect {server}"),
             1 => format!("keys {server} {bucket}"),
             2 => format!("timeout {server} {bucket}"),
@@ -278,7 +291,22 @@ impl Maker {
             5 => format!("copy {place}"),
             6 => format!("lose {place}"),
             7 => format!("cluster {server} {bucket}"),
+            8 => format!("start {server}"),
+            9 => self.misplaced_cut(place),
             _ => self.any_call(server),
         }
+    }
+
+    /// A cut of any message or of none, mostly refused.
+    fn misplaced_cut(&mut self, place: usize) -> String {
+        let count = self
+            .script
+            .cluster()
+            .map_or(0, |cluster| cluster.messages().len());
+        let place = match self.random.chance(700) {
+            true => place % count.max(1),
+            false => place,
+        };
+        format!("cut {place} {}", self.random.within(0, 3))
     }
 }

@@ -40,6 +40,10 @@ impl Maker {
     }
 
     fn rival_line(&mut self, turn: &Turn) -> String {
+        let restart = self.comes_back(60);
+        if let Some(line) = restart.or_else(|| self.cut_of_two(40)) {
+            return line;
+        }
         let count = self.under_way();
         let place = self.random.below(count.max(1));
         match self.random.below(1000) {
@@ -56,6 +60,8 @@ impl Maker {
                 Some(place) => format!("copy {place}"),
                 None => self.turn_line(turn),
             },
+            // Some of what arrives late is cut.
+            406..=413 => self.cut().unwrap_or_else(|| self.timeout()),
             _ => self.turn_line(turn),
         }
     }

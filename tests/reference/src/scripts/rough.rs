@@ -2,8 +2,8 @@
 //! messages is nearly full.
 
 use super::maker::Maker;
-use crate::cluster::majority;
 use crate::cluster::messages::PLACES;
+use crate::cluster::server::Role;
 
 /// How the network and the operators behave for a while. Shares are out of
 /// 1,000 lines; what is left over are deliveries.
@@ -18,6 +18,9 @@ pub struct Phase {
     losses: usize,
     timeouts: usize,
     stops: usize,
+    cuts: usize,
+    /// Share of the lines, while a server is stopped, that bring one back.
+    starts: usize,
 }
 
 impl Maker {
@@ -50,7 +53,9 @@ impl Maker {
             copies: random.within(0, 30),
             losses: random.within(0, 20),
             timeouts: random.within(0, 3),
-            stops: 1,
+            stops: random.within(0, 3),
+            cuts: *random.pick(&[0, 10, 20, 60]),
+            starts: *random.pick(&[0, 20, 60, 200]),
         };
         match random.below(4) {
             0 => phase.losses = random.within(50, 250),
@@ -63,6 +68,10 @@ impl Maker {
 
     /// One line, mostly one that the state accepts.
     pub fn rough_line(&mut self, phase: &Phase) -> String {
+        let restart = self.comes_back(phase.starts);
+        if let Some(line) = restart.or_else(|| self.cut_of_two(4 * phase.cuts)) {
+            return line;
+        }
         let leaders = self.leaders();
         if leaders.is_empty() && self.random.chance(700) {
             return self.towards_leader();
@@ -75,6 +84,7 @@ impl Maker {
             phase.losses,
             phase.timeouts,
             phase.stops,
+            phase.cuts,
         ];
         for (choice, share) in shares.into_iter().enumerate() {
             if draw < share {
@@ -93,7 +103,11 @@ impl Maker {
             2 => format!("copy {}", self.place(phase)),
             3 => format!("lose {}", self.place(phase)),
             4 => self.timeout(),
-            _ => self.stop(),
+            5 => self.stop(),
+            _ => match self.cut() {
+                Some(line) => line,
+                None => self.rough_delivery(leaders, phase),
+            },
         }
     }
 
@@ -134,14 +148,18 @@ impl Maker {
         format!("elect {server}")
     }
 
-    /// Stops a server, mostly only as long as a majority is left.
+    /// Stops a server, mostly only as long as a majority is left; often one that
+    /// leads or stands, so that this is lost.
     pub fn stop(&mut self) -> String {
-        let size = self.cluster().size();
-        let running = self.servers(|_| true).len() as u32;
-        if running <= majority(size) && self.random.chance(950) {
+        if !self.can_spare_one() && self.random.chance(900) {
             return self.timeout();
         }
-        format!("stop {}", self.random.below(size))
+        let active = self.servers(|server| server.role != Role::Idle);
+        let server = match !active.is_empty() && self.random.chance(400) {
+            true => *self.random.pick(&active),
+            false => self.random.below(self.cluster().size()),
+        };
+        format!("stop {server}")
     }
 
     pub fn timeout(&mut self) -> String {
@@ -194,6 +212,9 @@ impl Maker {
     }
 
     fn crowded_line(&mut self, fill: usize) -> String {
+        if let Some(line) = self.comes_back(60) {
+            return line;
+        }
         let leaders = self.leaders();
         let count = self.under_way();
         let place = self.random.below(count.max(1));
@@ -206,6 +227,7 @@ impl Maker {
             4..=29 => format!("lose {place}"),
             30..=79 => format!("copy {place}"),
             80 if self.random.chance(500) => self.stop(),
+            81..=88 => self.cut().unwrap_or_else(|| format!("deliver {place}")),
             _ if count < fill && self.random.chance(700) => self.filling_line(&leaders, place),
             _ => format!("deliver {place}"),
         }

@@ -31,7 +31,11 @@ impl Maker {
     }
 
     fn settle(&mut self) {
+        if let Some(line) = self.cut() {
+            self.add(line);
+        }
         self.empty_list(400);
+        self.start_some();
         // Now and then a call stays open, its messages lost.
         while !self.open_rounds().is_empty() && self.random.chance(750) {
             let line = self.timeout();
@@ -41,6 +45,16 @@ impl Maker {
             if let Some(winner) = self.likely_winner() {
                 self.add(format!("elect {winner}"));
                 self.empty_list(0);
+            }
+        }
+    }
+
+    /// Brings servers back, at least until a majority runs.
+    fn start_some(&mut self) {
+        // Where no majority runs, one always comes back.
+        while let Some(line) = self.comes_back(300) {
+            if !self.add(line) {
+                return;
             }
         }
     }

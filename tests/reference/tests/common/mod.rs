@@ -2,6 +2,8 @@
 
 #![allow(dead_code)]
 
+pub mod plain;
+
 use reference::cluster::Cluster;
 use reference::datagram::{PLEASEVOTE, REPLICAREAD, REPLICAWRITE};
 use reference::quiet::Conditions;
@@ -29,6 +31,7 @@ pub fn print(text: &str) -> String {
 }
 
 /// A script run line by line.
+#[derive(Clone)]
 pub struct Bench {
     script: Script,
 }
