@@ -7,14 +7,14 @@ use Prim.Native.Nat.{ℕ, _≤_, _<_}
 use native.Mathlib.Omega.{arith}
 use native.Mathlib.Decide.{decLt}
 use lib.ListN.{length, List·getD-eq-default}
-use Rattle.model.specs.Cluster.{copyAt, Role, follower, leading, Cluster, freshServer}
+use Rattle.model.specs.Cluster.{copyAt, Role, follower, leading, Call, callAt, Cluster, freshServer}
 use Rattle.model.specs.Lines.{State, initialState, serverAt}
 use Rattle.model.specs.Run.{stateAfter}
 use Rattle.consistency.specs.Statement.{Begin, End, begins, ends}
 use Rattle.consistency.specs.Log.{Log}
 use Rattle.consistency.specs.Claims.{Won, Holds}
 use Rattle.consistency.specs.Claims
-use Rattle.consistency.specs.Invariant.{RoleOk}
+use Rattle.consistency.specs.Invariant.{CallOk, RoleOk}
 use Rattle.consistency.specs.Reached.{serverOf}
 use Rattle.consistency.specs.Runs.{RunOk, Leaves, run-goes, script-leaves}
 
@@ -57,6 +57,16 @@ copy-held now count b (some c) log h p k = go (decLt p (length (c .servers)))
     go : Dec (p < length (c .servers)) → Holds log k (copyAt (serverAt c p .stored) k .version) (copyAt (serverAt c p .stored) k .table)
     go (yes l) = h .0 .servers p l .stored .copies k .0
     go (no l) = rw (beyond c p (omega arith)) (Claims.Holds.first refl refl)
+
+-- a call that is open at a server, running or stopped, was taken there and has not ended
+pub open-call : (now count b : ℕ) (o : Option Cluster) (log : Log) → RunOk now o count b log → (p k : ℕ) (c : Call) → callAt (serverOf o p .volatile) k ≡ some c → CallOk log p k c
+unfolding freshServer
+open-call now count b none log h p k c e = let z : _≡_ {A = ℕ} 0 1 = cc in absurd (omega arith)
+open-call now count b (some d) log h p k c e = go (decLt p (length (d .servers)))
+  where
+    go : Dec (p < length (d .servers)) → CallOk log p k c
+    go (yes l) = h .0 .servers p l .calls k c e
+    go (no l) = let z : _≡_ {A = ℕ} 0 1 = cc (ap (λ s. callAt (s .volatile) k) (beyond d p (omega arith))) in absurd (omega arith)
 
 abbrev pub reached : List (List ℕ) → State
 reached ls = stateAfter initialState ls

@@ -1,16 +1,14 @@
 -- A server is stopped, cut in the middle of what a message makes it store, or brought back. A cut stores a prefix of what handing the
 -- message over stores, and is logged as far as that: a fresh vote is in the log with its store, and nothing is acknowledged.
 use mathlib.Core.Path.{_≡_, refl, sym}
-use mathlib.Core.List.{List, [], _∷_}
-use mathlib.Core.Bool.{Bool, true, false}
+use mathlib.Core.List.{List, []}
+use mathlib.Core.Bool.{true}
 use mathlib.Core.Option.{none}
-use Prim.Native.Nat.{ℕ, zero, suc, _≤_, _<_}
+use Prim.Native.Nat.{ℕ, _≤_, _<_}
 use native.Mathlib.Omega.{arith}
-use lib.Dec.{ltb}
-use lib.ListN.{length, set, take, length-set, length-map, List·getD-map}
-use borrow.Author.Tests.{ltb-true, ltb-false}
+use lib.ListN.{length, length-set, length-map, List·getD-map}
 use Rattle.entries.specs.Entries.{Entry}
-use Rattle.model.specs.Cluster.{Version, above, Stored, copyAt, Role, follower, leading, Volatile, Server, Body, pleaseVote, replicaWrite, replicaRead, Message}
+use Rattle.model.specs.Cluster.{Version, above, Stored, copyAt, Server, replicaWrite, replicaRead, Message}
 use Rattle.model.specs.Replica.{voting}
 use Rattle.model.specs.Stores.{storesCopy, putStore}
 use Rattle.model.proofs.Stores.{cut-cases}
@@ -19,7 +17,7 @@ use Rattle.model.specs.Lines.{halted, cutServer, restarted}
 use Rattle.history.specs.Members.{none-in}
 use Rattle.consistency.specs.Log.{Log}
 use Rattle.consistency.specs.Claims.{Won, later, BodyOk, MessageOk}
-use Rattle.consistency.specs.Invariant.{LogOk, StoredOk, Idle, HeldOk}
+use Rattle.consistency.specs.Invariant.{LogOk, StoredOk, HeldOk}
 use Rattle.consistency.specs.Growth.{won-grows, Adds, adds-refl}
 use Rattle.consistency.specs.Acts.{Held}
 use Rattle.consistency.specs.Added.{adds-vote}
@@ -42,6 +40,7 @@ module _ (n buckets now taken p : ℕ) (log : Log) (ok : LogOk n now taken log) 
               shape = record { copies = rw j (agrees .shape .copies); votes = agrees .shape .votes; rounds = agrees .shape .rounds; calls = agrees .shape .calls };
               stored = k;
               won = λ l. rw i (won-grows (add .grows) (agrees .won l));
+              calls = λ b c x. let o = agrees .calls b c x in record { line = o .line; begun = add .grows .begins _ (o .begun); unended = rw f (o .unended) };
               role = λ x. let z : _≡_ {A = ℕ} 0 1 = cc in absurd (omega arith);
             };
         sends = λ m x. none-in x;
@@ -69,6 +68,7 @@ module _ (n buckets now taken p : ℕ) (log : Log) (ok : LogOk n now taken log) 
               shape = record { copies = agrees .shape .copies; votes = simp length-map (agrees .shape .votes); rounds = simp length-map (agrees .shape .rounds); calls = simp length-map (agrees .shape .calls) };
               stored = agrees .stored;
               won = λ l. let z : _≡_ {A = ℕ} 0 1 = cc in absurd (omega arith);
+              calls = λ b c x. let z : _≡_ {A = ℕ} 0 1 = cc (List·getD-map (λ y. none) (s .volatile .calls) b none) in absurd (omega arith);
               role = λ x b. (List·getD-map (λ y. none) (s .volatile .rounds) b none, List·getD-map (λ y. none) (s .volatile .calls) b none);
             };
         sends = λ m x. none-in x;

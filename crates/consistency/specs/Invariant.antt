@@ -235,12 +235,13 @@ pub record ServerOk (n buckets : ℕ) (log : Log) (p : ℕ) (s : Server) : Type 
   pub stored : StoredOk log p (s .stored)
   pub role : RoleOk n log p (s .stored) (s .volatile) (s .volatile .role)
 
--- any server: what a stopped one keeps beside what it stores is not used, but for its having won what it leads under. A leader that was
--- cut may have voted above its number
+-- any server: what a stopped one keeps beside what it stores is not used, but for its having won what it leads under and for its open
+-- calls, which nobody else ends. A leader that was cut may have voted above its number
 pub record HeldOk (n buckets : ℕ) (log : Log) (p : ℕ) (s : Server) : Type 0 where
   pub shape : Shape n buckets s
   pub stored : StoredOk log p (s .stored)
   pub won : s .volatile .role ≡ leading → Won log (s .stored .number) p
+  pub calls : (b : ℕ) (c : Call) → callAt (s .volatile) b ≡ some c → CallOk log p b c
   pub role : s .stopped ≡ false → RoleOk n log p (s .stored) (s .volatile) (s .volatile .role)
 
 pub running : {n buckets : ℕ} {log : Log} {p : ℕ} {s : Server} → HeldOk n buckets log p s → s .stopped ≡ false → ServerOk n buckets log p s
@@ -251,6 +252,24 @@ role-won n log p st w follower h e = let z : _≡_ {A = ℕ} 0 1 = cc in absurd 
 role-won n log p st w candidate h e = let z : _≡_ {A = ℕ} 0 1 = cc in absurd (omega arith)
 role-won n log p st w leading h e = h .0
 
+bucket-call : (n : ℕ) (log : Log) (p e b : ℕ) (copy : Copy) (r : Option Round) (c : Call) → BucketOk n log p e b copy r (some c) → CallOk log p b c
+bucket-call n log p e b copy none c h = absurd h
+bucket-call n log p e b copy (some r) c h = h .call
+
+idle-call : {P : Type 0} (w : Volatile) → Idle w → (b : ℕ) (c : Call) → callAt w b ≡ some c → P
+idle-call w h b c e = let z : _≡_ {A = ℕ} 0 1 = cc (h b .1) in absurd (omega arith)
+
+role-calls : (n : ℕ) (log : Log) (p : ℕ) (st : Stored) (w : Volatile) (r : Role) → RoleOk n log p st w r → (b : ℕ) (c : Call) → callAt w b ≡ some c → CallOk log p b c
+role-calls n log p st w follower h b c e = idle-call w h b c e
+role-calls n log p st w candidate h b c e = idle-call w (h .0) b c e
+role-calls n log p st w leading h b c e = bucket-call n log p (st .number) b (copyAt st b) (roundAt w b) c (rw e at (h .4 b))
+
 pub held : {n buckets : ℕ} {log : Log} {p : ℕ} {s : Server} → ServerOk n buckets log p s → HeldOk n buckets log p s
 held {n} {log = log} {p} {s} h =
-    record { shape = h .shape; stored = h .stored; won = role-won n log p (s .stored) (s .volatile) (s .volatile .role) (h .role); role = λ e. h .role }
+    record {
+      shape = h .shape;
+      stored = h .stored;
+      won = role-won n log p (s .stored) (s .volatile) (s .volatile .role) (h .role);
+      calls = role-calls n log p (s .stored) (s .volatile) (s .volatile .role) (h .role);
+      role = λ e. h .role;
+    }

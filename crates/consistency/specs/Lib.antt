@@ -47,4 +47,5 @@ pub mod Agreed
 pub mod Named
 pub mod Faithful
 pub mod Fresh
+pub mod Forgotten
 pub mod Example

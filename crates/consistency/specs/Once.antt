@@ -50,7 +50,7 @@ distinct-regroup a r x d =
 abbrev pub numbersOf : List Answer → List ℕ
 numbersOf out = map (λ a. a .call) out
 
-in-endings : (l : List (Option Call)) (i : ℕ) → i ∈ numbersOf (endings l) → (j : ℕ) × (c : Call) × (getD l j none ≡ some c) × (i ≡ c .number)
+pub in-endings : (l : List (Option Call)) (i : ℕ) → i ∈ numbersOf (endings l) → (j : ℕ) × (c : Call) × (getD l j none ≡ some c) × (i ≡ c .number)
 unfolding endings ended
 in-endings [] i m = none-in m
 in-endings (none ∷ l) i m = let h = in-endings l i m in (suc (h .0), h .1, h .2, h .3)

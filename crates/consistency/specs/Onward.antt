@@ -12,7 +12,7 @@ use lib.Dec.{ltb, eqb}
 use lib.ListN.{length, getD, set, take}
 use Rattle.entries.specs.Entries.{Entry}
 use Rattle.model.specs.Calls.{Words, Result, done, Effect, answers, writes, effect}
-use Rattle.model.specs.Cluster.{Version, version, above, Copy, freshCopy, Stored, copyAt, Role, follower, candidate, leading, Purpose, recoveryRead, recoveryWrite, check, ownWrite, Mark, acknowledged, refused, Round, Volatile, roundAt, callAt, Server, Body, pleaseVote, ackVote, nackVote, replicaWrite, ackWrite, nackWrite, replicaRead, ackRead, nackRead, Message}
+use Rattle.model.specs.Cluster.{Version, version, Copy, freshCopy, Stored, copyAt, Role, follower, candidate, leading, Purpose, recoveryRead, recoveryWrite, check, ownWrite, Mark, acknowledged, refused, Round, Volatile, roundAt, callAt, Server, Body, pleaseVote, ackVote, nackVote, replicaWrite, ackWrite, nackWrite, replicaRead, ackRead, nackRead, Message}
 use Rattle.model.specs.Lines.{cutServer, restarted}
 use Rattle.model.specs.Stores.{storesCopy, putStore, putStores, storesOf}
 use Rattle.model.specs.Replica.{voting, afterVote, Request, reading, writing, mayAccept, storing, accepting, acknowledging, refusing}

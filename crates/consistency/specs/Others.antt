@@ -7,7 +7,7 @@ use Rattle.consistency.specs.Log.{Log}
 use Rattle.consistency.specs.Claims.{Won}
 use Rattle.consistency.specs.Invariant.{LogOk, StoredOk, CallOk, CopyNewest, RoleOk, HeldOk}
 use Rattle.consistency.specs.Growth.{won-grows, holds-grows, TakenAt, Adds, one-winner}
-use Rattle.consistency.specs.Buckets.{Untouched, bucket-grows}
+use Rattle.consistency.specs.Buckets.{Untouched, call-grows, bucket-grows}
 
 module _ (n : ℕ) {p q : ℕ} (apart : q ≢ p) {now taken : ℕ} {a b : Log} (add : Adds p a b) (ok : LogOk n now taken b) where
   -- a call that was taken at q was not taken at p
@@ -69,5 +69,6 @@ module _ (n : ℕ) {p q : ℕ} (apart : q ≢ p) {now taken : ℕ} {a b : Log} (
         shape = h .shape;
         stored = stored-stays (h .stored);
         won = λ e. won-grows (add .grows) (h .won e);
+        calls = λ k c e. let o = h .calls k c e in call-grows (add .grows) (untouched o) o;
         role = λ e. role-stays (s .stored) (s .volatile) (s .volatile .role) (h .role e);
       }

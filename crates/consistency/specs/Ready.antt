@@ -6,8 +6,7 @@ use mathlib.Core.Option.{some}
 use Prim.Native.Nat.{ℕ, _≤_, _<_}
 use native.Mathlib.Decide.{ℕ-discrete}
 use Rattle.model.specs.Cluster.{copyAt, leading, Round, Call, roundAt, callAt, Server}
-use Rattle.history.specs.Members.{_∈_}
-use Rattle.consistency.specs.Log.{Opened, Log, Grows, _⊆_}
+use Rattle.consistency.specs.Log.{Log, Grows, _⊆_}
 use Rattle.consistency.specs.Claims.{Won}
 use Rattle.consistency.specs.Growth.{won-grows}
 use Rattle.consistency.specs.Ceasing.{stored-grows}

@@ -5,10 +5,9 @@ use mathlib.Core.List.{List}
 use mathlib.Core.Bool.{false}
 use mathlib.Core.Option.{some}
 use Prim.Native.Nat.{ℕ, _<_}
-use native.Mathlib.Omega.{arith}
 use lib.ListN.{length}
-use Rattle.model.specs.Cluster.{Cluster, Server, Volatile, freshServer}
-use Rattle.model.specs.Lines.{State, Tally, initialState, serverAt, restarted}
+use Rattle.model.specs.Cluster.{Cluster, Server, freshServer}
+use Rattle.model.specs.Lines.{Tally, initialState, serverAt, restarted}
 use Rattle.model.specs.Run.{stateAfter}
 use Rattle.model.proofs.Stores.{forgotten-is-fresh}
 use Rattle.limits.specs.Lists.{all-at}

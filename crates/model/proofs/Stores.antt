@@ -10,7 +10,7 @@ use Prim.Native.Nat.{ℕ, zero, suc, _≤_, _<_}
 use native.Mathlib.Omega.{arith}
 use lib.Dec.{ltb, eqb}
 use lib.ListN.{length, take, replicate, set}
-use borrow.Author.Tests.{eqb-true, ltb-true, ltb-false}
+use borrow.Author.Tests.{eqb-true, eq-eqb, ltb-true, ltb-false, le-ltb}
 use Rattle.entries.specs.Entries.{Entry}
 use Rattle.model.specs.Cluster.{Version, above, Stored, copyAt, Round, Call, Volatile, Server, Body, pleaseVote, ackVote, nackVote, replicaWrite, ackWrite, nackWrite, replicaRead, ackRead, nackRead, Message, freshServer}
 use Rattle.model.specs.Replica.{voting, afterVote, Request, reading, writing, mayAccept, storing, accepting, acknowledging, refusing}
@@ -117,32 +117,44 @@ module _ (m : Message) (st : Stored) (P : List Store → Type 0) where
   abbrev theVote : Store
   theVote = storesVote (m .election) (m .sender)
 
-  vote-cases : P [] → P (theVote ∷ []) → P (voteStores (m .election) (m .sender) st)
+  -- the vote or its leader is another
+  abbrev NewVote : Type 0
+  NewVote = m .election ≡ st .vote → m .sender ≡ st .leader → ⊥
+
+  other-number : eqb (m .election) (st .vote) ≡ false → NewVote
+  other-number i e f = let z : _≡_ {A = ℕ} 0 1 = cc (eq-eqb _ _ e) in absurd (omega arith)
+
+  other-leader : eqb (m .sender) (st .leader) ≡ false → NewVote
+  other-leader i e f = let z : _≡_ {A = ℕ} 0 1 = cc (eq-eqb _ _ f) in absurd (omega arith)
+
+  vote-cases : P [] → (NewVote → P (theVote ∷ [])) → P (voteStores (m .election) (m .sender) st)
   unfolding voteStores
-  vote-cases p q = go (eqb (m .election) (st .vote)) (eqb (m .sender) (st .leader))
+  vote-cases p q = go (eqb (m .election) (st .vote)) refl (eqb (m .sender) (st .leader)) refl
     where
-      go : (a b : Bool) → P (elim a [ false ↦ theVote ∷ [] | true ↦ elim b [ true ↦ [] | false ↦ theVote ∷ [] ] ])
-      go false b = q
-      go true true = p
-      go true false = q
+      go : (a : Bool) → eqb (m .election) (st .vote) ≡ a → (b : Bool) → eqb (m .sender) (st .leader) ≡ b
+          → P (elim a [ false ↦ theVote ∷ [] | true ↦ elim b [ true ↦ [] | false ↦ theVote ∷ [] ] ])
+      go false i b j = q (other-number i)
+      go true i true j = p
+      go true i false j = q (other-leader j)
 
   -- with the bucket's store the vote's is left out only where the vote stands there
-  write-cases : (v : Version) (t : List Entry) → P [] → P (theVote ∷ [])
+  write-cases : (v : Version) (t : List Entry) → P [] → (NewVote → P (theVote ∷ []))
       → (above v (copyAt st (m .bucket) .version) ≡ true → m .election ≡ st .vote → P (storesCopy (m .bucket) v t ∷ []))
-      → (above v (copyAt st (m .bucket) .version) ≡ true → P (theVote ∷ storesCopy (m .bucket) v t ∷ []))
+      → (NewVote → above v (copyAt st (m .bucket) .version) ≡ true → P (theVote ∷ storesCopy (m .bucket) v t ∷ []))
       → P (voteStores (m .election) (m .sender) st ++ copyStores (m .bucket) v t st)
   unfolding voteStores copyStores
-  write-cases v t p q r s = go (eqb (m .election) (st .vote)) refl (eqb (m .sender) (st .leader)) (above v (copyAt st (m .bucket) .version)) refl
+  write-cases v t p q r s = go (eqb (m .election) (st .vote)) refl (eqb (m .sender) (st .leader)) refl (above v (copyAt st (m .bucket) .version)) refl
     where
-      go : (a : Bool) → eqb (m .election) (st .vote) ≡ a → (b c : Bool) → above v (copyAt st (m .bucket) .version) ≡ c
+      go : (a : Bool) → eqb (m .election) (st .vote) ≡ a → (b : Bool) → eqb (m .sender) (st .leader) ≡ b
+          → (c : Bool) → above v (copyAt st (m .bucket) .version) ≡ c
           → P ((elim a as (λ _. List Store) [ false ↦ theVote ∷ [] | true ↦ elim b [ true ↦ [] | false ↦ theVote ∷ [] ] ])
           ++ (elim c as (λ _. List Store) [ true ↦ storesCopy (m .bucket) v t ∷ [] | false ↦ [] ]))
-      go false e b true i = s i
-      go false e b false i = q
-      go true e true true i = r i (eqb-true _ _ e)
-      go true e true false i = p
-      go true e false true i = s i
-      go true e false false i = q
+      go false e b f true i = s (other-number e) i
+      go false e b f false i = q (other-number e)
+      go true e true f true i = r i (eqb-true _ _ e)
+      go true e true f false i = p
+      go true e false f true i = s (other-leader f) i
+      go true e false f false i = q (other-leader f)
 
   request-cases : (request : Request) → P [] → (st .vote ≤ m .election → P (acceptStores (m .bucket) (m .election) (m .sender) request st))
       → P (requestStores m request st)
@@ -163,15 +175,15 @@ module _ (m : Message) (st : Stored) (P : List Store → Type 0) where
 
   pub stores-cases : P []
       → (m .body ≡ pleaseVote → st .vote < m .election → P (theVote ∷ []))
-      → (m .body ≡ replicaRead → st .vote ≤ m .election → P (theVote ∷ []))
-      → ((v : Version) (t : List Entry) → m .body ≡ replicaWrite v t → st .vote ≤ m .election → P (theVote ∷ []))
+      → (m .body ≡ replicaRead → st .vote ≤ m .election → NewVote → P (theVote ∷ []))
+      → ((v : Version) (t : List Entry) → m .body ≡ replicaWrite v t → st .vote ≤ m .election → NewVote → P (theVote ∷ []))
       → ((v : Version) (t : List Entry) → m .body ≡ replicaWrite v t → above v (copyAt st (m .bucket) .version) ≡ true → m .election ≡ st .vote
       → P (storesCopy (m .bucket) v t ∷ []))
-      → ((v : Version) (t : List Entry) → m .body ≡ replicaWrite v t → above v (copyAt st (m .bucket) .version) ≡ true → st .vote ≤ m .election
+      → ((v : Version) (t : List Entry) → m .body ≡ replicaWrite v t → above v (copyAt st (m .bucket) .version) ≡ true → st .vote ≤ m .election → NewVote
       → P (theVote ∷ storesCopy (m .bucket) v t ∷ []))
       → P (storesOf m st)
   unfolding storesOf acceptStores
-  stores-cases p ballot read write copy both = go (m .body) refl
+  stores-cases p granted read write copy both = go (m .body) refl
     where
       go : (x : Body) → m .body ≡ x → P (elim x as (λ _. List Store) [
         | pleaseVote ↦ pleaseVoteStores (m .election) (m .sender) st
@@ -184,10 +196,10 @@ module _ (m : Message) (st : Stored) (P : List Store → Type 0) where
         | ackRead v t ↦ []
         | nackRead ↦ []
       ])
-      go pleaseVote e = please-vote-cases p (ballot e)
+      go pleaseVote e = please-vote-cases p (granted e)
       go ackVote e = p
       go nackVote e = p
-      go (replicaWrite v t) e = request-cases (writing v t) p (λ h. write-cases v t p (write v t e h) (copy v t e) (λ i. both v t e i h))
+      go (replicaWrite v t) e = request-cases (writing v t) p (λ h. write-cases v t p (write v t e h) (copy v t e) (λ z i. both v t e i h z))
       go ackWrite e = p
       go nackWrite e = p
       go replicaRead e = request-cases reading p (λ h. vote-cases p (read e h))
@@ -196,7 +208,30 @@ module _ (m : Message) (st : Stored) (P : List Store → Type 0) where
 
 -- at most two
 pub few-stores : (m : Message) (st : Stored) → length (storesOf m st) ≤ 2
-few-stores m st = stores-cases m st (λ l. length l ≤ 2) (omega arith) (λ e h. omega arith) (λ e h. omega arith) (λ v t e h. omega arith) (λ v t e h i. omega arith) (λ v t e h i. omega arith)
+few-stores m st =
+    stores-cases m st (λ l. length l ≤ 2) (omega arith) (λ e h. omega arith) (λ e h z. omega arith) (λ v t e h z. omega arith) (λ v t e h i. omega arith)
+    (λ v t e h i z. omega arith)
+
+-- a store is made only where that part changes
+abbrev pub Changes : Stored → Store → Type 0
+Changes st (storesVote e p) = e ≡ st .vote → p ≡ st .leader → ⊥
+Changes st (storesCopy b v t) = v ≡ copyAt st b .version → ⊥
+
+abbrev pub AllChange : Stored → List Store → Type 0
+AllChange st [] = Unit {0}
+AllChange st (x ∷ l) = Changes st x × AllChange st l
+
+not-above-itself : (w : Version) → above w w ≡ false
+unfolding above
+not-above-itself w = rw (above, eq-eqb (w .election) (w .election) refl, le-ltb (w .counter) (w .counter) (omega arith))
+
+above-differs : (v w : Version) → above v w ≡ true → v ≡ w → ⊥
+above-differs v w h e = let z : _≡_ {A = ℕ} 0 1 = cc (not-above-itself w, rw e at h) in absurd (omega arith)
+
+pub each-store-changes : (m : Message) (st : Stored) → AllChange st (storesOf m st)
+each-store-changes m st =
+    stores-cases m st (AllChange st) tt (λ e h. (λ i j. omega arith, tt)) (λ e h z. (z, tt)) (λ v t e h z. (z, tt))
+    (λ v t e h i. (above-differs v _ h, tt)) (λ v t e h i z. (z, (above-differs v _ h, tt)))
 
 -- ---- cuts
 
@@ -235,13 +270,13 @@ module _ (m : Message) (st : Stored) (P : Stored → Type 0) where
       → P (putStore (storesCopy (m .bucket) v t) voted))
       → (k : ℕ) → P (putStores (take k (storesOf m st)) st)
   unfolding putStore
-  cut-cases p ballot read write copy both k =
+  cut-cases p granted read write copy both k =
       stores-cases m st (λ l. P (putStores (take k l) st)) (none-made st P p k)
-      (λ e h. one-made st P p _ (ballot e h) k)
-      (λ e h. one-made st P p _ (read e h) k)
-      (λ v t e h. one-made st P p _ (write v t e h) k)
+      (λ e h. one-made st P p _ (granted e h) k)
+      (λ e h z. one-made st P p _ (read e h) k)
+      (λ v t e h z. one-made st P p _ (write v t e h) k)
       (λ v t e h i. one-made st P p _ (copy v t e h i) k)
-      (λ v t e h i. two-made st P p _ _ (write v t e i) (both v t e h i) k)
+      (λ v t e h i z. two-made st P p _ _ (write v t e i) (both v t e h i) k)
 
 -- with all stores of the message as the new state
 abbrev Left : Stored → List Store → ℕ → Type 0
@@ -253,8 +288,8 @@ Left st l k =
 left-of-stores : (k : ℕ) (m : Message) (st : Stored) → Left st (storesOf m st) k
 unfolding putStores putStore
 left-of-stores k m st =
-    stores-cases m st (λ l. Left st l k) (none-left k) (λ e h. one-left _ k) (λ e h. one-left _ k) (λ v t e h. one-left _ k) (λ v t e h i. one-left _ k)
-    (λ v t e h i. two-left _ v t k)
+    stores-cases m st (λ l. Left st l k) (none-left k) (λ e h. one-left _ k) (λ e h z. one-left _ k) (λ v t e h z. one-left _ k) (λ v t e h i. one-left _ k)
+    (λ v t e h i z. two-left _ v t k)
   where
     none-left : (i : ℕ) → Left st [] i
     none-left zero = inl refl

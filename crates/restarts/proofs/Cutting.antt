@@ -1,11 +1,11 @@
 -- A cut as a move: the stores that a message makes, and the first of them.
 use mathlib.Core.Path.{_≡_, refl, sym, ap, _∙_, subst⁻¹}
 use mathlib.Core.Logic.{_⊎_, inl, inr}
-use mathlib.Core.Bool.{Bool, true, false, not}
+use mathlib.Core.Bool.{Bool, true, false}
 use mathlib.Core.List.{List, [], _∷_, _++_}
 use Prim.Native.Nat.{ℕ, zero, suc}
 use native.Mathlib.Omega.{arith}
-use borrow.Author.Tests.{eqb-true, le-leb, lt-leb}
+use borrow.Author.Tests.{eqb-true, le-leb}
 use lib.Dec.{eqb, ltb, leb}
 use lib.ListN.{length, take, set}
 use lib.Seq.{set-set}
@@ -17,13 +17,12 @@ use Rattle.model.specs.Replica as replica
 use Rattle.model.specs.Replica.{mayAccept}
 use Rattle.model.specs.Stores as model
 use Rattle.model.specs.Stores.{Store, storesCopy, putStore, putStores, voteStores, copyStores, acceptStores, requestStores, pleaseVoteStores, storesOf, asks}
-use Rattle.model.specs.Leader.{Reaction, reaction, noReaction}
+use Rattle.model.specs.Leader.{reaction, noReaction}
 use Rattle.model.specs.Lines.{cutServer}
 use Rattle.cells.specs.Laws.{copy-there}
-use Rattle.server.specs.declared.Head.{Head}
 use Rattle.server.specs.declared.Message.{Message}
 use Rattle.server.specs.declared.Version.{Version}
-use Rattle.server.specs.Views.{storedIn, versionIn, flagIn, chosen, isBroadcast}
+use Rattle.server.specs.Views.{versionIn, flagIn, chosen, isBroadcast}
 use Rattle.server.specs.Heads.{votingHead}
 use Rattle.rounds.specs.Rounds.{pickVersion, noVersion}
 use Rattle.moves.specs.declared.Local.{Local}

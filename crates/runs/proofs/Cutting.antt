@@ -2,14 +2,14 @@
 use mathlib.Core.Path.{_≡_, refl, sym, ap, _∙_}
 use mathlib.Core.Bool.{Bool, true, false, not}
 use mathlib.Core.List.{List, [], _∷_}
-use Prim.Native.Nat.{ℕ, _≤_, _<_, min}
+use Prim.Native.Nat.{ℕ, _<_, min}
 use native.Mathlib.Omega.{arith}
 use borrow.Author.Tests.{lt-leb, leb-true, leb-false, le-ltb, lt-ltb}
 use lib.Dec.{leb, ltb}
 use lib.ListN.{length}
 use Rattle.entries.specs.Decoded.{tableIn, valueBytes}
 use Rattle.model.specs.Cluster as cluster
-use Rattle.model.specs.Stores.{storesOf, asks}
+use Rattle.model.specs.Stores.{storesOf}
 use Rattle.model.specs.Leader.{Reaction, reaction}
 use Rattle.model.specs.Lines as lines
 use Rattle.server.specs.declared.Message.{Message}
@@ -23,7 +23,7 @@ use Rattle.moves.specs.declared.Move.{Move}
 use Rattle.restarts.specs.Restarts.{storesVote, storesBucket, storesMade, cuttable, cutMove}
 use Rattle.moves.specs.Reactions.{askedIn}
 use Rattle.restarts.proofs.Cutting.{asks-seen, count-seen, cut-means}
-use Rattle.views.specs.Memory.{Memory, slotOf, localAt, callWordsAt, serverAt, clusterAt}
+use Rattle.views.specs.Memory.{Memory, slotOf, callWordsAt, serverAt, clusterAt}
 use Rattle.views.proofs.Contents.{tablesAt}
 use Rattle.views.proofs.Seen.{server-seen}
 use Rattle.views.proofs.Whole.{whole-at, whole-cut}
@@ -32,7 +32,7 @@ use Rattle.plans.specs.declared.Plan.{Plan}
 use Rattle.plans.specs.Plans.{refusedPlan, roomy, movePlan, gone, receiverAt, cutStep, cutPlan, cutAt}
 use Rattle.runs.specs.Runs.{executed}
 use Rattle.runs.specs.Meaning.{stateIn, resultOf}
-use Rattle.runs.proofs.Accepting.{Ready, Possible, keptMessages, workOf, reactionOf}
+use Rattle.runs.proofs.Accepting.{Ready, Possible, workOf, reactionOf}
 use Rattle.runs.proofs.Standing.{measured}
 use Rattle.runs.proofs.Conditions.{judged, planned, refusing, ready-perform, condition-judged, message-judged, moved-run}
 use Rattle.runs.proofs.Handing.{message, message-there, message-within, mine, receiver-there, receiver-stopped}

@@ -5,9 +5,10 @@
 mod common;
 
 use common::plain::Plain;
+use common::LIVELY;
 use reference::cluster::Step;
 use reference::script::{parse, Line, Script};
-use reference::scripts::{generate, Kind};
+use reference::scripts::generate;
 use std::collections::{BTreeMap, BTreeSet};
 
 /// The bucket of a call, and its words without the server.
@@ -200,20 +201,10 @@ impl<'a> Search<'a> {
     }
 }
 
-const KINDS: [Kind; 7] = [
-    Kind::Ordinary,
-    Kind::Rivals,
-    Kind::Crowded,
-    Kind::Hostile,
-    Kind::Long,
-    Kind::Blind,
-    Kind::Settled,
-];
-
 #[test]
 fn answers_of_random_scripts_have_one_order() {
     let (mut ended, mut forgotten) = (0, 0);
-    for kind in KINDS {
+    for kind in LIVELY {
         for seed in 0..600 {
             let history = History::of(&generate(kind, 500 + seed, 300));
             assert!(history.has_order(), "{kind:?} {seed}");

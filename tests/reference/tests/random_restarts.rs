@@ -1,23 +1,15 @@
 //! Cuts and starts in random scripts: the three states that a cut may leave,
 //! what a start forgets, and how often each case comes.
 
+mod common;
+
+use common::LIVELY;
 use reference::cluster::server::{Replica, Role, Server, BUCKETS};
 use reference::cluster::Step;
 use reference::script::{parse, Line, Script};
 use reference::scripts::{generate, Kind};
 use std::collections::BTreeMap;
 use std::ops::Range;
-
-const KINDS: [Kind; 8] = [
-    Kind::Ordinary,
-    Kind::Rivals,
-    Kind::Crowded,
-    Kind::Hostile,
-    Kind::Long,
-    Kind::Blind,
-    Kind::Settled,
-    Kind::Elections,
-];
 
 /// What a server stores: its number, the vote with its leader, its buckets.
 #[derive(Clone, Copy, PartialEq, Eq, Debug)]
@@ -68,10 +60,14 @@ fn step(script: &Script, line: &[u8]) -> Option<Step> {
     }
 }
 
+fn kinds() -> impl Iterator<Item = Kind> {
+    LIVELY.into_iter().chain([Kind::Elections])
+}
+
 /// Random scripts of every kind.
 fn scripts(seeds: Range<u64>) -> impl Iterator<Item = Vec<u8>> {
     let of_kind = move |kind| seeds.clone().map(move |seed| generate(kind, seed, 400));
-    KINDS.into_iter().flat_map(of_kind)
+    kinds().flat_map(of_kind)
 }
 
 /// Runs random scripts and shows each cut and start with the script before and
@@ -268,7 +264,7 @@ fn try_cuts(script: &Script) -> usize {
 /// Every kind of script has cuts, and servers that come back.
 #[test]
 fn every_kind_of_script_has_cuts_and_starts() {
-    for kind in KINDS {
+    for kind in kinds() {
         let mut met = [0, 0];
         let mut count = |step: &Step, _: &Script, _: &Script, accepted: bool| {
             met[usize::from(matches!(step, Step::Start(_)))] += usize::from(accepted);

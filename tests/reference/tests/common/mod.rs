@@ -8,6 +8,18 @@ use reference::cluster::Cluster;
 use reference::datagram::{PLEASEVOTE, REPLICAREAD, REPLICAWRITE};
 use reference::quiet::Conditions;
 use reference::script::Script;
+use reference::scripts::Kind;
+
+/// Kinds of scripts in which calls, losses and restarts meet.
+pub const LIVELY: [Kind; 7] = [
+    Kind::Ordinary,
+    Kind::Rivals,
+    Kind::Crowded,
+    Kind::Hostile,
+    Kind::Long,
+    Kind::Blind,
+    Kind::Settled,
+];
 
 /// What a whole script prints.
 pub fn run(text: &[u8]) -> Vec<u8> {
