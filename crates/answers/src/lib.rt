@@ -58,14 +58,15 @@ fn end_calls(answers: &mut [u32; 32], slots: &[u32; 1792], s: usize, most: usize
     count as u32
 }
 
-// What a move answers: the call of its slot, or all open calls where leading ends. The slots are those before the move.
+// What a move answers: the call of its slot, or all open calls where leading ends, unless they are forgotten. The slots are those before
+// the move.
 pub fn answer(answers: &mut [u32; 32], slots: &[u32; 1792], s: usize, most: usize, v: Move) -> u32
     requires { ⌜ (s < serverRoom) × (most ≤ 8) ⌝ }
     ensures { λ r. ⌜ Listed (answered (now (slots .entry)) most s v (now (answers .entry))) (now (answers .exit)) r ⌝ }
 {
     let a = v.answer;
     if v.ceases {
-        if v.untold {
+        if v.forgets {
             return 0;
         }
         return end_calls(answers, slots, s, most);

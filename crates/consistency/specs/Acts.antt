@@ -4,12 +4,12 @@ use mathlib.Core.Path.{_≡_}
 use mathlib.Core.List.{List, _∷_, _++_, map}
 use Prim.Native.Nat.{ℕ}
 use Rattle.model.specs.Calls.{Answer}
-use Rattle.model.specs.Cluster.{Message}
+use Rattle.model.specs.Cluster.{Server, Message}
 use Rattle.model.specs.Leader.{Reaction}
 use Rattle.history.specs.Members.{_∈_}
 use Rattle.consistency.specs.Log.{Vote, Win, Write, Accept, Report, Opened, Check, Begun, Ended, Log}
 use Rattle.consistency.specs.Claims.{MessageOk}
-use Rattle.consistency.specs.Invariant.{LogOk, ServerOk, HeldOk, held}
+use Rattle.consistency.specs.Invariant.{LogOk, ServerOk, AnyServerOk, any-server}
 use Rattle.consistency.specs.Growth.{Adds}
 
 -- ---- a log with one entry more
@@ -47,25 +47,24 @@ addEnded x l = record { votes = l .votes; wins = l .wins; writes = l .writes; ac
 abbrev pub endsOf : ℕ → List Answer → List Ended
 endsOf now l = map (λ a. record { number = a .call; result = a .result; line = now }) l
 
-pub record Kept (n buckets now taken p : ℕ) (log : Log) (r : Reaction) : Type 0 where
+-- `Ok` is what holds of server p afterwards
+pub record KeptAs (Ok : Log → Server → Type 0) (n buckets now taken p : ℕ) (log : Log) (r : Reaction) : Type 0 where
   pub next : Log
   pub adds : Adds p log next
   pub facts : LogOk n now taken next
-  pub server : ServerOk n buckets next p (r .server)
+  pub server : Ok next (r .server)
   pub sends : (m : Message) → m ∈ r .sends → MessageOk buckets next m
   pub begins : next .begins ≡ log .begins
   pub ends : (x : Ended) → (x ∈ next .ends → x ∈ (endsOf now (r .answers) ++ log .ends)) × (x ∈ (endsOf now (r .answers) ++ log .ends) → x ∈ next .ends)
 
--- the same of a line that may stop server p, or bring it back
-pub record Held (n buckets now taken p : ℕ) (log : Log) (r : Reaction) : Type 0 where
-  pub next : Log
-  pub adds : Adds p log next
-  pub facts : LogOk n now taken next
-  pub server : HeldOk n buckets next p (r .server)
-  pub sends : (m : Message) → m ∈ r .sends → MessageOk buckets next m
-  pub begins : next .begins ≡ log .begins
-  pub ends : (x : Ended) → (x ∈ next .ends → x ∈ (endsOf now (r .answers) ++ log .ends)) × (x ∈ (endsOf now (r .answers) ++ log .ends) → x ∈ next .ends)
+-- a server that runs
+abbrev pub Kept : (n buckets now taken p : ℕ) → Log → Reaction → Type 0
+Kept n buckets now taken p = KeptAs (λ next s. ServerOk n buckets next p s) n buckets now taken p
 
-pub kept-held : {n buckets now taken p : ℕ} {log : Log} {r : Reaction} → Kept n buckets now taken p log r → Held n buckets now taken p log r
-kept-held k =
-    record { next = k .next; adds = k .adds; facts = k .facts; server = held (k .server); sends = k .sends; begins = k .begins; ends = k .ends }
+-- one that may have been stopped, or brought back
+abbrev pub KeptAny : (n buckets now taken p : ℕ) → Log → Reaction → Type 0
+KeptAny n buckets now taken p = KeptAs (λ next s. AnyServerOk n buckets next p s) n buckets now taken p
+
+pub kept-any : {n buckets now taken p : ℕ} {log : Log} {r : Reaction} → Kept n buckets now taken p log r → KeptAny n buckets now taken p log r
+kept-any k =
+    record { next = k .next; adds = k .adds; facts = k .facts; server = any-server (k .server); sends = k .sends; begins = k .begins; ends = k .ends }

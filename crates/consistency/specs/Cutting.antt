@@ -10,26 +10,26 @@ use lib.ListN.{length, length-set, length-map, List·getD-map}
 use Rattle.entries.specs.Entries.{Entry}
 use Rattle.model.specs.Cluster.{Version, above, Stored, copyAt, Server, replicaWrite, replicaRead, Message}
 use Rattle.model.specs.Replica.{voting}
-use Rattle.model.specs.Stores.{storesCopy, putStore}
+use Rattle.model.specs.Stores.{copyStore, putStore}
 use Rattle.model.proofs.Stores.{cut-cases}
 use Rattle.model.specs.Leader.{reaction, ceased, forgotten}
 use Rattle.model.specs.Lines.{halted, cutServer, restarted}
 use Rattle.history.specs.Members.{none-in}
 use Rattle.consistency.specs.Log.{Log}
 use Rattle.consistency.specs.Claims.{Won, later, BodyOk, MessageOk}
-use Rattle.consistency.specs.Invariant.{LogOk, StoredOk, HeldOk}
+use Rattle.consistency.specs.Invariant.{LogOk, StoredOk, AnyServerOk}
 use Rattle.consistency.specs.Growth.{won-grows, Adds, adds-refl}
-use Rattle.consistency.specs.Acts.{Held}
+use Rattle.consistency.specs.Acts.{KeptAny}
 use Rattle.consistency.specs.Added.{adds-vote}
 use Rattle.consistency.specs.Above.{above-lt}
 use Rattle.consistency.specs.Voting.{freshVote, vote-stored, vote-fact}
 use Rattle.consistency.specs.Storing.{heeded-stored, copy-stored}
 
-module _ (n buckets now taken p : ℕ) (log : Log) (ok : LogOk n now taken log) (s : Server) (agrees : HeldOk n buckets log p s) where
+module _ (n buckets now taken p : ℕ) (log : Log) (ok : LogOk n now taken log) (s : Server) (agrees : AnyServerOk n buckets log p s) where
   -- stopped, with what it stores by then
   stopped-with : (next : Log) → Adds p log next → LogOk n now taken next → next .begins ≡ log .begins → next .ends ≡ log .ends
       → (st : Stored) → StoredOk next p st → st .number ≡ s .stored .number → length (st .copies) ≡ length (s .stored .copies)
-      → Held n buckets now taken p log (reaction (record { stored = st; volatile = s .volatile; stopped = true }) [] [])
+      → KeptAny n buckets now taken p log (reaction (record { stored = st; volatile = s .volatile; stopped = true }) [] [])
   stopped-with next add facts e f st k i j =
       record {
         next = next;
@@ -50,15 +50,15 @@ module _ (n buckets now taken p : ℕ) (log : Log) (ok : LogOk n now taken log) 
 
   -- with nothing logged
   stopped-still : (st : Stored) → StoredOk log p st → st .number ≡ s .stored .number → length (st .copies) ≡ length (s .stored .copies)
-      → Held n buckets now taken p log (reaction (record { stored = st; volatile = s .volatile; stopped = true }) [] [])
+      → KeptAny n buckets now taken p log (reaction (record { stored = st; volatile = s .volatile; stopped = true }) [] [])
   stopped-still st k i j = stopped-with log (adds-refl p log) ok refl refl st k i j
 
-  pub stop-held : Held n buckets now taken p log (reaction (halted s) [] [])
-  stop-held = stopped-still (s .stored) (agrees .stored) refl refl
+  pub stop-kept : KeptAny n buckets now taken p log (reaction (halted s) [] [])
+  stop-kept = stopped-still (s .stored) (agrees .stored) refl refl
 
-  pub start-held : Held n buckets now taken p log (reaction (restarted s) [] [])
+  pub start-kept : KeptAny n buckets now taken p log (reaction (restarted s) [] [])
   unfolding forgotten ceased
-  start-held =
+  start-kept =
       record {
         next = log;
         adds = adds-refl p log;
@@ -78,14 +78,14 @@ module _ (n buckets now taken p : ℕ) (log : Log) (ok : LogOk n now taken log) 
 
   module _ (m : Message) (good : MessageOk buckets log m) where
     -- the server, stopped with this stored
-    abbrev Left : Stored → Type 0
-    Left st = Held n buckets now taken p log (reaction (record { stored = st; volatile = s .volatile; stopped = true }) [] [])
+    abbrev StoppedWith : Stored → Type 0
+    StoppedWith st = KeptAny n buckets now taken p log (reaction (record { stored = st; volatile = s .volatile; stopped = true }) [] [])
 
     abbrev voted : Stored
     voted = voting (m .election) (m .sender) (s .stored)
 
     -- a fresh vote is in the log with its store
-    fresh-vote : s .stored .vote < m .election → Left voted
+    fresh-vote : s .stored .vote < m .election → StoppedWith voted
     fresh-vote l =
         stopped-with _ (adds-vote log (freshVote p (m .election) (m .sender))) (vote-fact p (m .election) (m .sender) log ok (agrees .stored) l) refl refl voted
         (vote-stored p (m .election) (m .sender) log (agrees .stored) (s .stored .number) (omega arith) (omega (arith, agrees .stored .number)) l) refl refl
@@ -94,9 +94,9 @@ module _ (n buckets now taken p : ℕ) (log : Log) (ok : LogOk n now taken log) 
       claim : BodyOk buckets log m (replicaWrite v t)
       claim = rw body at (good .claim)
 
-      -- the bucket, where the vote stands as the leader's number
+      -- the bucket, where the vote is the number of the write
       newer-copy : above v (copyAt (s .stored) (m .bucket) .version) ≡ true → (st : Stored) → StoredOk log p st
-          → st .vote ≡ m .election → st .number ≡ s .stored .number → st .copies ≡ s .stored .copies → Left (putStore (storesCopy (m .bucket) v t) st)
+          → st .vote ≡ m .election → st .number ≡ s .stored .number → st .copies ≡ s .stored .copies → StoppedWith (putStore (copyStore (m .bucket) v t) st)
       unfolding putStore
       newer-copy newer st h e i j =
           stopped-still _
@@ -108,9 +108,9 @@ module _ (n buckets now taken p : ℕ) (log : Log) (ok : LogOk n now taken log) 
     heeded : s .stored .vote ≤ m .election → Won log (m .election) (m .sender) → StoredOk log p voted
     heeded l won = heeded-stored (agrees .stored) l won
 
-    pub cut-held : (k : ℕ) → Held n buckets now taken p log (reaction (cutServer k m s) [] [])
-    cut-held k =
-        cut-cases m (s .stored) Left stop-held (λ e l. fresh-vote l)
+    pub cut-kept : (k : ℕ) → KeptAny n buckets now taken p log (reaction (cutServer k m s) [] [])
+    cut-kept k =
+        cut-cases m (s .stored) StoppedWith stop-kept (λ e l. fresh-vote l)
         (λ e l. let c : BodyOk buckets log m replicaRead = rw e at (good .claim) in stopped-still voted (heeded l (c .0)) refl refl)
         (λ v t e l. stopped-still voted (heeded l (claim v t e .0)) refl refl)
         (λ v t e newer i. newer-copy v t e newer (s .stored) (agrees .stored) (sym i) refl refl)

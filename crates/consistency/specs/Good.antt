@@ -11,27 +11,27 @@ use Rattle.model.specs.Lines.{serverAt, afterStep}
 use Rattle.history.specs.Members.{_∈_, each-append}
 use Rattle.consistency.specs.Log.{Log, _⊆_}
 use Rattle.consistency.specs.Claims.{MessageOk}
-use Rattle.consistency.specs.Invariant.{LogOk, HeldOk}
+use Rattle.consistency.specs.Invariant.{LogOk, AnyServerOk}
 use Rattle.consistency.specs.Growth.{message-grows, Adds, adds-trans}
 use Rattle.consistency.specs.Others.{server-stays}
-use Rattle.consistency.specs.Acts.{Held}
+use Rattle.consistency.specs.Acts.{KeptAny}
 
 -- `now` is the number of the present line
 pub record Good (now : ℕ) (c : Cluster) (log : Log) : Type 0 where
   pub facts : LogOk (length (c .servers)) now (c .calls) log
-  pub servers : (p : ℕ) → p < length (c .servers) → HeldOk (length (c .servers)) (c .buckets) log p (serverAt c p)
+  pub servers : (p : ℕ) → p < length (c .servers) → AnyServerOk (length (c .servers)) (c .buckets) log p (serverAt c p)
   pub messages : (m : Message) → m ∈ c .messages → MessageOk (c .buckets) log m
 
 module _ {now taken : ℕ} {c : Cluster} {log base : Log} (good : Good now c log)
     (p : ℕ) (inside : p < length (c .servers)) {r : Reaction} (before : Adds p log base)
-    (kept : Held (length (c .servers)) (c .buckets) now taken p base r) where
+    (kept : KeptAny (length (c .servers)) (c .buckets) now taken p base r) where
   abbrev adds : Adds p log (kept .next)
   adds = adds-trans before (kept .adds)
 
   abbrev after : List Server
   after = set (c .servers) p (r .server)
 
-  stepped-server : (q : ℕ) → q < length (c .servers) → HeldOk (length (c .servers)) (c .buckets) (kept .next) q (getD after q (freshServer 0 0))
+  stepped-server : (q : ℕ) → q < length (c .servers) → AnyServerOk (length (c .servers)) (c .buckets) (kept .next) q (getD after q (freshServer 0 0))
   stepped-server q h =
       elim (ℕ-discrete q p) [
         | yes e ↦ rw (e, getD-set-same (c .servers) p (r .server) (freshServer 0 0) inside) (kept .server)

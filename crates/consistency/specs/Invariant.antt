@@ -205,8 +205,8 @@ Idle w = (b : ℕ) → (roundAt w b ≡ none) × (callAt w b ≡ none)
 abbrev pub Numbered : Log → ℕ → Stored → Volatile → Type 0
 Numbered log p st w = (o : Opened) → o ∈ log .rounds → o .leader ≡ p → o .election ≡ st .number → o .number ≤ w .lastRound
 
--- a server that comes back numbers its rounds from 1 again, under the number that it had: it leads under a higher one only, so that is
--- asked of leaders alone
+-- `Numbered` is asked of leaders alone: after a start the last round is 0, while the log has rounds under the server's number; it leads
+-- again only under a higher one
 abbrev pub RoleOk : ℕ → Log → ℕ → Stored → Volatile → Role → Type 0
 RoleOk n log p st w follower = Idle w
 RoleOk n log p st w candidate =
@@ -235,16 +235,16 @@ pub record ServerOk (n buckets : ℕ) (log : Log) (p : ℕ) (s : Server) : Type 
   pub stored : StoredOk log p (s .stored)
   pub role : RoleOk n log p (s .stored) (s .volatile) (s .volatile .role)
 
--- any server: what a stopped one keeps beside what it stores is not used, but for its having won what it leads under and for its open
--- calls, which nobody else ends. A leader that was cut may have voted above its number
-pub record HeldOk (n buckets : ℕ) (log : Log) (p : ℕ) (s : Server) : Type 0 where
+-- any server. Of what a stopped one keeps beside what is stored, only this is asked: that it won the number it leads under, and that its
+-- open calls were taken there and have not ended. A leader that was cut may have voted above its number
+pub record AnyServerOk (n buckets : ℕ) (log : Log) (p : ℕ) (s : Server) : Type 0 where
   pub shape : Shape n buckets s
   pub stored : StoredOk log p (s .stored)
   pub won : s .volatile .role ≡ leading → Won log (s .stored .number) p
   pub calls : (b : ℕ) (c : Call) → callAt (s .volatile) b ≡ some c → CallOk log p b c
   pub role : s .stopped ≡ false → RoleOk n log p (s .stored) (s .volatile) (s .volatile .role)
 
-pub running : {n buckets : ℕ} {log : Log} {p : ℕ} {s : Server} → HeldOk n buckets log p s → s .stopped ≡ false → ServerOk n buckets log p s
+pub running : {n buckets : ℕ} {log : Log} {p : ℕ} {s : Server} → AnyServerOk n buckets log p s → s .stopped ≡ false → ServerOk n buckets log p s
 running h e = record { shape = h .shape; stored = h .stored; role = h .role e }
 
 role-won : (n : ℕ) (log : Log) (p : ℕ) (st : Stored) (w : Volatile) (r : Role) → RoleOk n log p st w r → r ≡ leading → Won log (st .number) p
@@ -264,8 +264,8 @@ role-calls n log p st w follower h b c e = idle-call w h b c e
 role-calls n log p st w candidate h b c e = idle-call w (h .0) b c e
 role-calls n log p st w leading h b c e = bucket-call n log p (st .number) b (copyAt st b) (roundAt w b) c (rw e at (h .4 b))
 
-pub held : {n buckets : ℕ} {log : Log} {p : ℕ} {s : Server} → ServerOk n buckets log p s → HeldOk n buckets log p s
-held {n} {log = log} {p} {s} h =
+pub any-server : {n buckets : ℕ} {log : Log} {p : ℕ} {s : Server} → ServerOk n buckets log p s → AnyServerOk n buckets log p s
+any-server {n} {log = log} {p} {s} h =
     record {
       shape = h .shape;
       stored = h .stored;

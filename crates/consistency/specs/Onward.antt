@@ -14,7 +14,7 @@ use Rattle.entries.specs.Entries.{Entry}
 use Rattle.model.specs.Calls.{Words, Result, done, Effect, answers, writes, effect}
 use Rattle.model.specs.Cluster.{Version, version, Copy, freshCopy, Stored, copyAt, Role, follower, candidate, leading, Purpose, recoveryRead, recoveryWrite, check, ownWrite, Mark, acknowledged, refused, Round, Volatile, roundAt, callAt, Server, Body, pleaseVote, ackVote, nackVote, replicaWrite, ackWrite, nackWrite, replicaRead, ackRead, nackRead, Message}
 use Rattle.model.specs.Lines.{cutServer, restarted}
-use Rattle.model.specs.Stores.{storesCopy, putStore, putStores, storesOf}
+use Rattle.model.specs.Stores.{copyStore, putStore, putStores, storesOf}
 use Rattle.model.specs.Replica.{voting, afterVote, Request, reading, writing, mayAccept, storing, accepting, acknowledging, refusing}
 use Rattle.model.specs.Leader.{Reaction, reaction, noReaction, after, withStored, withRound, endings, cease, stepDown, standing, elect, onAckVote, closes, fails, newRound, opening, openRound, answerOf, finish, applying, afterRead, checking, recovering, recovered, startRead, startCall, beginCall, closed, counted, counting, onReply, onPleaseVote, onRequest, handle}
 use Rattle.model.specs.Leader
@@ -62,13 +62,13 @@ set-either P (y ∷ l) zero (suc k) x d old new = old
 set-either P (y ∷ l) (suc b) zero x d old new = old
 set-either P (y ∷ l) (suc b) (suc k) x d old new = set-either P l b k x d old (λ e. new (omega arith))
 
--- a write replaces no copy but an older one
 -- a copy of a later version, stored
-copy-renews : (b : ℕ) (v : Version) (t : List Entry) (st : Stored) → copyAt st b .version ≺ v → Renewed st (putStore (storesCopy b v t) st)
+copy-renews : (b : ℕ) (v : Version) (t : List Entry) (st : Stored) → copyAt st b .version ≺ v → Renewed st (putStore (copyStore b v t) st)
 unfolding putStore
 copy-renews b v t st l =
     record { number = refl; copies = λ k. set-either (λ c. copyAt st k .version ≼ c .version) (st .copies) b k _ freshCopy (le-refl _) (λ e. rw e (le-of-lt l)) }
 
+-- a write replaces no copy but an older one
 pub storing-renews : (b : ℕ) (v : Version) (t : List Entry) (st : Stored) → Renewed st (storing b v t st)
 unfolding putStore
 storing-renews b v t st = storing-cases b v t st (Renewed st) (λ l. record { number = refl; copies = λ k. le-refl _ }) (copy-renews b v t st)

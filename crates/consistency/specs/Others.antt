@@ -5,7 +5,7 @@ use Prim.Native.Nat.{ℕ}
 use Rattle.model.specs.Cluster.{Copy, Stored, copyAt, Role, follower, candidate, leading, Call, Volatile, roundAt, callAt, Server}
 use Rattle.consistency.specs.Log.{Log}
 use Rattle.consistency.specs.Claims.{Won}
-use Rattle.consistency.specs.Invariant.{LogOk, StoredOk, CallOk, CopyNewest, RoleOk, HeldOk}
+use Rattle.consistency.specs.Invariant.{LogOk, StoredOk, CallOk, CopyNewest, RoleOk, AnyServerOk}
 use Rattle.consistency.specs.Growth.{won-grows, holds-grows, TakenAt, Adds, one-winner}
 use Rattle.consistency.specs.Buckets.{Untouched, call-grows, bucket-grows}
 
@@ -63,7 +63,7 @@ module _ (n : ℕ) {p q : ℕ} (apart : q ≢ p) {now taken : ℕ} {a b : Log} (
     λ o m e f. elim (add .rounds o m) [ inl k ↦ h .5 o k e f | inr g ↦ absurd (apart (sym e ∙ g)) ],
   )
 
-  pub server-stays : {buckets : ℕ} {s : Server} → HeldOk n buckets a q s → HeldOk n buckets b q s
+  pub server-stays : {buckets : ℕ} {s : Server} → AnyServerOk n buckets a q s → AnyServerOk n buckets b q s
   server-stays {s = s} h =
       record {
         shape = h .shape;

@@ -21,7 +21,7 @@ use Rattle.consistency.specs.Statement.{Begin, End, buckets, meaning, be
 use Rattle.consistency.specs.Log.{Begun, Ended, Log, emptyLog, Grows, _⊆_}
 use Rattle.consistency.specs.Claims.{Holds}
 use Rattle.consistency.specs.Claims
-use Rattle.consistency.specs.Invariant.{LogOk, ServerOk, HeldOk, held}
+use Rattle.consistency.specs.Invariant.{LogOk, ServerOk, AnyServerOk, any-server}
 use Rattle.consistency.specs.Growth.{grows-refl, grows-trans}
 use Rattle.consistency.specs.Acts.{endsOf}
 use Rattle.consistency.specs.Extend.{later-line}
@@ -112,7 +112,7 @@ unfolding freshCluster
 fresh-good n b now =
     record {
       facts = empty-log-ok _ now;
-      servers = rw (length-replicate n (freshServer n b)) (λ p h. at-replicate (HeldOk n b emptyLog p) (freshServer n b) _ n p h (held (fresh-server-ok n b p)));
+      servers = rw (length-replicate n (freshServer n b)) (λ p h. at-replicate (AnyServerOk n b emptyLog p) (freshServer n b) _ n p h (any-server (fresh-server-ok n b p)));
       messages = λ m i. none-in i;
     }
 

@@ -19,9 +19,9 @@ use Rattle.consistency.specs.Statement.{Distinct}
 use Rattle.consistency.specs.Log.{Begun, Ended, Log, Grows, _⊆_}
 use Rattle.consistency.specs.Invariant.{ServerOk, running}
 use Rattle.consistency.specs.Growth.{grows-refl, adds-refl, adds-trans}
-use Rattle.consistency.specs.Acts.{endsOf, Held, kept-held}
+use Rattle.consistency.specs.Acts.{endsOf, KeptAny, kept-any}
 use Rattle.consistency.specs.Added.{adds-begun}
-use Rattle.consistency.specs.Cutting.{stop-held, start-held, cut-held}
+use Rattle.consistency.specs.Cutting.{stop-kept, start-kept, cut-kept}
 use Rattle.consistency.specs.Ceasing.{cease-kept, as-unsettled}
 use Rattle.consistency.specs.Electing.{elect-kept}
 use Rattle.consistency.specs.Beginning.{begin-kept}
@@ -96,7 +96,7 @@ delivery-stopped c m still copied e = rw (delivery, e)
 
 module _ {now : ℕ} {c : Cluster} {log : Log} {t : Tally} (stands : Stands c t) (good : Good now c log) where
   -- a step of server s that the line brings about
-  by-line : (s : ℕ) → s < length (c .servers) → {r : Reaction} (kept : Held (length (c .servers)) (c .buckets) now (c .calls) s log r)
+  by-line : (s : ℕ) → s < length (c .servers) → {r : Reaction} (kept : KeptAny (length (c .servers)) (c .buckets) now (c .calls) s log r)
       → Good now (byLine c s (c .calls) r .cluster) (kept .next)
   by-line s h kept = stepped-good good s h (adds-refl s log) kept (c .messages) (λ m i. i)
 
@@ -107,34 +107,34 @@ module _ {now : ℕ} {c : Cluster} {log : Log} {t : Tally} (stands : Stands c t)
   elect-good : (s : ℕ) → s < length (c .servers) → stoppedAt c s ≡ false → LineGood now c log (elect s)
   unfolding work begunBy
   elect-good s h e =
-      let k = kept-held (elect-kept (length (c .servers)) (c .buckets) now (c .calls) s log (good .facts) (serverAt c s) (runs s h e)) in
+      let k = kept-any (elect-kept (length (c .servers)) (c .buckets) now (c .calls) s log (good .facts) (serverAt c s) (runs s h e)) in
       let g = elect-goes (length (c .servers)) s (serverAt c s) in
       record { next = k .next; good = by-line s h k; grows = k .adds .grows; once = answers-once (good .facts) (runs s h e) g; begins = k .begins; ends = k .ends }
 
   timeout-good : (s b : ℕ) → s < length (c .servers) → stoppedAt c s ≡ false → LineGood now c log (timeout s b)
   unfolding work begunBy
   timeout-good s b h e =
-      let k = kept-held (cease-kept (length (c .servers)) (c .buckets) now (c .calls) s log (good .facts) (serverAt c s) (as-unsettled (runs s h e))) in
+      let k = kept-any (cease-kept (length (c .servers)) (c .buckets) now (c .calls) s log (good .facts) (serverAt c s) (as-unsettled (runs s h e))) in
       record { next = k .next; good = by-line s h k; grows = k .adds .grows; once = answers-once (good .facts) (runs s h e) (cease-goes (serverAt c s)); begins = k .begins; ends = k .ends }
 
   stop-good : (s : ℕ) → s < length (c .servers) → LineGood now c log (stop s)
   unfolding work begunBy
   stop-good s h =
-      let k = stop-held (length (c .servers)) (c .buckets) now (c .calls) s log (good .facts) (serverAt c s) (good .servers s h) in
+      let k = stop-kept (length (c .servers)) (c .buckets) now (c .calls) s log (good .facts) (serverAt c s) (good .servers s h) in
       record { next = k .next; good = by-line s h k; grows = k .adds .grows; once = tt; begins = k .begins; ends = k .ends }
 
   start-good : (s : ℕ) → s < length (c .servers) → LineGood now c log (start s)
   unfolding work begunBy
   start-good s h =
-      let k = start-held (length (c .servers)) (c .buckets) now (c .calls) s log (good .facts) (serverAt c s) (good .servers s h) in
+      let k = start-kept (length (c .servers)) (c .buckets) now (c .calls) s log (good .facts) (serverAt c s) (good .servers s h) in
       record { next = k .next; good = by-line s h k; grows = k .adds .grows; once = tt; begins = k .begins; ends = k .ends }
 
-  -- a message that its server does not get past storing
+  -- a message that is cut
   cut-good : (i k : ℕ) → messageAt c i ∈ c .messages → messageAt c i .receiver < length (c .servers) → LineGood now c log (cut i k)
   unfolding work begunBy
   cut-good i k there h =
       let m = messageAt c i in
-      let x = cut-held (length (c .servers)) (c .buckets) now (c .calls) (m .receiver) log (good .facts) (serverAt c (m .receiver)) (good .servers (m .receiver) h) m (good .messages m there) k in
+      let x = cut-kept (length (c .servers)) (c .buckets) now (c .calls) (m .receiver) log (good .facts) (serverAt c (m .receiver)) (good .servers (m .receiver) h) m (good .messages m there) k in
       record {
         next = x .next;
         good = stepped-good good (m .receiver) h (adds-refl (m .receiver) log) x (dropAt i (c .messages)) (dropped-sub i (c .messages));
@@ -149,7 +149,7 @@ module _ {now : ℕ} {c : Cluster} {log : Log} {t : Tally} (stands : Stands c t)
   unfolding work begunBy
   call-good s w h e inside leads free =
       let b = bucketFor (c .buckets) w in
-      let k = kept-held (begin-kept (length (c .servers)) (c .buckets) now (c .calls) s b (good .facts) (runs s h e) leads inside free (c .calls + 1) (add-one (c .calls)) w) in
+      let k = kept-any (begin-kept (length (c .servers)) (c .buckets) now (c .calls) s b (good .facts) (runs s h e) leads inside free (c .calls + 1) (add-one (c .calls)) w) in
       let g = going (beginCall-moves (length (c .servers)) s b (c .calls + 1) w (serverAt c s)) in
       record {
         next = k .next;
@@ -182,7 +182,7 @@ module _ {now : ℕ} {c : Cluster} {log : Log} {t : Tally} (stands : Stands c t)
       go : (t : Bool) → stoppedAt c (m .receiver) ≡ t → LineGood now c log l
       go true i = lost-good l still copied sub (e ∙ delivery-stopped c m still copied i) f
       go false i =
-          let k = kept-held (handle-kept (length (c .servers)) (c .buckets) now (c .calls) (good .facts) m (runs (m .receiver) h i) (good .messages m there)) in
+          let k = kept-any (handle-kept (length (c .servers)) (c .buckets) now (c .calls) (good .facts) m (runs (m .receiver) h i) (good .messages m there)) in
           let g : work c l ≡ deliveredTo c m still copied _ = e ∙ delivery-live c m still copied i in
           let moves = handle-goes (length (c .servers)) (m .receiver) m (serverAt c (m .receiver)) in
           record {

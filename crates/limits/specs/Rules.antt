@@ -17,7 +17,7 @@ use Rattle.model.specs.Measures.{majority}
 use Rattle.model.specs.Calls.{Words, bucketFor, Result, done, Effect, answers, writes}
 use Rattle.model.specs.Cluster.{Version, version, above, Copy, freshCopy, Stored, copyAt, Role, follower, candidate, leading, Purpose, recoveryRead, recoveryWrite, check, ownWrite, Mark, silent, acknowledged, refused, Round, Call, Volatile, Server, Body, pleaseVote, ackVote, nackVote, replicaWrite, ackWrite, nackWrite, replicaRead, ackRead, nackRead, Message, roundAt, callAt}
 use Rattle.model.specs.Replica.{voting, grants, afterVote, Request, reading, writing, requestBody, mayAccept, storing, accepting, acknowledging, refusing}
-use Rattle.model.specs.Stores.{storesCopy, putStore}
+use Rattle.model.specs.Stores.{copyStore, putStore}
 use Rattle.model.specs.Lines.{cutServer}
 use Rattle.model.specs.Leader.{Reaction, noReaction, withStored, withVolatile, below, without, broadcast, ended, ceased, forgotten, cease, stepDown, votesFor, standing, standForElection, nextNumber, raisedTo, elect, onAckVote, closes, fails, oneMore, isOwn, reportTo, newRound, opening, openRound, answerOf, finish, nextVersion, applying, afterRead, checking, recovering, recovered, startRead, startCall, beginCall, closed, better, markedBy, counted, withRound, counting, onReply, replyTo, onPleaseVote, onRequest, handle}
 use Rattle.model.specs.Leader
@@ -90,7 +90,7 @@ module _ (n b : ℕ) (l : Limits) where
       go false d = rw (afterVote, d) (record { within = w; same = refl })
 
   copied-within : {q : ℕ} (i : ℕ) (v : Version) (t : List Entry) (st : Stored) →
-      CopyWithin l q (record { version = v; table = t }) → StoredWithin n b l q st → StoredWithin n b l q (putStore (storesCopy i v t) st)
+      CopyWithin l q (record { version = v; table = t }) → StoredWithin n b l q st → StoredWithin n b l q (putStore (copyStore i v t) st)
   unfolding putStore
   copied-within i v t st new w =
       record { number = w .number; vote = w .vote; leader = w .leader; size = rw length-set (w .size); copies = all-set i (w .copies) new }
@@ -206,7 +206,7 @@ module _ (n b : ℕ) (l : Limits) where
       voted : StoredWithin n b l 0 (voting (m .election) (m .sender) (s .stored))
       voted = voting-within (m .election) (m .sender) (w .election) (w .sender) (h .stored)
 
-      copied : (v : Version) (t : List Entry) → m .body ≡ replicaWrite v t → {st : Stored} → StoredWithin n b l 0 st → Kept 0 (st .number) (putStore (storesCopy (m .bucket) v t) st)
+      copied : (v : Version) (t : List Entry) → m .body ≡ replicaWrite v t → {st : Stored} → StoredWithin n b l 0 st → Kept 0 (st .number) (putStore (copyStore (m .bucket) v t) st)
       copied v t e {st} x =
           let body : BodyWithin l m (replicaWrite v t) = subst (BodyWithin l m) e (w .body) in
           record { within = copied-within (m .bucket) v t st (body .2) x; same = unfold putStore in refl }

@@ -14,7 +14,7 @@ use borrow.Author.Tests.{eqb-true, eq-eqb, ltb-true, ltb-false, le-ltb}
 use Rattle.entries.specs.Entries.{Entry}
 use Rattle.model.specs.Cluster.{Version, above, Stored, copyAt, Round, Call, Volatile, Server, Body, pleaseVote, ackVote, nackVote, replicaWrite, ackWrite, nackWrite, replicaRead, ackRead, nackRead, Message, freshServer}
 use Rattle.model.specs.Replica.{voting, afterVote, Request, reading, writing, mayAccept, storing, accepting, acknowledging, refusing}
-use Rattle.model.specs.Stores.{Store, storesVote, storesCopy, putStore, putStores, voteStores, copyStores, acceptStores, requestStores, pleaseVoteStores, storesOf, asks, newVoteOldBuckets}
+use Rattle.model.specs.Stores.{Store, voteStore, copyStore, putStore, putStores, voteStores, copyStores, acceptStores, requestStores, pleaseVoteStores, storesOf, isBroadcast, newVoteOldBuckets}
 use Rattle.model.specs.Leader.{Reaction, reaction, withStored, ceased, forgotten, stepDown, replyTo, replying, onPleaseVote, onRequest, handle}
 use Rattle.model.specs.Lines.{cutServer}
 use Rattle.model.proofs.Replicas.{step-down-keeps}
@@ -36,7 +36,7 @@ unfolding voteStores putStores putStore
 all-of-vote e p st = go (eqb e (st .vote)) refl (eqb p (st .leader)) refl
   where
     go : (a : Bool) → eqb e (st .vote) ≡ a → (b : Bool) → eqb p (st .leader) ≡ b
-        → putStores (elim a [ false ↦ storesVote e p ∷ [] | true ↦ elim b [ true ↦ [] | false ↦ storesVote e p ∷ [] ] ]) st ≡ voting e p st
+        → putStores (elim a [ false ↦ voteStore e p ∷ [] | true ↦ elim b [ true ↦ [] | false ↦ voteStore e p ∷ [] ] ]) st ≡ voting e p st
     go false i b j = refl
     go true i false j = refl
     go true i true j = same-vote e p st (eqb-true _ _ i) (eqb-true _ _ j)
@@ -46,7 +46,7 @@ all-of-copy : (b : ℕ) (v : Version) (t : List Entry) (st u : Stored) → st .c
 unfolding copyStores putStores putStore storing
 all-of-copy b v t st u e = rw e (go (above v (copyAt u b .version)))
   where
-    go : (a : Bool) → putStores (elim a [ true ↦ storesCopy b v t ∷ [] | false ↦ [] ]) u
+    go : (a : Bool) → putStores (elim a [ true ↦ copyStore b v t ∷ [] | false ↦ [] ]) u
         ≡ elim a [ false ↦ u | true ↦ record { number = u .number; vote = u .vote; leader = u .leader; copies = set (u .copies) b (record { version = v; table = t }) } ]
     go true = refl
     go false = refl
@@ -63,7 +63,7 @@ all-of-please-vote : (e p : ℕ) (st : Stored) → putStores (pleaseVoteStores e
 unfolding pleaseVoteStores afterVote putStores putStore
 all-of-please-vote e p st = go (ltb (st .vote) e)
   where
-    go : (a : Bool) → putStores (elim a [ true ↦ storesVote e p ∷ [] | false ↦ [] ]) st ≡ elim a [ true ↦ voting e p st | false ↦ st ]
+    go : (a : Bool) → putStores (elim a [ true ↦ voteStore e p ∷ [] | false ↦ [] ]) st ≡ elim a [ true ↦ voting e p st | false ↦ st ]
     go true = refl
     go false = refl
 
@@ -84,11 +84,11 @@ request-stored me m request s = go (mayAccept (m .election) (s .stored))
     go true = all-of-request (m .bucket) (m .election) (m .sender) request (s .stored) ∙ sym (step-down-keeps (withStored s st) .0)
 
 -- a message of kind 1, 4 or 7 makes its server store, by all its stores, what handling it makes it store
-pub all-stores : (n me : ℕ) (m : Message) (s : Server) → asks (m .body) ≡ true → putStores (storesOf m (s .stored)) (s .stored) ≡ handle n me m s .server .stored
-unfolding storesOf handle asks onPleaseVote
+pub all-stores : (n me : ℕ) (m : Message) (s : Server) → isBroadcast (m .body) ≡ true → putStores (storesOf m (s .stored)) (s .stored) ≡ handle n me m s .server .stored
+unfolding storesOf handle isBroadcast onPleaseVote
 all-stores n me m s h = go (m .body) refl h
   where
-    go : (x : Body) → m .body ≡ x → asks x ≡ true → putStores (storesOf m (s .stored)) (s .stored) ≡ handle n me m s .server .stored
+    go : (x : Body) → m .body ≡ x → isBroadcast x ≡ true → putStores (storesOf m (s .stored)) (s .stored) ≡ handle n me m s .server .stored
     go pleaseVote e i =
         rw (storesOf, handle, e)
         (all-of-please-vote (m .election) (m .sender) (s .stored) ∙ sym (step-down-keeps (withStored s (afterVote (m .election) (m .sender) (s .stored))) .0))
@@ -103,9 +103,9 @@ all-stores n me m s h = go (m .body) refl h
 
 -- ---- the stores, by cases
 
-heeds : (e : ℕ) (st : Stored) → mayAccept e st ≡ true → st .vote ≤ e
+accepted-not-below : (e : ℕ) (st : Stored) → mayAccept e st ≡ true → st .vote ≤ e
 unfolding mayAccept
-heeds e st = go (ltb e (st .vote)) refl
+accepted-not-below e st = go (ltb e (st .vote)) refl
   where
     go : (t : Bool) → ltb e (st .vote) ≡ t → (elim t as (λ _. Bool) [ true ↦ false | false ↦ true ]) ≡ true → st .vote ≤ e
     go true i h = let z : _≡_ {A = ℕ} 0 1 = cc in absurd (omega arith)
@@ -115,7 +115,7 @@ heeds e st = go (ltb e (st .vote)) refl
 -- is above the stored one
 module _ (m : Message) (st : Stored) (P : List Store → Type 0) where
   abbrev theVote : Store
-  theVote = storesVote (m .election) (m .sender)
+  theVote = voteStore (m .election) (m .sender)
 
   -- the vote or its leader is another
   abbrev NewVote : Type 0
@@ -139,8 +139,8 @@ module _ (m : Message) (st : Stored) (P : List Store → Type 0) where
 
   -- with the bucket's store the vote's is left out only where the vote stands there
   write-cases : (v : Version) (t : List Entry) → P [] → (NewVote → P (theVote ∷ []))
-      → (above v (copyAt st (m .bucket) .version) ≡ true → m .election ≡ st .vote → P (storesCopy (m .bucket) v t ∷ []))
-      → (NewVote → above v (copyAt st (m .bucket) .version) ≡ true → P (theVote ∷ storesCopy (m .bucket) v t ∷ []))
+      → (above v (copyAt st (m .bucket) .version) ≡ true → m .election ≡ st .vote → P (copyStore (m .bucket) v t ∷ []))
+      → (NewVote → above v (copyAt st (m .bucket) .version) ≡ true → P (theVote ∷ copyStore (m .bucket) v t ∷ []))
       → P (voteStores (m .election) (m .sender) st ++ copyStores (m .bucket) v t st)
   unfolding voteStores copyStores
   write-cases v t p q r s = go (eqb (m .election) (st .vote)) refl (eqb (m .sender) (st .leader)) refl (above v (copyAt st (m .bucket) .version)) refl
@@ -148,7 +148,7 @@ module _ (m : Message) (st : Stored) (P : List Store → Type 0) where
       go : (a : Bool) → eqb (m .election) (st .vote) ≡ a → (b : Bool) → eqb (m .sender) (st .leader) ≡ b
           → (c : Bool) → above v (copyAt st (m .bucket) .version) ≡ c
           → P ((elim a as (λ _. List Store) [ false ↦ theVote ∷ [] | true ↦ elim b [ true ↦ [] | false ↦ theVote ∷ [] ] ])
-          ++ (elim c as (λ _. List Store) [ true ↦ storesCopy (m .bucket) v t ∷ [] | false ↦ [] ]))
+          ++ (elim c as (λ _. List Store) [ true ↦ copyStore (m .bucket) v t ∷ [] | false ↦ [] ]))
       go false e b f true i = s (other-number e) i
       go false e b f false i = q (other-number e)
       go true e true f true i = r i (eqb-true _ _ e)
@@ -163,7 +163,7 @@ module _ (m : Message) (st : Stored) (P : List Store → Type 0) where
     where
       go : (a : Bool) → mayAccept (m .election) st ≡ a → P (elim a [ false ↦ [] | true ↦ acceptStores (m .bucket) (m .election) (m .sender) request st ])
       go false e = p
-      go true e = q (heeds _ _ e)
+      go true e = q (accepted-not-below _ _ e)
 
   please-vote-cases : P [] → (st .vote < m .election → P (theVote ∷ [])) → P (pleaseVoteStores (m .election) (m .sender) st)
   unfolding pleaseVoteStores
@@ -178,9 +178,9 @@ module _ (m : Message) (st : Stored) (P : List Store → Type 0) where
       → (m .body ≡ replicaRead → st .vote ≤ m .election → NewVote → P (theVote ∷ []))
       → ((v : Version) (t : List Entry) → m .body ≡ replicaWrite v t → st .vote ≤ m .election → NewVote → P (theVote ∷ []))
       → ((v : Version) (t : List Entry) → m .body ≡ replicaWrite v t → above v (copyAt st (m .bucket) .version) ≡ true → m .election ≡ st .vote
-      → P (storesCopy (m .bucket) v t ∷ []))
+      → P (copyStore (m .bucket) v t ∷ []))
       → ((v : Version) (t : List Entry) → m .body ≡ replicaWrite v t → above v (copyAt st (m .bucket) .version) ≡ true → st .vote ≤ m .election → NewVote
-      → P (theVote ∷ storesCopy (m .bucket) v t ∷ []))
+      → P (theVote ∷ copyStore (m .bucket) v t ∷ []))
       → P (storesOf m st)
   unfolding storesOf acceptStores
   stores-cases p granted read write copy both = go (m .body) refl
@@ -214,8 +214,8 @@ few-stores m st =
 
 -- a store is made only where that part changes
 abbrev pub Changes : Stored → Store → Type 0
-Changes st (storesVote e p) = e ≡ st .vote → p ≡ st .leader → ⊥
-Changes st (storesCopy b v t) = v ≡ copyAt st b .version → ⊥
+Changes st (voteStore e p) = e ≡ st .vote → p ≡ st .leader → ⊥
+Changes st (copyStore b v t) = v ≡ copyAt st b .version → ⊥
 
 abbrev pub AllChange : Stored → List Store → Type 0
 AllChange st [] = Unit {0}
@@ -265,9 +265,9 @@ module _ (m : Message) (st : Stored) (P : Stored → Type 0) where
       → (m .body ≡ replicaRead → st .vote ≤ m .election → P voted)
       → ((v : Version) (t : List Entry) → m .body ≡ replicaWrite v t → st .vote ≤ m .election → P voted)
       → ((v : Version) (t : List Entry) → m .body ≡ replicaWrite v t → above v (copyAt st (m .bucket) .version) ≡ true → m .election ≡ st .vote
-      → P (putStore (storesCopy (m .bucket) v t) st))
+      → P (putStore (copyStore (m .bucket) v t) st))
       → ((v : Version) (t : List Entry) → m .body ≡ replicaWrite v t → above v (copyAt st (m .bucket) .version) ≡ true → st .vote ≤ m .election
-      → P (putStore (storesCopy (m .bucket) v t) voted))
+      → P (putStore (copyStore (m .bucket) v t) voted))
       → (k : ℕ) → P (putStores (take k (storesOf m st)) st)
   unfolding putStore
   cut-cases p granted read write copy both k =
@@ -278,43 +278,43 @@ module _ (m : Message) (st : Stored) (P : Stored → Type 0) where
       (λ v t e h i. one-made st P p _ (copy v t e h i) k)
       (λ v t e h i z. two-made st P p _ _ (write v t e i) (both v t e h i) k)
 
--- with all stores of the message as the new state
-abbrev Left : Stored → List Store → ℕ → Type 0
-Left st l k =
+-- what the first k of these stores leave: the old state, the new vote with the old buckets, or what all of them leave
+abbrev AfterCut : Stored → List Store → ℕ → Type 0
+AfterCut st l k =
     let u = putStores (take k l) st in
     let new = putStores l st in
     (u ≡ st) ⊎ ((u ≡ newVoteOldBuckets st new) ⊎ (u ≡ new))
 
-left-of-stores : (k : ℕ) (m : Message) (st : Stored) → Left st (storesOf m st) k
+after-cut : (k : ℕ) (m : Message) (st : Stored) → AfterCut st (storesOf m st) k
 unfolding putStores putStore
-left-of-stores k m st =
-    stores-cases m st (λ l. Left st l k) (none-left k) (λ e h. one-left _ k) (λ e h z. one-left _ k) (λ v t e h z. one-left _ k) (λ v t e h i. one-left _ k)
-    (λ v t e h i z. two-left _ v t k)
+after-cut k m st =
+    stores-cases m st (λ l. AfterCut st l k) (none-after k) (λ e h. one-after _ k) (λ e h z. one-after _ k) (λ v t e h z. one-after _ k) (λ v t e h i. one-after _ k)
+    (λ v t e h i z. two-after _ v t k)
   where
-    none-left : (i : ℕ) → Left st [] i
-    none-left zero = inl refl
-    none-left (suc i) = inl refl
+    none-after : (i : ℕ) → AfterCut st [] i
+    none-after zero = inl refl
+    none-after (suc i) = inl refl
 
-    one-left : (x : Store) (i : ℕ) → Left st (x ∷ []) i
-    one-left x zero = inl refl
-    one-left x (suc zero) = inr (inr refl)
-    one-left x (suc (suc i)) = inr (inr refl)
+    one-after : (x : Store) (i : ℕ) → AfterCut st (x ∷ []) i
+    one-after x zero = inl refl
+    one-after x (suc zero) = inr (inr refl)
+    one-after x (suc (suc i)) = inr (inr refl)
 
-    two-left : (b : ℕ) (v : Version) (t : List Entry) (i : ℕ) → Left st (storesVote (m .election) (m .sender) ∷ storesCopy b v t ∷ []) i
-    two-left b v t zero = inl refl
-    two-left b v t (suc zero) = inr (inl refl)
-    two-left b v t (suc (suc zero)) = inr (inr refl)
-    two-left b v t (suc (suc (suc i))) = inr (inr refl)
+    two-after : (b : ℕ) (v : Version) (t : List Entry) (i : ℕ) → AfterCut st (voteStore (m .election) (m .sender) ∷ copyStore b v t ∷ []) i
+    two-after b v t zero = inl refl
+    two-after b v t (suc zero) = inr (inl refl)
+    two-after b v t (suc (suc zero)) = inr (inr refl)
+    two-after b v t (suc (suc (suc i))) = inr (inr refl)
 
 -- after any cut of a message of kind 1, 4 or 7 the stored server holds the old state, the new vote with the old bucket, or the new state
-pub cut-leaves : (n me k : ℕ) (m : Message) (s : Server) → asks (m .body) ≡ true
+pub cut-leaves : (n me k : ℕ) (m : Message) (s : Server) → isBroadcast (m .body) ≡ true
     → let old = s .stored in
     let new = handle n me m s .server .stored in
     let left = cutServer k m s .stored in
     (left ≡ old) ⊎ ((left ≡ newVoteOldBuckets old new) ⊎ (left ≡ new))
 cut-leaves n me k m s h =
     subst (λ new. let left = cutServer k m s .stored in (left ≡ s .stored) ⊎ ((left ≡ newVoteOldBuckets (s .stored) new) ⊎ (left ≡ new)))
-    (all-stores n me m s h) (left-of-stores k m (s .stored))
+    (all-stores n me m s h) (after-cut k m (s .stored))
 
 -- ---- starts
 

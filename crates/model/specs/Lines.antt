@@ -11,7 +11,7 @@ use Rattle.model.specs.Measures.{maxServers, maxBuckets, maxKeyBytes, ma
 use Rattle.model.specs.Calls.{Words, bucketFor, Answer}
 use Rattle.model.specs.Calls
 use Rattle.model.specs.Cluster.{Role, follower, candidate, leading, Server, nackVote, Message, Cluster, freshServer, freshCluster, roundAt, callAt}
-use Rattle.model.specs.Stores.{putStores, storesOf, asks}
+use Rattle.model.specs.Stores.{putStores, storesOf, isBroadcast}
 use Rattle.model.specs.Leader.{Reaction, reaction, forgotten, cease, largerNumber, beginCall, handle}
 use Rattle.model.specs.Leader
 
@@ -136,7 +136,7 @@ lastNumber top c s = leb top (largerNumber (serverAt c s .stored))
 -- 18, of a cut: another kind of message, its server stopped, or more stores named than it makes
 unfoldable pub badCut : Cluster → Message → ℕ → Bool
 badCut c m k =
-    either (not (asks (m .body)))
+    either (not (isBroadcast (m .body)))
     (either (stoppedAt c (m .receiver)) (ltb (length (storesOf m (serverAt c (m .receiver) .stored))) k))
 
 unfoldable pub conditionsUpTo : ℕ → Cluster → Line → List Condition

@@ -4,8 +4,8 @@ use Rattle.model.specs.Compute.{computing}
 use Rattle.model.specs.Text.{bytes}
 use Rattle.model.specs.Run.{run}
 
--- server 2, which has not voted, is cut before it stores the vote and the bucket of server 0's write: it comes back with nothing, and
--- server 1, which voted under 1, does not listen to its election under 1
+-- server 2, which has not voted, is cut before it stores the vote and the bucket of server 0's write (the recovery write to it is lost):
+-- it comes back with nothing, and server 1, which voted under 1, refuses it an election under 1
 cut-after-0 : run (bytes "cluster 3 1\nelect 0\ndeliver 0\ndeliver 1\nset 0 61 01\ndeliver 1\ndeliver 2\ndeliver 2\ndeliver 3\ndeliver 3\ndeliver 4\nlose 2\ncut 4 0\nstart 2\nelect 2\ndeliver 5\nget 2 61\n")
     ≡ bytes "line 17 refused 8\nmessages 17 0 9 2 6\n"
 unfolding computing
@@ -60,3 +60,17 @@ same-vote-no-store : run (bytes "cluster 3 1\nelect 0\ndeliver 0\ndeliver 1\nget
     ≡ bytes "line 6 refused 18\nline 9 refused 18\nline 12 refused 18\nmessages 5 0 2 2 1\n"
 unfolding computing
 same-vote-no-store = refl
+
+-- a leader with two open calls is cut when it has stored a higher vote: no call ends. It comes back, stands one above that vote and leads;
+-- calls on both buckets are taken, and a timeout ends these alone
+cut-leader-ends-no-call : run (bytes "cluster 3 2\nelect 0\ndeliver 0\ndeliver 1\nkeys 0 0\nkeys 0 1\nelect 1\ncut 5 1\nkeys 0 0\nstart 0\nkeys 0 0\nelect 0\ndeliver 6\ndeliver 7\nkeys 0 0\nkeys 0 1\ntimeout 0 1\n")
+    ≡ bytes "line 9 refused 6\nline 11 refused 8\n3 notdone 1\n4 notdone 1\nmessages 16 0 4 1 11\n"
+unfolding computing
+cut-leader-ends-no-call = refl
+
+-- servers 0 and 1 stood under 1, and 0 leads with the vote of 2: its read makes server 1 store a vote for another leader under the same
+-- number, one store, which it keeps over its restart
+new-leader-same-number : run (bytes "cluster 3 1\nelect 0\nelect 1\ndeliver 1\ndeliver 3\nget 0 61\ncut 3 2\ncut 3 1\nstart 1\ndeliver 3\ndeliver 3\ncut 3 2\ndeliver 3\ndeliver 4\ndeliver 4\ndeliver 5\n")
+    ≡ bytes "line 7 refused 18\nline 12 refused 18\n1 value 3 -\nmessages 14 0 8 1 5\n"
+unfolding computing
+new-leader-same-number = refl

@@ -1,5 +1,5 @@
--- What a server stores before it replies, and in which order (document 02, Change 8). Stores are parts of what it has stored: the vote
--- with its leader is one, a bucket with its version the other. Its election number is stored with the election, before votes are asked for.
+-- What a server stores before it replies, and in which order (document 02, Change 8). A store replaces one part of what is stored: the
+-- vote with its leader, or a bucket with its version. The election number is stored in the line of the election, before votes are asked for.
 use mathlib.Core.List.{List, [], _∷_, _++_}
 use mathlib.Core.Bool.{Bool, true, false}
 use Prim.Native.Nat.{ℕ}
@@ -10,12 +10,12 @@ use Rattle.model.specs.Cluster.{Version, above, Stored, copyAt, Body, pl
 use Rattle.model.specs.Replica.{voting, Request, reading, writing, mayAccept}
 
 pub data Store : Type 0 where
-  storesVote : ℕ → ℕ → Store
-  storesCopy : ℕ → Version → List Entry → Store
+  voteStore : ℕ → ℕ → Store
+  copyStore : ℕ → Version → List Entry → Store
 
 unfoldable pub putStore : Store → Stored → Stored
-putStore (storesVote e p) st = voting e p st
-putStore (storesCopy b v t) st =
+putStore (voteStore e p) st = voting e p st
+putStore (copyStore b v t) st =
     record {
       number = st .number;
       vote = st .vote;
@@ -32,13 +32,13 @@ putStores (x ∷ l) st = putStores l (putStore x st)
 unfoldable pub voteStores : ℕ → ℕ → Stored → List Store
 voteStores e p st =
     elim (eqb e (st .vote)) [
-      | false ↦ storesVote e p ∷ []
+      | false ↦ voteStore e p ∷ []
       | true ↦
-          elim (eqb p (st .leader)) [ true ↦ [] | false ↦ storesVote e p ∷ [] ]
+          elim (eqb p (st .leader)) [ true ↦ [] | false ↦ voteStore e p ∷ [] ]
     ]
 
 unfoldable pub copyStores : ℕ → Version → List Entry → Stored → List Store
-copyStores b v t u = elim (above v (copyAt u b .version)) [ true ↦ storesCopy b v t ∷ [] | false ↦ [] ]
+copyStores b v t u = elim (above v (copyAt u b .version)) [ true ↦ copyStore b v t ∷ [] | false ↦ [] ]
 
 -- an accepted request of p under e on bucket b: the vote, then the bucket
 unfoldable pub acceptStores : ℕ → ℕ → ℕ → Request → Stored → List Store
@@ -50,9 +50,9 @@ requestStores m request st =
     elim (mayAccept (m .election) st) [ false ↦ [] | true ↦ acceptStores (m .bucket) (m .election) (m .sender) request st ]
 
 unfoldable pub pleaseVoteStores : ℕ → ℕ → Stored → List Store
-pleaseVoteStores e p st = elim (ltb (st .vote) e) [ true ↦ storesVote e p ∷ [] | false ↦ [] ]
+pleaseVoteStores e p st = elim (ltb (st .vote) e) [ true ↦ voteStore e p ∷ [] | false ↦ [] ]
 
--- the stores that a message makes its server make; replies make none here, and are not cut
+-- the stores that a message makes; of a reply none are listed, since it cannot be cut
 unfoldable pub storesOf : Message → Stored → List Store
 storesOf m st =
     elim (m .body) [
@@ -67,17 +67,17 @@ storesOf m st =
       | nackRead ↦ []
     ]
 
--- kinds 1, 4 and 7, the messages that can be cut
-unfoldable pub asks : Body → Bool
-asks pleaseVote = true
-asks ackVote = false
-asks nackVote = false
-asks (replicaWrite v t) = true
-asks ackWrite = false
-asks nackWrite = false
-asks replicaRead = true
-asks (ackRead v t) = false
-asks nackRead = false
+-- kinds 1, 4 and 7, what broadcasts send: these messages can be cut
+unfoldable pub isBroadcast : Body → Bool
+isBroadcast pleaseVote = true
+isBroadcast ackVote = false
+isBroadcast nackVote = false
+isBroadcast (replicaWrite v t) = true
+isBroadcast ackWrite = false
+isBroadcast nackWrite = false
+isBroadcast replicaRead = true
+isBroadcast (ackRead v t) = false
+isBroadcast nackRead = false
 
 -- the new vote with the old buckets, where `old` is what was stored before a message and `new` what is stored after it
 abbrev pub newVoteOldBuckets : Stored → Stored → Stored

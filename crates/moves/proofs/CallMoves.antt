@@ -255,7 +255,7 @@ ownAlone me r =
       keeps = w .keeps;
       answer = finishedMove 3 (w .local) .answer;
       ceases = false;
-      untold = false;
+      forgets = false;
     }
 
 -- the end of a call with `done`, and this table left in the copy

@@ -50,7 +50,7 @@ module _ (n me b : ℕ) (a : Asked) (s : cluster.Server) (l : Local) (t : Tables
 
 -- a move that replies with a message of this kind and version, and with `keeps` may store the message's content
 abbrev pub replyWith : ℕ → Version → ℕ → Local → Move
-replyWith kind w keeps l = record { local = l; sends = kind; written = w; fills = 0; keeps = keeps; answer = noAnswer; ceases = false; untold = false }
+replyWith kind w keeps l = record { local = l; sends = kind; written = w; fills = 0; keeps = keeps; answer = noAnswer; ceases = false; forgets = false }
 
 -- a follower has no vote, round or call, as in every reached state (`resting` in crates/limits/specs/Measures.antt)
 abbrev pub Resting : cluster.Server → Type 0

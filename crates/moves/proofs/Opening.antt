@@ -148,7 +148,7 @@ pub lifted : (n me b : ℕ) (a : Asked) (m : Move) (t : Tables) (words : calls.W
 unfolding serverAfter answersAfter
 lifted n me b a m t words v u s e =
     ap (λ z. reaction (elim z as (λ y. cluster.Server) [ true ↦ idled (movedServer n b m t words s) | false ↦ movedServer n b m t words s ]) (sendsIn n me b a m t)
-    (elim z as (λ y. List calls.Answer) [ true ↦ elim (m .untold) as (λ y. List calls.Answer) [ true ↦ [] | false ↦ endings (s .volatile .calls) ] | false ↦ answersIn (m .answer) v u ]))
+    (elim z as (λ y. List calls.Answer) [ true ↦ elim (m .forgets) as (λ y. List calls.Answer) [ true ↦ [] | false ↦ endings (s .volatile .calls) ] | false ↦ answersIn (m .answer) v u ]))
     (sym e)
 
 -- of two moves that end no leadership, the chosen one ends none

@@ -50,7 +50,7 @@ withCall c l = local (l .head) (l .version) (l .round) c
 
 -- a step that sends a message and does nothing else: kind 0 sends nothing
 abbrev pub sending : ℕ → Version → Local → Move
-sending kind v l = record { local = l; sends = kind; written = v; fills = 0; keeps = 0; answer = noAnswer; ceases = false; untold = false }
+sending kind v l = record { local = l; sends = kind; written = v; fills = 0; keeps = 0; answer = noAnswer; ceases = false; forgets = false }
 
 abbrev pub quiet : Local → Move
 quiet l = sending 0 noVersion l
@@ -68,7 +68,7 @@ readingMove me purpose l =
       keeps = 0;
       answer = noAnswer;
       ceases = false;
-      untold = false;
+      forgets = false;
     }
 
 -- whether version v is stored over the one of the copy
@@ -87,7 +87,7 @@ writingMove me purpose v l =
       keeps = chosen (stores v l) 1 0;
       answer = noAnswer;
       ceases = false;
-      untold = false;
+      forgets = false;
     }
 
 -- the call ends with a result
@@ -101,7 +101,7 @@ finishedMove result l =
       keeps = 0;
       answer = answerWith (l .call) result;
       ceases = false;
-      untold = false;
+      forgets = false;
     }
 
 -- ---- calls
@@ -168,7 +168,7 @@ aloneMove me result l =
             keeps = w .keeps;
             answer = finishedMove 3 (w .local) .answer;
             ceases = false;
-            untold = false;
+            forgets = false;
           }
     ]
 
@@ -204,7 +204,7 @@ ceasing m =
       keeps = m .keeps;
       answer = m .answer;
       ceases = true;
-      untold = m .untold;
+      forgets = m .forgets;
     }
 
 -- a server whose vote rises above its own number ceases to lead; a follower has nothing to end, and is left alone
@@ -228,7 +228,7 @@ fetching better m =
       keeps = m .keeps;
       answer = m .answer;
       ceases = m .ceases;
-      untold = m .untold;
+      forgets = m .forgets;
     }
 
 -- a round k with a reply counted: it closes, fails or stays open
@@ -271,7 +271,7 @@ writeRequestMove m l =
       keeps = chosen (stores (m .version) l) 2 0;
       answer = noAnswer;
       ceases = false;
-      untold = false;
+      forgets = false;
     }
 
 unfoldable pub requestMove : Bool → Message → Local → Move
@@ -334,7 +334,7 @@ electedMove n me l =
       keeps = 0;
       answer = noAnswer;
       ceases = true;
-      untold = false;
+      forgets = false;
     }
 
 abbrev pub timedOutMove : Local → Move

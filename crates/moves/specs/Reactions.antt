@@ -196,7 +196,7 @@ serverAfter n b m t words s =
 
 unfoldable pub answersAfter : Move → List ℕ → List Entry → cluster.Server → List calls.Answer
 answersAfter m v u s =
-    elim (m .ceases) [ true ↦ elim (m .untold) [ true ↦ [] | false ↦ endings (s .volatile .calls) ] | false ↦ answersIn (m .answer) v u ]
+    elim (m .ceases) [ true ↦ elim (m .forgets) [ true ↦ [] | false ↦ endings (s .volatile .calls) ] | false ↦ answersIn (m .answer) v u ]
 
 abbrev pub reactionIn : ℕ → ℕ → ℕ → Asked → Move → Tables → calls.Words → List ℕ → List Entry → cluster.Server → Reaction
 reactionIn n me b a m t words v u s = reaction (serverAfter n b m t words s) (sendsIn n me b a m t) (answersAfter m v u s)

@@ -37,6 +37,6 @@ pub struct Move {
     pub answer: Answer,
     // whether leading ends, and with it all open calls of the server
     pub ceases: bool,
-    // whether those calls are forgotten instead, untold
-    pub untold: bool,
+    // with `ceases`: whether those calls are forgotten, with no answer
+    pub forgets: bool,
 }

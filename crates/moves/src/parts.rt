@@ -56,7 +56,7 @@ pub fn sending(kind: u32, v: Version, l: Local) -> Move
         keeps: 0,
         answer,
         ceases: false,
-        untold: false,
+        forgets: false,
     }
 }
 

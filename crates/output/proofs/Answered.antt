@@ -41,9 +41,9 @@ ended-most slots s (suc b) l = go (endedCalls slots s b l) (ended-most slots s b
 
 answered-most : (slots : List ℕ) (most s : ℕ) (v : Move) (l : List ℕ) → most ≤ 8 → answered slots most s v l .count ≤ 8
 unfolding answered
-answered-most slots most s v l h = go (v .ceases) refl (v .untold) refl (eqb (v .answer .result) 0) refl
+answered-most slots most s v l h = go (v .ceases) refl (v .forgets) refl (eqb (v .answer .result) 0) refl
   where
-    go : (z : Bool) → v .ceases ≡ z → (x : Bool) → v .untold ≡ x → (y : Bool) → eqb (v .answer .result) 0 ≡ y → answered slots most s v l .count ≤ 8
+    go : (z : Bool) → v .ceases ≡ z → (x : Bool) → v .forgets ≡ x → (y : Bool) → eqb (v .answer .result) 0 ≡ y → answered slots most s v l .count ≤ 8
     go true e true g y f = rw (answered, e, g) (omega arith)
     go true e false g y f = rw (answered, e, g) (omega (arith, ended-most slots s most l))
     go false e x g true f = rw (answered, e, f) (omega arith)

@@ -27,7 +27,8 @@ pub struct Step {
     pub calls: u32,
 }
 
-// With refusal 0 the line is accepted: its message is lost, or its move is carried out.
+// With refusal 0 the line is accepted: its message is lost and nothing else happens (`loses`), or its move is carried out. A message that is
+// cut counts as lost with its move.
 pub struct Plan {
     pub refusal: u32,
     pub loses: bool,

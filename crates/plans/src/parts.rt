@@ -115,7 +115,7 @@ pub fn no_move() -> Move
         keeps: 0,
         answer,
         ceases: false,
-        untold: false,
+        forgets: false,
     }
 }
 

@@ -16,7 +16,7 @@ use Rattle.model.specs.Cluster.{copyAt, above}
 use Rattle.model.specs.Replica as replica
 use Rattle.model.specs.Replica.{mayAccept}
 use Rattle.model.specs.Stores as model
-use Rattle.model.specs.Stores.{Store, storesCopy, putStore, putStores, voteStores, copyStores, acceptStores, requestStores, pleaseVoteStores, storesOf, asks}
+use Rattle.model.specs.Stores.{Store, voteStore, copyStore, putStore, putStores, voteStores, copyStores, acceptStores, requestStores, pleaseVoteStores, storesOf}
 use Rattle.model.specs.Leader.{reaction, noReaction}
 use Rattle.model.specs.Lines.{cutServer}
 use Rattle.cells.specs.Laws.{copy-there}
@@ -43,11 +43,11 @@ three-kinds k = go (eqb k 1) refl (eqb k 4) refl
     go false e true f h = inr (inl (eqb-true _ _ f))
     go false e false f h = inr (inr (eqb-true _ _ h))
 
-asking : (k : ℕ) (w : Version) (u : List Entry) → (k ≡ 1) ⊎ ((k ≡ 4) ⊎ (k ≡ 7)) → asks (bodyIn k w u) ≡ isBroadcast k
-unfolding asks bodyIn isBroadcast
-asking k w u (inl e) = rw e refl
-asking k w u (inr (inl e)) = rw e refl
-asking k w u (inr (inr e)) = rw e refl
+broadcast-kinds : (k : ℕ) (w : Version) (u : List Entry) → (k ≡ 1) ⊎ ((k ≡ 4) ⊎ (k ≡ 7)) → model.isBroadcast (bodyIn k w u) ≡ isBroadcast k
+unfolding model.isBroadcast bodyIn isBroadcast
+broadcast-kinds k w u (inl e) = rw e refl
+broadcast-kinds k w u (inr (inl e)) = rw e refl
+broadcast-kinds k w u (inr (inr e)) = rw e refl
 
 -- a body by the tests of its kind: a, d and g are those of 1, 4 and 7
 abbrev bodyBy : Version → List Entry → (a c d e f g h i : Bool) → cluster.Body
@@ -78,32 +78,32 @@ bodyBy w u a c d e f g h i =
           ]
     ]
 
-abbrev asksBy : (a d g : Bool) → Bool
-asksBy a d g = elim a [ true ↦ true | false ↦ elim d [ true ↦ true | false ↦ g ] ]
+abbrev broadcastBy : (a d g : Bool) → Bool
+broadcastBy a d g = elim a [ true ↦ true | false ↦ elim d [ true ↦ true | false ↦ g ] ]
 
-no-asking : (w : Version) (u : List Entry) (a d g c e f h i : Bool) → asksBy a d g ≡ false → asks (bodyBy w u a c d e f g h i) ≡ asksBy a d g
-unfolding asks
-no-asking w u true d g c e f h i z = let y : _≡_ {A = ℕ} 0 1 = cc in absurd (omega arith)
-no-asking w u false true g c e f h i z = let y : _≡_ {A = ℕ} 0 1 = cc in absurd (omega arith)
-no-asking w u false false true c e f h i z = let y : _≡_ {A = ℕ} 0 1 = cc in absurd (omega arith)
-no-asking w u false false false true e f h i z = refl
-no-asking w u false false false false true f h i z = refl
-no-asking w u false false false false false true h i z = refl
-no-asking w u false false false false false false true i z = refl
-no-asking w u false false false false false false false true z = refl
-no-asking w u false false false false false false false false z = refl
+other-bodies : (w : Version) (u : List Entry) (a d g c e f h i : Bool) → broadcastBy a d g ≡ false → model.isBroadcast (bodyBy w u a c d e f g h i) ≡ broadcastBy a d g
+unfolding model.isBroadcast
+other-bodies w u true d g c e f h i z = let y : _≡_ {A = ℕ} 0 1 = cc in absurd (omega arith)
+other-bodies w u false true g c e f h i z = let y : _≡_ {A = ℕ} 0 1 = cc in absurd (omega arith)
+other-bodies w u false false true c e f h i z = let y : _≡_ {A = ℕ} 0 1 = cc in absurd (omega arith)
+other-bodies w u false false false true e f h i z = refl
+other-bodies w u false false false false true f h i z = refl
+other-bodies w u false false false false false true h i z = refl
+other-bodies w u false false false false false false true i z = refl
+other-bodies w u false false false false false false false true z = refl
+other-bodies w u false false false false false false false false z = refl
 
-not-asking : (k : ℕ) (w : Version) (u : List Entry) → isBroadcast k ≡ false → asks (bodyIn k w u) ≡ isBroadcast k
+other-kinds : (k : ℕ) (w : Version) (u : List Entry) → isBroadcast k ≡ false → model.isBroadcast (bodyIn k w u) ≡ isBroadcast k
 unfolding bodyIn isBroadcast
-not-asking k w u z = no-asking w u (eqb k 1) (eqb k 4) (eqb k 7) (eqb k 2) (eqb k 5) (eqb k 6) (eqb k 8) (eqb k 9) z
+other-kinds k w u z = other-bodies w u (eqb k 1) (eqb k 4) (eqb k 7) (eqb k 2) (eqb k 5) (eqb k 6) (eqb k 8) (eqb k 9) z
 
 module _ (n b : ℕ) (x : Message) (s : cluster.Server) (l : Local) (t : Tables) (words : calls.Words)
     (seen : Seen n b s l (t .copy) (t .work) words) (on : b ≡ x .bucket) where
   abbrev theVote : Store
-  theVote = model.storesVote (x .election) (x .sender)
+  theVote = voteStore (x .election) (x .sender)
 
   abbrev theCopy : Store
-  theCopy = storesCopy (x .bucket) (versionIn (x .version)) (t .message)
+  theCopy = copyStore (x .bucket) (versionIn (x .version)) (t .message)
 
   abbrev there : cluster.Stored
   there = placed n b l t words s .stored
@@ -208,15 +208,15 @@ module _ (n b : ℕ) (x : Message) (s : cluster.Server) (l : Local) (t : Tables)
   stores-there h = made-by (x .kind) (three-kinds (x .kind) h)
 
   -- the kinds that ask, and how many stores they make
-  pub asks-seen : asks (messageIn x (t .message) .body) ≡ isBroadcast (x .kind)
-  asks-seen = by-kind (x .kind)
+  pub broadcast-seen : model.isBroadcast (messageIn x (t .message) .body) ≡ isBroadcast (x .kind)
+  broadcast-seen = by-kind (x .kind)
     where
-      by-kind : (k : ℕ) → asks (bodyIn k (x .version) (t .message)) ≡ isBroadcast k
+      by-kind : (k : ℕ) → model.isBroadcast (bodyIn k (x .version) (t .message)) ≡ isBroadcast k
       by-kind k = go (isBroadcast k) refl
         where
-          go : (z : Bool) → isBroadcast k ≡ z → asks (bodyIn k (x .version) (t .message)) ≡ isBroadcast k
-          go true e = asking k (x .version) (t .message) (three-kinds k e)
-          go false e = not-asking k (x .version) (t .message) e
+          go : (z : Bool) → isBroadcast k ≡ z → model.isBroadcast (bodyIn k (x .version) (t .message)) ≡ isBroadcast k
+          go true e = broadcast-kinds k (x .version) (t .message) (three-kinds k e)
+          go false e = other-kinds k (x .version) (t .message) e
 
   pub count-seen : isBroadcast (x .kind) ≡ true → length (storesOf (messageIn x (t .message)) (s .stored)) ≡ storesMade (storesVote x (l .head)) (storesBucket x l)
   count-seen h =
@@ -275,7 +275,7 @@ module _ (n b : ℕ) (x : Message) (s : cluster.Server) (l : Local) (t : Tables)
         keeps = chosen bucket 2 0;
         answer = noAnswer;
         ceases = false;
-        untold = false;
+        forgets = false;
       }
 
   moved-by : (vote bucket : Bool)

@@ -33,7 +33,7 @@ restartedMove l =
       keeps = 0;
       answer = noAnswer;
       ceases = true;
-      untold = true;
+      forgets = true;
     }
 
 -- ---- the stores of a message of kind 1, 4 or 7
@@ -91,5 +91,5 @@ cutMove k m l =
       keeps = chosen (keepsBy k m l) 2 0;
       answer = noAnswer;
       ceases = false;
-      untold = false;
+      forgets = false;
     }

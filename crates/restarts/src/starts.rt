@@ -15,6 +15,6 @@ pub fn restarted_move(l: Local) -> Move
     let mut a = l;
     a.head = h;
     let mut m = timed_out_move(a);
-    m.untold = true;
+    m.forgets = true;
     m
 }

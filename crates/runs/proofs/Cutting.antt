@@ -22,7 +22,7 @@ use Rattle.moves.specs.declared.Local.{Local}
 use Rattle.moves.specs.declared.Move.{Move}
 use Rattle.restarts.specs.Restarts.{storesVote, storesBucket, storesMade, cuttable, cutMove}
 use Rattle.moves.specs.Reactions.{askedIn}
-use Rattle.restarts.proofs.Cutting.{asks-seen, count-seen, cut-means}
+use Rattle.restarts.proofs.Cutting.{broadcast-seen, count-seen, cut-means}
 use Rattle.views.specs.Memory.{Memory, slotOf, callWordsAt, serverAt, clusterAt}
 use Rattle.views.proofs.Contents.{tablesAt}
 use Rattle.views.proofs.Seen.{server-seen}
@@ -95,8 +95,8 @@ module _ (m : Memory) (l : List ℕ) (t : lines.Tally) (ready : Ready m l t) (i 
     abbrev badBy : Bool → Bool → Bool → Bool
     badBy a z y = lines.either (not a) (lines.either z y)
 
-    too-many : isBroadcast (asked .kind) ≡ true → length (storesOf (message ready i here) (server .stored)) ≡ storesMade (storesVote asked (here-local .head)) (storesBucket asked here-local)
-    too-many e = count-seen (counts .servers) part asked server here-local (tablesAt m (slotOf place part) i (tableIn (f .table))) (callWordsAt m (slotOf place part)) (server-seen (counts .servers) (counts .buckets) m place part ours) on e
+    stores-counted : isBroadcast (asked .kind) ≡ true → length (storesOf (message ready i here) (server .stored)) ≡ storesMade (storesVote asked (here-local .head)) (storesBucket asked here-local)
+    stores-counted e = count-seen (counts .servers) part asked server here-local (tablesAt m (slotOf place part) i (tableIn (f .table))) (callWordsAt m (slotOf place part)) (server-seen (counts .servers) (counts .buckets) m place part ours) on e
 
     counted : (made : ℕ) → ltb made k ≡ elim (leb k made) [ true ↦ false | false ↦ true ]
     counted made = go (leb k made) refl
@@ -110,7 +110,7 @@ module _ (m : Memory) (l : List ℕ) (t : lines.Tally) (ready : Ready m l t) (i 
         ≡ elim z [ true ↦ true | false ↦ elim (elim a as (λ _. Bool) [ false ↦ false | true ↦ leb k (storesMade (storesVote asked (here-local .head)) (storesBucket asked here-local)) ]) [ true ↦ false | false ↦ true ] ]
     unfolding lines.either
     by-kind true e true = refl
-    by-kind true e false = ap (λ made. ltb made k) (too-many e) ∙ counted _
+    by-kind true e false = ap (λ made. ltb made k) (stores-counted e) ∙ counted _
     by-kind false e true = refl
     by-kind false e false = refl
 
@@ -118,7 +118,7 @@ module _ (m : Memory) (l : List ℕ) (t : lines.Tally) (ready : Ready m l t) (i 
     unfolding lines.badCut cuttable
     bad-seen =
         let v = tablesAt m (slotOf place part) i (tableIn (f .table)) in
-        let kind = asks-seen (counts .servers) part asked server here-local v (callWordsAt m (slotOf place part)) (server-seen (counts .servers) (counts .buckets) m place part ours) on in
+        let kind = broadcast-seen (counts .servers) part asked server here-local v (callWordsAt m (slotOf place part)) (server-seen (counts .servers) (counts .buckets) m place part ours) on in
         ap (λ a. badBy a (lines.stoppedAt (clusterAt m) (asked .receiver)) (ltb (length (storesOf (message ready i here) (lines.serverAt (clusterAt m) (asked .receiver) .stored))) k)) kind
         ∙ (ap (λ z. badBy (isBroadcast (asked .kind)) z (ltb (length (storesOf (message ready i here) (lines.serverAt (clusterAt m) (asked .receiver) .stored))) k)) (receiver-stopped ready i here true place to)
         ∙ (ap (λ s. badBy (isBroadcast (asked .kind)) stopped (ltb (length (storesOf (message ready i here) (s .stored))) k)) there
@@ -143,9 +143,9 @@ module _ (m : Memory) (l : List ℕ) (t : lines.Tally) (ready : Ready m l t) (i 
 
     -- ---- the cut
 
-    asks-then : bad ≡ false → isBroadcast (asked .kind) ≡ true
+    broadcast-then : bad ≡ false → isBroadcast (asked .kind) ≡ true
     unfolding cuttable
-    asks-then = go stopped (isBroadcast (asked .kind))
+    broadcast-then = go stopped (isBroadcast (asked .kind))
       where
         go : (z a : Bool)
             → (elim z as (λ _. Bool) [ true ↦ true | false ↦ elim (elim a as (λ _. Bool) [ false ↦ false | true ↦ leb k (storesMade (storesVote asked (here-local .head)) (storesBucket asked here-local)) ]) [ true ↦ false | false ↦ true ] ]) ≡ false
@@ -208,7 +208,7 @@ module _ (m : Memory) (l : List ℕ) (t : lines.Tally) (ready : Ready m l t) (i 
     cuts =
         ap (λ z. judged (stateIn m t) (lines.when 18 z ∷ []) (lines.cutting (clusterAt m) (message ready i here) (lines.dropAt i (clusterAt m .messages)) k)) bad-seen
         ∙ (condition-judged m l t counts 18 bad [] _ (roomy counts (movePlan step move f)) f (λ z. omega arith)
-        (λ e. ap (lines.acceptLine (stateIn m t)) (work-is (asks-then e)) ∙ moved-run m l t counts step move f ready possible)
+        (λ e. ap (lines.acceptLine (stateIn m t)) (work-is (broadcast-then e)) ∙ moved-run m l t counts step move f ready possible)
         ∙ ap (planned m l t counts f) (sym plan-is))
 
   cut-judged : messageRefusal counts i ≡ 0 → i < counts .messages

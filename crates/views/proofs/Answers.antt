@@ -127,9 +127,9 @@ module _ (n most s : ℕ) (m : Memory) (v : Move) (l w : List ℕ) (u : List Ent
 
   pub answered-means : Holds w u (answered (m .slots) most s v l) (answersAfter v w u (serverAt n most m s)) 8
   unfolding answered answersAfter answersIn
-  answered-means = go (v .ceases) refl (v .untold) refl
+  answered-means = go (v .ceases) refl (v .forgets) refl
     where
-      go : (z : Bool) → v .ceases ≡ z → (y : Bool) → v .untold ≡ y → Holds w u (answered (m .slots) most s v l) (answersAfter v w u (serverAt n most m s)) 8
+      go : (z : Bool) → v .ceases ≡ z → (y : Bool) → v .forgets ≡ y → Holds w u (answered (m .slots) most s v l) (answersAfter v w u (serverAt n most m s)) 8
       go true e true f = rw (answered, answersAfter, e, f) (one-means (v .answer) true)
       go true e false f = rw (answered, answersAfter, e, f) all-mean
       go false e y f = rw (answered, answersAfter, e) (one-means (v .answer) (eqb (v .answer .result) 0))

@@ -113,7 +113,7 @@ kinds P p0 p1 p4 p7 other k = zeroth (eqb k 0) refl
 -- a move that sends kind k instead
 abbrev sendingKind : ℕ → Move → Move
 sendingKind k v =
-    record { local = v .local; sends = k; written = v .written; fills = v .fills; keeps = v .keeps; answer = v .answer; ceases = v .ceases; untold = v .untold }
+    record { local = v .local; sends = k; written = v .written; fills = v .fills; keeps = v .keeps; answer = v .answer; ceases = v .ceases; forgets = v .forgets }
 
 length-broadcast : (n me c e r : ℕ) (body : cluster.Body) → me < n → length (broadcast n me c e r body) ≡ n - 1
 unfolding broadcast

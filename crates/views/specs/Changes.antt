@@ -112,7 +112,7 @@ endedCalls slots s (suc b) l = endedCall slots (slotOf s b) (endedCalls slots s 
 unfoldable pub answered : List ℕ → ℕ → ℕ → Move → List ℕ → Written
 answered slots most s v l =
     elim (v .ceases) [
-      | true ↦ elim (v .untold) [ true ↦ record { answers = l; count = 0 } | false ↦ endedCalls slots s most l ]
+      | true ↦ elim (v .forgets) [ true ↦ record { answers = l; count = 0 } | false ↦ endedCalls slots s most l ]
       | false ↦
           elim (eqb (v .answer .result) 0) [ true ↦ record { answers = l; count = 0 } | false ↦ record { answers = putAnswer l 0 (v .answer); count = 1 } ]
     ]

@@ -214,7 +214,8 @@ impl Cluster {
         Ok(())
     }
 
-    /// A stopped server ends nothing; its calls stay open.
+    /// A stopped server ends nothing; its calls stay open until a start forgets
+    /// them.
     fn stop(&mut self, s: usize) -> Result<(), Refusal> {
         self.running(s)?;
         self.servers[s].stopped = true;
