@@ -243,14 +243,8 @@ cutServer k m s = record { stored = putStores (take k (storesOf m (s .stored))) 
 -- the message is counted as lost
 abbrev pub cutting : Cluster → Message → List Message → ℕ → Work
 cutting c m kept k =
-    record {
-      cluster = afterStep c (m .receiver) kept (c .calls) (reaction (cutServer k m (serverAt c (m .receiver))) [] []);
-      sent = 0;
-      copied = 0;
-      delivered = 0;
-      lost = 1;
-      answers = [];
-    }
+    let after = afterStep c (m .receiver) kept (c .calls) (reaction (cutServer k m (serverAt c (m .receiver))) [] []) in
+    record { cluster = after; sent = 0; copied = 0; delivered = 0; lost = 1; answers = [] }
 
 -- back with what was stored; the open calls are forgotten and never end
 abbrev pub restarted : Server → Server
