@@ -173,7 +173,7 @@ module _ (m : Message) (st : Stored) (P : List Store → Type 0) where
       go true e = q (ltb-true _ _ e)
       go false e = p
 
-  pub stores-cases : P []
+  stores-cases : P []
       → (m .body ≡ pleaseVote → st .vote < m .election → P (theVote ∷ []))
       → (m .body ≡ replicaRead → st .vote ≤ m .election → NewVote → P (theVote ∷ []))
       → ((v : Version) (t : List Entry) → m .body ≡ replicaWrite v t → st .vote ≤ m .election → NewVote → P (theVote ∷ []))
@@ -278,33 +278,25 @@ module _ (m : Message) (st : Stored) (P : Stored → Type 0) where
       (λ v t e h i. one-made st P p _ (copy v t e h i) k)
       (λ v t e h i z. two-made st P p _ _ (write v t e i) (both v t e h i) k)
 
--- what the first k of these stores leave: the old state, the new vote with the old buckets, or what all of them leave
-abbrev AfterCut : Stored → List Store → ℕ → Type 0
-AfterCut st l k =
-    let u = putStores (take k l) st in
-    let new = putStores l st in
-    (u ≡ st) ⊎ ((u ≡ newVoteOldBuckets st new) ⊎ (u ≡ new))
+-- the old state, the new vote with the old buckets, or what all of these stores leave
+abbrev OneOfThree : Stored → List Store → Stored → Type 0
+OneOfThree st l u =
+    let new = putStores l st in (u ≡ st) ⊎ ((u ≡ newVoteOldBuckets st new) ⊎ (u ≡ new))
 
-after-cut : (k : ℕ) (m : Message) (st : Stored) → AfterCut st (storesOf m st) k
+after-cut : (k : ℕ) (m : Message) (st : Stored) → OneOfThree st (storesOf m st) (putStores (take k (storesOf m st)) st)
 unfolding putStores putStore
 after-cut k m st =
-    stores-cases m st (λ l. AfterCut st l k) (none-after k) (λ e h. one-after _ k) (λ e h z. one-after _ k) (λ v t e h z. one-after _ k) (λ v t e h i. one-after _ k)
-    (λ v t e h i z. two-after _ v t k)
+    stores-cases m st (λ l. OneOfThree st l (putStores (take k l) st)) (none-made st (OneOfThree st []) (inl refl) k)
+    (λ e h. one _) (λ e h z. one _) (λ v t e h z. one _) (λ v t e h i. one _) (λ v t e h i z. both v t)
   where
-    none-after : (i : ℕ) → AfterCut st [] i
-    none-after zero = inl refl
-    none-after (suc i) = inl refl
+    one : (x : Store) → OneOfThree st (x ∷ []) (putStores (take k (x ∷ [])) st)
+    one x = one-made st (OneOfThree st (x ∷ [])) (inl refl) x (inr (inr refl)) k
 
-    one-after : (x : Store) (i : ℕ) → AfterCut st (x ∷ []) i
-    one-after x zero = inl refl
-    one-after x (suc zero) = inr (inr refl)
-    one-after x (suc (suc i)) = inr (inr refl)
-
-    two-after : (b : ℕ) (v : Version) (t : List Entry) (i : ℕ) → AfterCut st (voteStore (m .election) (m .sender) ∷ copyStore b v t ∷ []) i
-    two-after b v t zero = inl refl
-    two-after b v t (suc zero) = inr (inl refl)
-    two-after b v t (suc (suc zero)) = inr (inr refl)
-    two-after b v t (suc (suc (suc i))) = inr (inr refl)
+    both : (v : Version) (t : List Entry) → let l = voteStore (m .election) (m .sender) ∷ copyStore (m .bucket) v t ∷ [] in OneOfThree st l (putStores (take k l) st)
+    both v t =
+        let x = voteStore (m .election) (m .sender) in
+        let y = copyStore (m .bucket) v t in
+        two-made st (OneOfThree st (x ∷ y ∷ [])) (inl refl) x y (inr (inl refl)) (inr (inr refl)) k
 
 -- after any cut of a message of kind 1, 4 or 7 the stored server holds the old state, the new vote with the old bucket, or the new state
 pub cut-leaves : (n me k : ℕ) (m : Message) (s : Server) → isBroadcast (m .body) ≡ true
