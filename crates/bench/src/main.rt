@@ -7,6 +7,7 @@ use feed::entry::finish_value;
 use libc::STDIN_FILENO;
 use libc::STDOUT_FILENO;
 use runs::Tally;
+use tally::sum;
 ghost use Prim.Native.Nat.{_<_, _≤_};
 ghost use mathlib.Core.Path.{_≡_};
 
@@ -76,12 +77,19 @@ fn write_out(out: &[u8], n: usize) -> bool {
     io::write_all(STDOUT_FILENO, &out[..k])
 }
 
+// The tally with what a part adds to it.
+fn tally_with(s: Place, a: Answer) -> Tally {
+    let tally = s.tally;
+    let change = a.change;
+    sum(tally, change)
+}
+
 // After a part: what it printed is written out, then the rest of the block is next, or another block.
 fn next_part(s: Place, a: Answer, input: &mut [u8], out: &[u8], reader: &[usize; 3]) -> Place
     requires { ⌜ 0 < s .turns ⌝ }
     ensures { λ r. ⌜ r .turns < s .turns ⌝ }
 {
-    let tally = a.tally;
+    let tally = tally_with(s, a);
     let is_written = write_out(out, reader[2]);
     if !is_written {
         return stop(tally);

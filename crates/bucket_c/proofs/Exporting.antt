@@ -2,7 +2,7 @@
 use mathlib.Core.Path.{_≡_, refl, sym, ap, _∙_}
 use mathlib.Core.List.{List, [], _∷_, _++_, map}
 use mathlib.Core.Option.{Option, none, some}
-use Prim.Native.Nat.{ℕ, suc, _≤_, _<_, _+_, _*_, min}
+use Prim.Native.Nat.{ℕ, suc, _≤_, _<_, _+_, _*_}
 use native.Mathlib.Omega.{arith}
 use native.Mathlib.Nat.{zero-add}
 use native.Mathlib.Numerals.{add-one}
@@ -12,17 +12,25 @@ use borrow.Author.Tests.{le-leb, lt-leb}
 use Rattle.entries.specs.declared.Key.{Key}
 use Rattle.entries.specs.Entries.{Entry, valueOf, keysOf}
 use Rattle.entries.specs.Decoded.{keyBytes, blank}
-use Rattle.entries.proofs.Lists.{cut-length, take-as-many}
 use Rattle.table.specs.Form.{readBucket}
 use Rattle.table.proofs.Filling.{sets-append}
 use Rattle.bucket.specs.Answers.{Answer, answer}
-use Rattle.bucket_calls.specs.declared.Listing.{Listing}
-use Rattle.bucket_calls.specs.Answers.{looked, lookOf, listed, listOf, keysIn}
-use Rattle.bucket_c.specs.Exports.{valueOut, absentNumber, getOf, keysBytes, keysOut, KeysPut}
+use Rattle.bucket_calls.specs.Answers.{looked, lookOf, listed, listOf}
+use Rattle.bucket_c.specs.Exports.{writtenOut, absentNumber, getOf, keysBytes, keysOut}
 
--- a run of stores at the front
-front : (out w after : List ℕ) → length w ≤ length out → after ≡ sets out 0 w → after ≡ w ++ drop (length w) out
-front out w after h e = e ∙ sets-eq w out 0 (rw zero-add h) ∙ rw zero-add
+-- ---- bytes, written out
+
+module _ (n : ℕ) (w out : List ℕ) where
+  pub out-short : length out < length w → answer 115 out ≡ writtenOut n w out
+  unfolding writtenOut
+  out-short h = rw (writtenOut, lt-leb (length w) (length out) h)
+
+  -- a run of stores at the front
+  pub out-done : (after : List ℕ) → length w ≤ length out → after ≡ sets out 0 w → answer n after ≡ writtenOut n w out
+  unfolding writtenOut
+  out-done after h e =
+      rw (writtenOut, le-leb (length w) (length out) h)
+      (ap (answer n) (e ∙ sets-eq w out 0 (rw zero-add h) ∙ rw zero-add))
 
 -- ---- what a look-up's answer says of the bucket
 
@@ -45,17 +53,6 @@ module _ (b k : List ℕ) (v : Option (List ℕ)) where
       go none q = let z : _≡_ {A = ℕ} 0 13 = ap (λ a. a .number) (rw (lookOf, q) at e) in absurd (omega arith)
       go (some t) q = (t, (refl, ap (λ a. a .value) (rw (lookOf, q) at e)))
 
-module _ (v out : List ℕ) where
-  pub value-short : (n : ℕ) → n ≡ length v → length out < n → answer 115 out ≡ valueOut v out
-  unfolding valueOut
-  value-short n l h = rw (valueOut, lt-leb (length v) (length out) (omega arith))
-
-  pub value-done : (n : ℕ) (after : List ℕ) → n ≡ length v → n ≤ length out → after ≡ sets out 0 v → answer n after ≡ valueOut v out
-  unfolding valueOut
-  value-done n after l h w =
-      let m : length v ≤ length out = omega arith in
-      rw (valueOut, le-leb (length v) (length out) m, l, front out v after m w)
-
 module _ (b k : List ℕ) (v : Option (List ℕ)) (out : List ℕ) where
   pub get-refused : looked 13 v ≡ lookOf b k → answer 113 out ≡ getOf b k out
   unfolding getOf
@@ -67,7 +64,7 @@ module _ (b k : List ℕ) (v : Option (List ℕ)) (out : List ℕ) where
       let (t, (q, s)) = look-some b k v e in
       rw (getOf, q, ← s, n)
 
-  pub get-found : (u : List ℕ) (a : Answer) → looked 0 v ≡ lookOf b k → v ≡ some u → a ≡ valueOut u out → a ≡ getOf b k out
+  pub get-found : (u : List ℕ) (a : Answer) → looked 0 v ≡ lookOf b k → v ≡ some u → a ≡ writtenOut (length u) u out → a ≡ getOf b k out
   unfolding getOf
   get-found u a e n d =
       let (t, (q, s)) = look-some b k v e in
@@ -99,86 +96,82 @@ module _ (b : List ℕ) (k : List (List ℕ)) (out : List ℕ) where
   unfolding keysOut
   keys-refused e = rw (keysOut, list-none b k e)
 
-  pub keys-short : listed 0 k ≡ listOf b → length out < 36 → answer 115 out ≡ keysOut b out
+  pub keys-listed : (a : Answer) → listed 0 k ≡ listOf b → a ≡ writtenOut (length k) (keysBytes k) out → a ≡ keysOut b out
   unfolding keysOut
-  keys-short e h =
+  keys-listed a e d =
       let (t, (q, s)) = list-some b k e in
-      rw (keysOut, q, lt-leb 36 (length out) h)
+      d ∙ rw (keysOut, q, ← s) (ap (λ n. writtenOut n (keysBytes k) out) (ap length s ∙ length-map t (λ x. x .key)))
 
-  pub keys-done : (n : ℕ) (after : List ℕ) → listed 0 k ≡ listOf b → 36 ≤ length out → KeysPut k out after n → answer n after ≡ keysOut b out
-  unfolding keysOut
-  keys-done n after e h p =
-      let (t, (q, s)) = list-some b k e in
-      rw (keysOut, q, le-leb 36 (length out) h, p .is, p .number, ← s)
-      (ap (λ x. answer x (keysBytes k ++ drop (length (keysBytes k)) out)) (ap length s ∙ length-map t (λ x. x .key)))
-
--- ---- the keys written one behind another: i of n are written, up to `at`
+-- ---- the keys one behind another: i of n are passed, and the next stands at `at`
 
 abbrev pub keysOfSlots : ℕ → List Key → List (List ℕ)
 keysOfSlots n l = take n (map keyBytes l)
 
--- as many as a listing counts
-pub listing-whole : (l : Listing) → length (l .keys) ≡ 4 → (n : ℕ) → n ≡ min 4 (l .count) → keysOfSlots n (l .keys) ≡ keysIn l
-unfolding keysIn
-listing-whole l h n e =
-    take-as-many n (l .count) (map keyBytes (l .keys))
-    (e ∙ cut-length (l .count) 4 (map keyBytes (l .keys)) (length-map (l .keys) keyBytes ∙ h) .is)
-
-pub record KeysPutting (out₀ : List ℕ) (n : ℕ) (l : List Key) (out : List ℕ) (at i : ℕ) : Type 0 where
+pub record KeysPassing (n : ℕ) (l : List Key) (at i : ℕ) : Type 0 where
   pub inside : i ≤ n
   pub low : n ≤ 4
   pub four : length l ≡ 4
-  pub room : 36 ≤ length out₀
-  pub size : length out ≡ length out₀
   pub far : at ≤ 9 * i
   pub ahead : at + length (keysBytes (drop i (keysOfSlots n l))) ≡ length (keysBytes (keysOfSlots n l))
-  pub rest : sets out₀ 0 (keysBytes (keysOfSlots n l)) ≡ sets out at (keysBytes (drop i (keysOfSlots n l)))
 
-pub keys-starts : (out : List ℕ) (n : ℕ) (l : List Key) → n ≤ 4 → length l ≡ 4 → 36 ≤ length out → KeysPutting out n l out 0 0
-keys-starts out n l h f r = record { inside = omega arith; low = h; four = f; room = r; size = refl; far = omega arith; ahead = omega arith; rest = refl }
+pub passing-starts : {n : ℕ} {l : List Key} → n ≤ 4 → length l ≡ 4 → KeysPassing n l 0 0
+passing-starts h f = record { inside = omega arith; low = h; four = f; far = omega arith; ahead = omega arith }
 
-module _ {out₀ : List ℕ} {n : ℕ} {l : List Key} {out : List ℕ} {at i : ℕ} (c : KeysPutting out₀ n l out at i) where
+module _ {n : ℕ} {l : List Key} {at i : ℕ} (c : KeysPassing n l at i) where
   size-all : length (keysOfSlots n l) ≡ n
   size-all = simp (length-take, length-map) (omega (arith, c .low, c .four))
 
-  pub keys-goes-on : {m : ℕ} (after : List ℕ) → i < n → m ≤ 8 → m ≡ length (keyBytes (getD l i (blank .key))) → after ≡ sets (set out at m) (at + 1) (keyBytes (getD l i (blank .key))) → KeysPutting out₀ n l after (at + 1 + m) (i + 1)
-  keys-goes-on {m} after h hm em e =
-      record {
-        inside = omega arith;
-        low = c .low;
-        four = c .four;
-        room = c .room;
-        size = ap length e ∙ length-sets (set out at m) (at + 1) key ∙ length-set out at m ∙ c .size;
-        far = omega (arith, c .far);
-        ahead = omega (arith, c .ahead, longer);
-        rest = c .rest ∙ more;
-      }
-    where
-      key : List ℕ
-      key = keyBytes (getD l i (blank .key))
+  -- what the key of slot i takes, before what the later ones take
+  module _ {m : ℕ} (h : i < n) (e : m ≡ length (keyBytes (getD l i (blank .key)))) where
+    next-key : keysBytes (drop i (keysOfSlots n l)) ≡ m ∷ (keyBytes (getD l i (blank .key)) ++ keysBytes (drop (i + 1) (keysOfSlots n l)))
+    unfolding keysBytes
+    next-key =
+        rw (add-one i, drop-cons (keysOfSlots n l) i (keyBytes (blank .key)) (rw size-all h), getD-take n (map keyBytes l) i (keyBytes (blank .key)) h, List·getD-map keyBytes l i (blank .key), ← e)
 
-      tail : List ℕ
-      tail = keysBytes (drop (i + 1) (keysOfSlots n l))
+    next-length : length (keysBytes (drop i (keysOfSlots n l))) ≡ 1 + m + length (keysBytes (drop (i + 1) (keysOfSlots n l)))
+    next-length =
+        rw (next-key, length-append (keyBytes (getD l i (blank .key))) (keysBytes (drop (i + 1) (keysOfSlots n l))), ← e) (omega arith)
 
-      first : keysBytes (drop i (keysOfSlots n l)) ≡ m ∷ (key ++ tail)
-      first = unfold keysBytes in
-          rw (add-one i, drop-cons (keysOfSlots n l) i (keyBytes (blank .key)) (rw size-all h), getD-take n (map keyBytes l) i (keyBytes (blank .key)) h, List·getD-map keyBytes l i (blank .key), ← em)
+    pub passing-within : at + 1 + m ≤ length (keysBytes (keysOfSlots n l))
+    passing-within = omega (arith, c .ahead, next-length)
 
-      longer : length (keysBytes (drop i (keysOfSlots n l))) ≡ 1 + m + length tail
-      longer = rw (first, length-append key tail, ← em) (omega arith)
+    pub passing-goes-on : m ≤ 8 → KeysPassing n l (at + 1 + m) (i + 1)
+    passing-goes-on t = record { inside = omega arith; low = c .low; four = c .four; far = omega (arith, c .far); ahead = omega (arith, c .ahead, next-length) }
 
-      more : sets out at (keysBytes (drop i (keysOfSlots n l))) ≡ sets after (at + 1 + m) tail
-      more =
-          ap (sets out at) first
-          ∙ sets-append (set out at m) (suc at) key tail
-          ∙ rw (← add-one at, ← e, ← em)
+  none-left : n ≤ i → drop i (keysOfSlots n l) ≡ []
+  none-left h = drop-of-length-le (keysOfSlots n l) {i = i} (omega (arith, size-all))
 
-  pub keys-ends : n ≤ i → KeysPut (keysOfSlots n l) out₀ out n
+  pub passing-ends : n ≤ i → at ≡ length (keysBytes (keysOfSlots n l))
   unfolding keysBytes
-  keys-ends h =
-      let e : drop i (keysOfSlots n l) ≡ [] = drop-of-length-le (keysOfSlots n l) {i = i} (omega (arith, size-all)) in
-      let a : at + 0 ≡ length (keysBytes (keysOfSlots n l)) = rw e at (c .ahead) in
-      record {
-        is = front out₀ (keysBytes (keysOfSlots n l)) out (omega (arith, c .far, c .room, c .inside, c .low)) (sym (c .rest ∙ rw e));
-        number = sym size-all;
-      }
+  passing-ends h = let a : at + 0 ≡ length (keysBytes (keysOfSlots n l)) = rw (none-left h) at (c .ahead) in omega arith
+
+-- ---- the same, with the keys that are passed written
+
+pub record KeysPutting (out₀ : List ℕ) (n : ℕ) (l : List Key) (out : List ℕ) (at i : ℕ) : Type 0 where
+  pub passing : KeysPassing n l at i
+  pub room : length (keysBytes (keysOfSlots n l)) ≤ length out₀
+  pub size : length out ≡ length out₀
+  pub rest : sets out₀ 0 (keysBytes (keysOfSlots n l)) ≡ sets out at (keysBytes (drop i (keysOfSlots n l)))
+
+pub putting-starts : {out : List ℕ} {n : ℕ} {l : List Key} → n ≤ 4 → length l ≡ 4 → length (keysBytes (keysOfSlots n l)) ≤ length out → KeysPutting out n l out 0 0
+putting-starts h f r = record { passing = passing-starts h f; room = r; size = refl; rest = refl }
+
+module _ {out₀ : List ℕ} {n : ℕ} {l : List Key} {out : List ℕ} {at i : ℕ} (c : KeysPutting out₀ n l out at i) where
+  module _ {m : ℕ} (h : i < n) (e : m ≡ length (keyBytes (getD l i (blank .key)))) where
+    pub putting-within : at + 1 + m ≤ length out
+    putting-within = omega (arith, passing-within (c .passing) h e, c .room, c .size)
+
+    pub putting-goes-on : (after : List ℕ) → m ≤ 8 → after ≡ sets (set out at m) (at + 1) (keyBytes (getD l i (blank .key))) → KeysPutting out₀ n l after (at + 1 + m) (i + 1)
+    putting-goes-on after t w =
+        record {
+          passing = passing-goes-on (c .passing) h e t;
+          room = c .room;
+          size = ap length w ∙ length-sets (set out at m) (at + 1) (keyBytes (getD l i (blank .key))) ∙ length-set out at m ∙ c .size;
+          rest = c .rest ∙ ap (sets out at) (next-key (c .passing) h e) ∙ sets-append (set out at m) (suc at) (keyBytes (getD l i (blank .key))) (keysBytes (drop (i + 1) (keysOfSlots n l))) ∙ rw (← add-one at, ← w, ← e);
+        }
+
+  pub putting-ends : n ≤ i → answer n out ≡ writtenOut (length (keysOfSlots n l)) (keysBytes (keysOfSlots n l)) out₀
+  unfolding keysBytes
+  putting-ends h =
+      rw (size-all (c .passing))
+      (out-done n (keysBytes (keysOfSlots n l)) out₀ out (c .room) (sym (c .rest ∙ rw (none-left (c .passing) h))))

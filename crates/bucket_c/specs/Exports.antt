@@ -1,5 +1,4 @@
 -- What the exported calls say, over the definitions of the calls on lent bytes.
-use mathlib.Core.Path.{_≡_}
 use mathlib.Core.List.{List, [], _∷_, _++_}
 use mathlib.Core.Bool.{true, false}
 use mathlib.Core.Option.{none, some}
@@ -34,47 +33,34 @@ slotFrom h l i = record { key = keyFrom l (24 * i) (getD h (2 * i) 0); value = v
 unfoldable pub tableFrom : ℕ → List ℕ → List ℕ → Decoded
 tableFrom n h l = record { count = n; slots = slotFrom h l 0 ∷ (slotFrom h l 1 ∷ (slotFrom h l 2 ∷ (slotFrom h l 3 ∷ []))) }
 
--- ---- a value, written out
+-- ---- bytes, written out
 
--- the value's length and the value before what stood behind it; 115 where there is no room
-unfoldable pub valueOut : List ℕ → List ℕ → Answer
-valueOut v out =
-    elim (leb (length v) (length out)) [ false ↦ answer 115 out | true ↦ answer (length v) (v ++ drop (length v) out) ]
+-- number n, and bytes w before what stood behind them; 115 where there is no room for w, and nothing changes
+unfoldable pub writtenOut : ℕ → List ℕ → List ℕ → Answer
+writtenOut n w out = elim (leb (length w) (length out)) [ false ↦ answer 115 out | true ↦ answer n (w ++ drop (length w) out) ]
 
 -- an absent key is no refusal: its number is above those of documents 01 and 02, and no length of a value
 abbrev pub absentNumber : ℕ
 absentNumber = 254
 
--- a key's value, written out; 113 where the bucket is refused
+-- a key's value, written out with its length; 113 where the bucket is refused
 unfoldable pub getOf : List ℕ → List ℕ → List ℕ → Answer
 getOf b k out =
     elim (readBucket 4 16 b) [
       | none ↦ answer 113 out
       | some t ↦
-          elim (valueOf k t) [ none ↦ answer absentNumber out | some v ↦ valueOut v out ]
+          elim (valueOf k t) [ none ↦ answer absentNumber out | some v ↦ writtenOut (length v) v out ]
     ]
-
--- ---- the keys, written out
 
 -- each key behind its length
 unfoldable pub keysBytes : List (List ℕ) → List ℕ
 keysBytes [] = []
 keysBytes (k ∷ l) = length k ∷ (k ++ keysBytes l)
 
--- the keys before what stood behind them, and how many they are; four keys of eight bytes take 36
+-- the keys, written out with how many they are; 113 where the bucket is refused
 unfoldable pub keysOut : List ℕ → List ℕ → Answer
 keysOut b out =
     elim (readBucket 4 16 b) [
       | none ↦ answer 113 out
-      | some t ↦
-          elim (leb 36 (length out)) [
-            | false ↦ answer 115 out
-            | true ↦
-                answer (length t) (keysBytes (keysOf t) ++ drop (length (keysBytes (keysOf t))) out)
-          ]
+      | some t ↦ writtenOut (length t) (keysBytes (keysOf t)) out
     ]
-
--- what the pass over the keys leaves
-pub record KeysPut (k : List (List ℕ)) (before after : List ℕ) (r : ℕ) : Type 0 where
-  pub is : after ≡ keysBytes k ++ drop (length (keysBytes k)) before
-  pub number : r ≡ length k

@@ -15,7 +15,6 @@ use entries::Decoded;
 use entries::Key;
 use entries::Slot;
 use entries::Value;
-use entries::keys::at_most;
 use entries::keys::key_length;
 use entries::keys::value_length;
 ghost use mathlib.Core.Path.{_≡_};
@@ -25,7 +24,7 @@ ghost use Rattle.entries.specs.Decoded.{valueBytes};
 ghost use Rattle.table.specs.Form.{readNumber};
 ghost use Rattle.bucket.specs.Answers.{answer, outcomeNumber, writtenNumber, writeOf};
 ghost use Rattle.bucket_calls.specs.Answers.{changeNumber, putOf, removeOf, keysIn};
-ghost use Rattle.bucket_c.specs.Exports.{keyFrom, valueFrom, slotFrom, tableFrom, valueOut, getOf, KeysPut, keysOut};
+ghost use Rattle.bucket_c.specs.Exports.{keyFrom, valueFrom, slotFrom, tableFrom, writtenOut, getOf, keysBytes, keysOut};
 
 // `full` and an absent key are no refusals: their numbers are above those of documents 01 and 02.
 const FULL: u32 = 255;
@@ -154,7 +153,7 @@ pub extern "C" fn bucket_write(count: usize, lengths: &[u8], bytes: &[u8], out: 
 
 // A value, written to `out`: its length, 115 where `out` is too short.
 fn put_found(v: Value, out: &mut [u8]) -> u32
-    ensures { λ r. ⌜ answer r (now (out .exit)) ≡ valueOut (valueBytes v) (now (out .entry)) ⌝ }
+    ensures { λ r. ⌜ answer r (now (out .exit)) ≡ writtenOut (length (valueBytes v)) (valueBytes v) (now (out .entry)) ⌝ }
 {
     let n = value_length(v);
     if out.len() < n {
@@ -202,12 +201,30 @@ pub extern "C" fn bucket_remove(bucket: &mut [u8], key: &[u8]) -> u32
     outcome_number(o)
 }
 
+// How many bytes the keys take, each behind its length.
+fn keys_room(l: Listing) -> usize
+    requires { ⌜ l .count ≤ 4 ⌝ }
+    ensures { λ r. ⌜ r ≡ length (keysBytes (keysIn l)) ⌝ }
+{
+    let n = l.count;
+    let keys = l.keys;
+    let mut room = 0;
+    let mut i = 0;
+    while i < n {
+        let k = keys[i];
+        let m = key_length(k);
+        room = room + 1 + m;
+        i += 1;
+    }
+    room
+}
+
 // The keys, each behind its length, written to `out`. The answer is how many they are.
 fn put_keys(out: &mut [u8], l: Listing) -> u32
-    requires { ⌜ 36 ≤ length (now out) ⌝ }
-    ensures { λ r. ⌜ KeysPut (keysIn l) (now (out .entry)) (now (out .exit)) r ⌝ }
+    requires { ⌜ (l .count ≤ 4) × (length (keysBytes (keysIn l)) ≤ length (now out)) ⌝ }
+    ensures { λ r. ⌜ answer r (now (out .exit)) ≡ writtenOut (length (keysIn l)) (keysBytes (keysIn l)) (now (out .entry)) ⌝ }
 {
-    let n = at_most(l.count, 4);
+    let n = l.count;
     let keys = l.keys;
     let mut at = 0;
     let mut i = 0;
@@ -223,7 +240,7 @@ fn put_keys(out: &mut [u8], l: Listing) -> u32
 }
 
 // All keys, rising, each behind its length, written to `out`: how many they are, 113 where the bucket is refused, 115 where
-// `out` has less than the 36 bytes that four keys of eight bytes take.
+// they do not fit. 36 bytes are room enough for any bucket's keys.
 #[no_mangle]
 pub extern "C" fn bucket_keys(bucket: &[u8], out: &mut [u8]) -> u32
     ensures { λ r. ⌜ answer r (now (out .exit)) ≡ keysOut (now (bucket .entry)) (now (out .entry)) ⌝ }
@@ -232,7 +249,8 @@ pub extern "C" fn bucket_keys(bucket: &[u8], out: &mut [u8]) -> u32
     let o = l.outcome;
     match o {
         Outcome::Accepted => {
-            if out.len() < 36 {
+            let room = keys_room(l);
+            if out.len() < room {
                 return 115;
             }
             put_keys(out, l)

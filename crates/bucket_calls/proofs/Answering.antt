@@ -9,12 +9,13 @@ use lib.Dec.{leb}
 use lib.ListN.{length, getD, take, drop, drop-of-length-le}
 use lib.Seq.{take-all}
 use borrow.Author.Tests.{le-leb, lt-leb, leb-true}
+use Rattle.entries.specs.declared.Key.{Key}
 use Rattle.entries.specs.declared.Slot.{Slot}
 use Rattle.entries.specs.declared.Decoded.{Decoded}
 use Rattle.entries.specs.declared.Stored.{Stored}
 use Rattle.entries.specs.Places.{Storing, storedIn}
 use Rattle.entries.specs.Entries.{Entry, valueOf, holds, remove, stored, keysOf}
-use Rattle.entries.specs.Decoded.{Counted, keyBytes, entryIn, tableIn}
+use Rattle.entries.specs.Decoded.{Counted, keyBytes, entryIn, tableIn, blank}
 use Rattle.entries.proofs.Shifts.{map-take}
 use Rattle.entries.proofs.Views.{table-whole}
 use Rattle.entries.proofs.Comparison.{order-same}
@@ -23,7 +24,7 @@ use Rattle.table.specs.Form.{maxKey, bucketSize, within, bucketBytes, readBucke
 use Rattle.table.proofs.Fitting.{within-parts, within-from, fits-parts}
 use Rattle.table.proofs.Reading.{Capped, sized-capped, length-bucket, one-form}
 use Rattle.bucket.specs.Answers.{answer, tableRead}
-use Rattle.bucket_calls.specs.Answers.{looked, lookOf, fullNumber, storable, putIn, putOf, removeOf, listed, listOf, slotKeys}
+use Rattle.bucket_calls.specs.Answers.{looked, lookOf, fullNumber, storable, putIn, putOf, removeOf, listed, listOf, TrimmedKey, KeysTaken}
 
 -- ---- bytes that are taken
 
@@ -153,7 +154,7 @@ list-done b n k e f = ap₂ listed e f ∙ go (readBucket 4 16 b) refl
     go (some t) q = rw (readNumber, tableRead, listOf, q)
 
 -- four slots are those at 0 to 3
-pub four-slots : {A : Type 0} (l : List A) (d : A) → length l ≡ 4 → l ≡ getD l 0 d ∷ (getD l 1 d ∷ (getD l 2 d ∷ (getD l 3 d ∷ [])))
+four-slots : {A : Type 0} (l : List A) (d : A) → length l ≡ 4 → l ≡ getD l 0 d ∷ (getD l 1 d ∷ (getD l 2 d ∷ (getD l 3 d ∷ [])))
 four-slots [] d h = absurd (omega arith)
 four-slots (a ∷ []) d h = absurd (omega arith)
 four-slots (a ∷ (b ∷ [])) d h = absurd (omega arith)
@@ -161,14 +162,21 @@ four-slots (a ∷ (b ∷ (c ∷ []))) d h = absurd (omega arith)
 four-slots (a ∷ (b ∷ (c ∷ (e ∷ [])))) d h = refl
 four-slots (a ∷ (b ∷ (c ∷ (e ∷ (f ∷ l))))) d h = absurd (omega arith)
 
+pub keys-taken : {l : List Slot} {w x y z : Key} → length l ≡ 4 → TrimmedKey (getD l 0 blank .key) w → TrimmedKey (getD l 1 blank .key) x → TrimmedKey (getD l 2 blank .key) y → TrimmedKey (getD l 3 blank .key) z → KeysTaken l (w ∷ (x ∷ (y ∷ (z ∷ []))))
+keys-taken {l} h a b c d =
+    record {
+      is = rw (a .is, b .is, c .is, d .is) (sym (ap (map (λ s. keyBytes (s .key))) (four-slots l blank h)));
+      lengths = (a .within, (b .within, (c .within, (d .within, tt))));
+    }
+
 -- the keys of a table are those of its slots in use
-pub keys-in-use : (t : Decoded) (n : ℕ) → Counted t n → take n (map keyBytes (slotKeys (t .slots))) ≡ keysOf (tableIn t)
+pub keys-in-use : (t : Decoded) (n : ℕ) → Counted t n → take n (map (λ s. keyBytes (s .key)) (t .slots)) ≡ keysOf (tableIn t)
 unfolding entryIn
 keys-in-use t n c =
     ap (take n) (each (t .slots))
     ∙ sym (map-take (λ e. e .key) n (map entryIn (t .slots)))
     ∙ ap keysOf (table-whole t c)
   where
-    each : (l : List Slot) → map keyBytes (slotKeys l) ≡ map (λ e. e .key) (map entryIn l)
+    each : (l : List Slot) → map (λ s. keyBytes (s .key)) l ≡ map (λ e. e .key) (map entryIn l)
     each [] = refl
     each (s ∷ l) = ap (λ r. keyBytes (s .key) ∷ r) (each l)

@@ -5,8 +5,11 @@ use encoding::encode;
 use entries::Decoded;
 use entries::Item;
 use entries::Key;
+use entries::Slot;
 use entries::Value;
+use entries::keys::key_length;
 use entries::keys::key_of;
+use entries::keys::value_length;
 use entries::keys::value_of;
 use entries::slots;
 use entries::slots::absent;
@@ -14,9 +17,9 @@ use entries::slots::count_of;
 use entries::slots::find;
 use entries::slots::store;
 ghost use mathlib.Core.Path.{_≡_};
-ghost use Rattle.entries.specs.Decoded.{keyBytes, valueBytes, itemIn};
+ghost use Rattle.entries.specs.Decoded.{keyBytes, valueBytes};
 ghost use Rattle.bucket.specs.Answers.{answer, outcomeNumber};
-ghost use Rattle.bucket_calls.specs.Answers.{changeNumber, looked, lookOf, storable, putIn, putOf, removeOf, keysIn, listed, listOf, slotKeys};
+ghost use Rattle.bucket_calls.specs.Answers.{changeNumber, LookedUp, TrimmedItem, storable, putIn, putOf, removeOf, TrimmedKey, KeysTaken, KeysListed};
 
 // What became of a change. The number for each case is `changeNumber`.
 pub enum Change {
@@ -25,22 +28,34 @@ pub enum Change {
     Malformed,
 }
 
-// The value that was found, none where the key is absent or the bucket is refused.
+// The value that was found, none where the key is absent or the bucket is refused. Its length is at most 16, found or not.
 pub struct Found {
     pub outcome: Outcome,
     pub item: Item,
 }
 
-// The first `count` keys; none where the bucket is refused.
+// The first `count` keys, at most four; none where the bucket is refused. The length of each of the four is at most 8.
 pub struct Listing {
     pub outcome: Outcome,
     pub count: usize,
     pub keys: [Key; 4],
 }
 
+// The same value, its length within its bytes.
+fn trimmed_item(i: Item) -> Item
+    ensures { λ r. ⌜ TrimmedItem i r ⌝ }
+{
+    let v = i.value;
+    let n = value_length(v);
+    let b = v.bytes;
+    let value = Value { bytes: b, len: n };
+    let there = i.there;
+    Item { value, there }
+}
+
 // The value of a key; 13 where the bucket is refused, which is read as a table of no entries.
 pub fn look_up(bucket: &[u8], key: &[u8]) -> Found
-    ensures { λ r. ⌜ looked (outcomeNumber (r .outcome)) (itemIn (r .item)) ≡ lookOf (now (bucket .entry)) (now (key .entry)) ⌝ }
+    ensures { λ r. ⌜ LookedUp (now (bucket .entry)) (now (key .entry)) r ⌝ }
 {
     let r = read(bucket);
     let outcome = r.outcome;
@@ -49,7 +64,7 @@ pub fn look_up(bucket: &[u8], key: &[u8]) -> Found
         let item = absent();
         return Found { outcome, item };
     }
-    let item = find(t, key_of(key));
+    let item = trimmed_item(find(t, key_of(key)));
     Found { outcome, item }
 }
 
@@ -119,25 +134,31 @@ pub fn remove(bucket: &mut [u8], key: &[u8]) -> Outcome
     }
 }
 
+// The key of a slot, its length within its bytes: a slot that is not in use may hold any.
+fn trimmed_key(s: Slot) -> Key
+    ensures { λ r. ⌜ TrimmedKey (s .key) r ⌝ }
+{
+    let k = s.key;
+    let n = key_length(k);
+    let b = k.bytes;
+    Key { bytes: b, len: n }
+}
+
 // The keys of the four slots.
 fn keys_of(t: Decoded) -> [Key; 4]
-    ensures { λ r. ⌜ r ≡ slotKeys (t .slots) ⌝ }
+    ensures { λ r. ⌜ KeysTaken (t .slots) r ⌝ }
 {
     let slots = t.slots;
-    let a = slots[0];
-    let b = slots[1];
-    let c = slots[2];
-    let d = slots[3];
-    let ka = a.key;
-    let kb = b.key;
-    let kc = c.key;
-    let kd = d.key;
-    [ka, kb, kc, kd]
+    let a = trimmed_key(slots[0]);
+    let b = trimmed_key(slots[1]);
+    let c = trimmed_key(slots[2]);
+    let d = trimmed_key(slots[3]);
+    [a, b, c, d]
 }
 
 // All keys, rising; 13 where the bucket is refused, which is read as a table of no entries.
 pub fn list_keys(bucket: &[u8]) -> Listing
-    ensures { λ r. ⌜ listed (outcomeNumber (r .outcome)) (keysIn r) ≡ listOf (now (bucket .entry)) ⌝ }
+    ensures { λ r. ⌜ KeysListed (now (bucket .entry)) r ⌝ }
 {
     let r = read(bucket);
     let outcome = r.outcome;

@@ -6,12 +6,12 @@ use mathlib.Core.Bool.{Bool, true, false}
 use mathlib.Core.Option.{Option, none, some}
 use Prim.Native.Nat.{ℕ, suc, _+_, _≤_}
 use native.Mathlib.Omega.{arith}
-use lib.Dec.{ltb}
 use lib.ListN.{getD, length-map, List·getD-map}
 use borrow.Author.Tests.{ltb-false}
 use Rattle.model.specs.Calls.{notdone, unknown}
 use Rattle.model.specs.Cluster.{Stored, copyAt, Role, follower, candidate, leading, Purpose, recoveryRead, recoveryWrite, check, ownWrite, Round, Call, Volatile, roundAt, callAt, Copy, Version, Server}
-use Rattle.model.specs.Leader.{noReaction, ended, endings, ceased, cease, stepDown}
+use Rattle.model.specs.Leader.{noReaction, ended, endings, ceased, cease, acts, stepDown}
+use Rattle.model.proofs.Replicas.{step-down-cases}
 use Rattle.history.specs.Members.{_∈_, none-in}
 use Rattle.consistency.specs.Log.{Ended, Log, Grows, _⊆_}
 use Rattle.consistency.specs.Invariant.{Unwritten, LogOk, EndOk, undone, unsure, StoredOk, CallOk, PhaseOk, BucketOk, Idle, RoleOk, Shape, ServerOk}
@@ -27,12 +27,14 @@ pub record OpenOk (log : Log) (p b : ℕ) (c : Call) : Type 0 where
   pub call : CallOk log p b c
   pub unsent : c .sent ≡ false → Unwritten log (c .number)
 
--- what holds of a server once its vote may have risen above its number: all but its role, which the next step settles
+-- what holds of a server once its vote may have risen above its number: all but the role of a leader or candidate, which the next
+-- step settles
 pub record Unsettled (n buckets : ℕ) (log : Log) (p : ℕ) (s : Server) : Type 0 where
   pub shape : Shape n buckets s
   pub stored : StoredOk log p (s .stored)
   pub calls : (b : ℕ) (c : Call) → callAt (s .volatile) b ≡ some c → OpenOk log p b c
   pub role : s .stored .vote ≤ s .stored .number → RoleOk n log p (s .stored) (s .volatile) (s .volatile .role)
+  pub resting : acts (s .volatile .role) ≡ false → Idle (s .volatile)
 
 module _ (n : ℕ) (log : Log) (p : ℕ) where
   unsent-phase : (e b : ℕ) (x : Version) (copy : Copy) (r : Round) (c : Call) (u : Purpose) → PhaseOk n log e b x copy r c u → c .sent ≡ false → Unwritten log (c .number)
@@ -53,6 +55,19 @@ module _ (n : ℕ) (log : Log) (p : ℕ) where
   role-open st w candidate h b c e = idle-open w (h .0) b c e
   role-open st w leading h b c e = open-bucket (st .number) b (copyAt st b) (roundAt w b) c (rw e at (h .4 b))
 
+  -- a follower is idle, whatever its vote
+  role-rests : (st : Stored) (w : Volatile) (r : Role) → RoleOk n log p st w r → acts r ≡ false → Idle w
+  unfolding acts
+  role-rests st w follower h e = h
+  role-rests st w candidate h e = h .0
+  role-rests st w leading h e = let z : _≡_ {A = ℕ} 0 1 = cc in absurd (omega arith)
+
+  rests-role : (st : Stored) (w : Volatile) (r : Role) → Idle w → acts r ≡ false → RoleOk n log p st w r
+  unfolding acts
+  rests-role st w follower h e = h
+  rests-role st w candidate h e = let z : _≡_ {A = ℕ} 0 1 = cc in absurd (omega arith)
+  rests-role st w leading h e = let z : _≡_ {A = ℕ} 0 1 = cc in absurd (omega arith)
+
 -- a server that agrees with the log, seen so
 pub as-unsettled : {n buckets : ℕ} {log : Log} {p : ℕ} {s : Server} → ServerOk n buckets log p s → Unsettled n buckets log p s
 as-unsettled {n} {log = log} {p} {s} h =
@@ -61,6 +76,7 @@ as-unsettled {n} {log = log} {p} {s} h =
       stored = h .stored;
       calls = role-open n log p (s .stored) (s .volatile) (s .volatile .role) (h .role);
       role = λ l. h .role;
+      resting = role-rests n log p (s .stored) (s .volatile) (s .volatile .role) (h .role);
     }
 
 -- ---- the log with the ends of a list of calls
@@ -184,13 +200,11 @@ module _ (n buckets now taken p : ℕ) (log : Log) (ok : LogOk n now taken log) 
         ends = λ x. (λ m. m, λ m. m);
       }
 
-  -- a server whose vote rose above its number ceases; any other is as it was
+  -- a leader or candidate whose vote rose above its number ceases; any other server is as it was
   pub step-down-kept : Kept n buckets now taken p log (stepDown s)
-  unfolding stepDown
-  step-down-kept = go (ltb (s .stored .number) (s .stored .vote)) refl
+  step-down-kept =
+      step-down-cases s (Kept n buckets now taken p log) (λ e f. cease-kept) (λ f. stays (agrees .role (ltb-false _ _ f)))
+      (λ e. stays (rests-role n log p (s .stored) (s .volatile) (s .volatile .role) (agrees .resting e) e))
     where
-      go : (t : Bool) → ltb (s .stored .number) (s .stored .vote) ≡ t → Kept n buckets now taken p log (elim t [ true ↦ cease s | false ↦ noReaction s ])
-      go true e = cease-kept
-      go false e =
-          unmoved ok (record { shape = agrees .shape; stored = agrees .stored; role = agrees .role (ltb-false _ _ e) })
-          [] (λ m k. none-in k)
+      stays : RoleOk n log p (s .stored) (s .volatile) (s .volatile .role) → Kept n buckets now taken p log (noReaction s)
+      stays h = unmoved ok (record { shape = agrees .shape; stored = agrees .stored; role = h }) [] (λ m k. none-in k)

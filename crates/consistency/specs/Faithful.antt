@@ -1,6 +1,6 @@
 -- The definitions set the mark of a round's own leader without asking it. That is what asking would give: the vote of a leader that
 -- runs is its number, so it accepts its own request. (A leader that was cut may have voted above it.)
-use mathlib.Core.Path.{_≡_, sym, _∙_, ap}
+use mathlib.Core.Path.{_≡_, refl, sym, _∙_, ap}
 use mathlib.Core.List.{List, [], _∷_}
 use Prim.Native.Nat.{ℕ, _+_, _≤_}
 use native.Mathlib.Omega.{arith}
@@ -10,7 +10,7 @@ use Rattle.model.specs.Replica.{Request, reading, writing, requestBody, mayAcce
 use Rattle.model.specs.Leader.{reaction, noReaction, withStored, replyTo, replying, stepDown, opening, onRequest, handle}
 use Rattle.model.specs.Lines.{initialState}
 use Rattle.model.specs.Run.{stateAfter}
-use Rattle.model.proofs.Replicas.{accepting-keeps}
+use Rattle.model.proofs.Replicas.{accepting-keeps, step-down-cases}
 use Rattle.consistency.specs.Reached.{serverIn, LeadsIn, RunsIn}
 use Rattle.consistency.specs.Agreed.{leader-facts, reached}
 use Rattle.consistency.specs.Runs.{script-leaves}
@@ -27,8 +27,8 @@ toItself p b request s =
     record { sender = p; receiver = p; bucket = b; election = s .stored .number; round = s .volatile .lastRound + 1; body = requestBody request }
 
 settled : (s : Server) → s .stored .vote ≤ s .stored .number → stepDown s ≡ noReaction s
-unfolding stepDown
-settled s h = rw (stepDown, le-ltb _ _ h)
+settled s h =
+    step-down-cases s (λ r. r ≡ noReaction s) (λ e f. let z : _≡_ {A = ℕ} 0 1 = cc (le-ltb _ _ h, f) in absurd (omega arith)) (λ f. refl) (λ e. refl)
 
 requested : (p b : ℕ) (request : Request) (s : Server) → s .stored .vote ≡ s .stored .number
     → let st = accepting b (s .stored .number) p request (s .stored) in

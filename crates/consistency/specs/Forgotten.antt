@@ -7,7 +7,7 @@ use mathlib.Core.Bool.{Bool, true, false, not}
 use mathlib.Core.Option.{Option, none, some}
 use Prim.Native.Nat.{ℕ, _+_, _≤_}
 use native.Mathlib.Omega.{arith}
-use lib.Dec.{ltb, eqb}
+use lib.Dec.{eqb}
 use lib.ListN.{length, getD, set, List·getD-map}
 use Rattle.entries.specs.Entries.{Entry}
 use Rattle.model.specs.Calls.{Words, Result, done, Effect, answers, writes, effect, bucketFor, Answer}
@@ -20,6 +20,7 @@ use Rattle.model.specs.Parse.{parse}
 use Rattle.model.specs.Run.{step, stateAfter, stateAfterUpTo, outcomes, outcomesUpTo}
 use Rattle.model.proofs.Elections.{always-stands}
 use Rattle.model.proofs.FirstRound.{first-round}
+use Rattle.model.proofs.Replicas.{step-down-cases}
 use Rattle.history.specs.Members.{_∈_, none-in, clash}
 use Rattle.limits.specs.Lists.{All, nil, cons}
 use Rattle.limits.specs.Tally.{none-applies}
@@ -149,13 +150,9 @@ module _ (x : ℕ) where
   start-without s = slots-emptied (s .volatile .calls)
 
   step-down-silent : (s : Server) (ms : List Message) → Without x s → Silent x (reaction (stepDown s .server) ms (stepDown s .answers))
-  unfolding stepDown
   step-down-silent s ms h =
-      elim (ltb (s .stored .number) (s .stored .vote)) as
-      (λ t. let r : Reaction = elim t [ true ↦ cease s | false ↦ noReaction s ] in Silent x (reaction (r .server) ms (r .answers))) [
-        | true ↦ let g = cease-silent s h in record { server = g .server; answers = g .answers }
-        | false ↦ still s ms h
-      ]
+      step-down-cases s (λ r. Silent x (reaction (r .server) ms (r .answers)))
+      (λ e f. let g = cease-silent s h in record { server = g .server; answers = g .answers }) (λ f. still s ms h) (λ e. still s ms h)
 
   elect-silent : (n me : ℕ) (s : Server) → Without x s → Silent x (Leader.elect n me s)
   unfolding cease standing

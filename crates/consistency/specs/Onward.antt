@@ -20,6 +20,7 @@ use Rattle.model.specs.Leader.{Reaction, reaction, noReaction, after, withStore
 use Rattle.model.specs.Leader
 use Rattle.model.proofs.Elections.{above-the-number, always-stands}
 use Rattle.model.proofs.FirstRound.{first-round}
+use Rattle.model.proofs.Replicas.{step-down-cases}
 use Rattle.model.proofs.Stores.{cut-cases}
 use Rattle.history.specs.Version.{_≼_, _≺_, le-refl, le-trans, le-of-lt}
 use Rattle.consistency.specs.Above.{above-lt}
@@ -209,14 +210,11 @@ start-onward s = record { number = omega arith; role = λ e. last-stage (s .vola
 
 -- what is stored is renewed, then the server may cease
 step-down-goes : (s : Server) (st : Stored) → Renewed (s .stored) st → (ms : List Message) → Goes s (reaction (stepDown (withStored s st) .server) ms (stepDown (withStored s st) .answers))
-unfolding stepDown
 step-down-goes s st h ms =
     let on : Onward s (withStored s st) = renewed s h refl in
-    elim (ltb (st .number) (st .vote)) as
-    (λ t. let r : Reaction = elim t [ true ↦ cease (withStored s st) | false ↦ noReaction (withStored s st) ] in Goes s (reaction (r .server) ms (r .answers))) [
-      | true ↦ let g = cease-goes (withStored s st) in record { onward = onward-trans on (g .onward); answers = g .answers }
-      | false ↦ record { onward = on; answers = inl (omega arith) }
-    ]
+    let stays : Goes s (reaction (withStored s st) ms []) = record { onward = on; answers = inl (omega arith) } in
+    step-down-cases (withStored s st) (λ r. Goes s (reaction (r .server) ms (r .answers)))
+    (λ e f. let g = cease-goes (withStored s st) in record { onward = onward-trans on (g .onward); answers = g .answers }) (λ f. stays) (λ e. stays)
 
 pub elect-goes : (n me : ℕ) (s : Server) → Goes s (elect n me s)
 unfolding cease

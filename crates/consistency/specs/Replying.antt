@@ -48,6 +48,7 @@ module _ (n buckets p : ℕ) {a b : Log} (add : Adds p a b) (same : StoredOnly a
         stored = k;
         calls = λ i c j. open-stays (as-unsettled h .calls i c j);
         role = λ v. role-after (s .volatile .role) (s .stored) st (s .volatile) e (omega (arith, k .number)) (f v) (h .role);
+        resting = as-unsettled h .resting;
       }
 
   pub replied : {now taken : ℕ} → LogOk n now taken b → (s : Server) → Unsettled n buckets b p s → (m : Message) → MessageOk buckets b m

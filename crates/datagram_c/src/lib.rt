@@ -43,7 +43,7 @@ pub extern "C" fn datagram_read(bytes: &[u8]) -> u32
     outcome_number(o)
 }
 
-// What is read is written to `out`.
+// What is read is written to `out`: 0, else 13 or 14, else 15 where `out` is shorter than its 10 or 129 bytes.
 #[no_mangle]
 pub extern "C" fn datagram_rewrite(bytes: &[u8], out: &mut [u8]) -> u32
     ensures { λ r. ⌜ answer r (now (out .exit)) ≡ rewritten (readDatagram (now (bytes .entry))) (now (out .entry)) ⌝ }
@@ -61,7 +61,8 @@ pub extern "C" fn datagram_rewrite(bytes: &[u8], out: &mut [u8]) -> u32
     }
 }
 
-// A datagram of numbers, with a table of `count` entries, whose lengths and bytes stand in two slices as for `bucket_write`.
+// A datagram of numbers, with a table of `count` entries, whose lengths and bytes stand in two slices as for `bucket_write`:
+// 0, else 13 or 14, else 15 where `out` is shorter than its 10 or 129 bytes.
 #[no_mangle]
 pub extern "C" fn datagram_write(
     kind: u8,

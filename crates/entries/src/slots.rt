@@ -26,7 +26,7 @@ pub fn count_of(t: Decoded) -> usize
 }
 
 // How many keys of t stand before k, and whether k is the next.
-pub fn place(t: Decoded, k: Key) -> Place
+fn place(t: Decoded, k: Key) -> Place
     ensures { λ r. ⌜ Placed (keyBytes k) (tableIn t) r ⌝ }
 {
     let n = count_of(t);

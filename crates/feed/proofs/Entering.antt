@@ -153,7 +153,7 @@ finished-waits w out h =
 
 module _ (counts heads slots copies works texts queue loads answers reader line : List ℕ) (t : Tally) (out : List ℕ) where
   pub end-waits : length out < 1088
-      → Finishes counts heads slots copies works texts queue loads answers reader line t out counts heads slots copies works texts queue loads answers reader line out (record { tally = t; taken = 0 })
+      → Finishes counts heads slots copies works texts queue loads answers reader line t out counts heads slots copies works texts queue loads answers reader line t out 0
   end-waits h = record { does = finished-waits _ out h; rests = λ g. refl; wrote = λ g. absurd (omega arith) }
 
   pub end-finished : (counts′ heads′ slots′ copies′ works′ texts′ queue′ loads′ answers′ reader′ line′ feed part : List ℕ) (p : Progress) (out′ : List ℕ) (r : ℕ)
@@ -162,7 +162,7 @@ module _ (counts heads slots copies works texts queue loads answers reader line 
       → feed ≡ lastFeed (getD reader 1 0) → length part ≡ length (take 1024 out)
       → Printed (tallyText (tallyIn (p .tally))) (part ++ drop 1024 out) (p .written) out′ r
       → reader′ ≡ set (set (set reader 0 (p .lines)) 1 (p .held)) 2 r
-      → Finishes counts heads slots copies works texts queue loads answers reader line t out counts′ heads′ slots′ copies′ works′ texts′ queue′ loads′ answers′ reader′ line′ out′ (record { tally = p .tally; taken = r })
+      → Finishes counts heads slots copies works texts queue loads answers reader line t out counts′ heads′ slots′ copies′ works′ texts′ queue′ loads′ answers′ reader′ line′ (p .tally) out′ r
   end-finished counts′ heads′ slots′ copies′ works′ texts′ queue′ loads′ answers′ reader′ line′ feed part p out′ r q s h k f z g e =
       record {
         does = rw (e, word-0 reader (p .lines) (p .held) r q, word-1 reader (p .lines) (p .held) r q) (finished-told _ out _ part (p .taken) (p .written) out′ r s h (rw f at k) z g);

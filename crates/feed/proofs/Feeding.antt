@@ -52,7 +52,7 @@ pub line-means : (v u : Session) (more : List ℕ) → Ready v → LineEnded v u
 unfolding presentLine
 line-means v u more r e =
     let x : step (stateIn (v .memory) (tallyIn (v .tally))) (presentLine (v .held)) ≡ record { state = stateIn (u .memory) (tallyIn (e .told .tally)); outcome = outcomeIn (e .told .report) (u .answers) } =
-    step-read _ _ _ (e .runs .reads) ∙ e .runs .performs .means (r .measured) in
+    step-read _ _ ∙ e .runs .performs .means (r .measured) in
     (rw (x, e .next, e .counted, e .clear), rw (x, e .printed))
 
 pub line-ready : (v u : Session) (more : List ℕ) → Ready v → LineEnded v u more → Ready u

@@ -14,16 +14,17 @@ use Rattle.feed.specs.Entry.{MeasuredIn, SessionFed, finishRoom, Finishe
 use Rattle.feed.proofs.Feeding.{part-takes}
 use Rattle.feed.proofs.Starting.{zeros-start, zeros-measured}
 
-record CallsMean (w : Session) (script text : List ℕ) (v : Session) : Type 0 where
-  reads : fed (readingIn w) script ≡ readingIn v
-  prints : fedText (readingIn w) script ≡ text
-  measured : MeasuredIn v
+-- what calls leave and wrote is what a reading makes of the bytes taken
+pub record CallsMean (r : Reading) (script text : List ℕ) (v : Session) : Type 0 where
+  pub reads : fed r script ≡ readingIn v
+  pub prints : fedText r script ≡ text
+  pub measured : MeasuredIn v
 
 -- what a call wrote is its text
 written : (w : Session) (input out : List ℕ) (u : Session) (out′ : List ℕ) (taken n : ℕ) (f : SessionFed w input out u out′ taken n) → take n out′ ≡ f .leaves .text
 written w input out u out′ taken n f = rw (f .leaves .wrote, f .leaves .count) (take-append-seam (f .leaves .text) (drop (length (f .leaves .text)) out))
 
-calls-mean : (w : Session) {script text : List ℕ} {v : Session} → MeasuredIn w → Calls w script text v → CallsMean w script text v
+calls-mean : (w : Session) {script text : List ℕ} {v : Session} → MeasuredIn w → Calls w script text v → CallsMean (readingIn w) script text v
 unfolding fed fedText
 calls-mean w m begins = record { reads = refl; prints = refl; measured = m }
 calls-mean w m (feeds {script = script} {text = text} {v = v} c input out u out′ taken n f) =
@@ -35,20 +36,23 @@ calls-mean w m (feeds {script = script} {text = text} {v = v} c input out u out�
       measured = p .measured;
     }
 
+pub calls-from-zeros : (heads slots copies works texts queue loads answers line : List ℕ) {script text : List ℕ} {v : Session}
+    → Calls (zeros heads slots copies works texts queue loads answers line) script text v → CallsMean start script text v
+calls-from-zeros heads slots copies works texts queue loads answers line c =
+    rw (← zeros-start heads slots copies works texts queue loads answers line)
+    (calls-mean (zeros heads slots copies works texts queue loads answers line) (zeros-measured heads slots copies works texts queue loads answers line) c)
+
 pub script-whole : (heads slots copies works texts queue loads answers line : List ℕ) {script text : List ℕ} {v : Session}
     → Calls (zeros heads slots copies works texts queue loads answers line) script text v
     → (out : List ℕ) (u : Session) (out′ : List ℕ) (r : ℕ) → finishRoom ≤ length out → Finished v out u out′ r
     → Whole script (text ++ take r out′) u
 script-whole heads slots copies works texts queue loads answers line {script} {text} {v} c out u out′ r room f =
-    let z = zeros-start heads slots copies works texts queue loads answers line in
-    let k = calls-mean (zeros heads slots copies works texts queue loads answers line) (zeros-measured heads slots copies works texts queue loads answers line) c in
+    let k = calls-from-zeros heads slots copies works texts queue loads answers line c in
     let m = f .means room (k .measured) in
-    let reads : fed start script ≡ readingIn v = ap (λ (x : Reading). fed x script) (sym z) ∙ k .reads in
-    let prints : fedText start script ≡ text = ap (λ (x : Reading). fedText x script) (sym z) ∙ k .prints in
     let last : take r out′ ≡ finishedText (readingIn v) = rw (m .wrote, m .count) (take-append-seam (finishedText (readingIn v)) (drop (length (finishedText (readingIn v))) out)) in
     record {
-      prints = rw (last, ← prints, ← reads) (printed-whole script);
-      leaves = ap (λ (x : Reading). x .state) (sym (m .reads)) ∙ ap (λ (x : Reading). finished x .state) (sym reads) ∙ state-whole script;
+      prints = rw (last, ← k .prints, ← k .reads) (printed-whole script);
+      leaves = ap (λ (x : Reading). x .state) (sym (m .reads)) ∙ ap (λ (x : Reading). finished x .state) (sym (k .reads)) ∙ state-whole script;
     }
 
 -- a call with room for a line takes a byte, where there is one

@@ -14,7 +14,6 @@ use Rattle.input.specs.Reading.{fed, fedText, finished, finishedText}
 use Rattle.progress.specs.Progress.{lineRoom, lastFeed}
 use Rattle.lines.specs.Sessions.{held, Session, session, readingIn}
 use Rattle.lines.specs.Feeding.{Fed, PartFed}
-use Rattle.feed.specs.declared.Answer.{Answer}
 
 abbrev pub sessionIn : Memory → (answers reader line : List ℕ) → Tally → Session
 sessionIn m answers reader line t = session m answers t (getD reader 0 0) (held line (getD reader 1 0))
@@ -35,15 +34,16 @@ pub record SessionFed (w : Session) (input out : List ℕ) (w′ : Session) (out
   pub leaves : PartFed w input out w′ out′ taken written
   pub means : MeasuredIn w → PartMeans w (take taken input) w′ (leaves .text)
 
-abbrev pub Feeds : (counts heads slots copies works texts queue loads answers reader line : List ℕ) → Tally → (input out : List ℕ) → (counts′ heads′ slots′ copies′ works′ texts′ queue′ loads′ answers′ reader′ line′ out′ : List ℕ) → Answer → Type 0
-Feeds counts heads slots copies works texts queue loads answers reader line t input out counts′ heads′ slots′ copies′ works′ texts′ queue′ loads′ answers′ reader′ line′ out′ r =
+-- t and t′: the tally before and after
+abbrev pub Feeds : (counts heads slots copies works texts queue loads answers reader line : List ℕ) → Tally → (input out : List ℕ) → (counts′ heads′ slots′ copies′ works′ texts′ queue′ loads′ answers′ reader′ line′ : List ℕ) → Tally → (out′ : List ℕ) (taken : ℕ) → Type 0
+Feeds counts heads slots copies works texts queue loads answers reader line t input out counts′ heads′ slots′ copies′ works′ texts′ queue′ loads′ answers′ reader′ line′ t′ out′ taken =
     SessionFed
     (sessionIn (memory counts heads slots copies works texts queue loads) answers reader line t)
     input
     out
-    (sessionIn (memory counts′ heads′ slots′ copies′ works′ texts′ queue′ loads′) answers′ reader′ line′ (r .tally))
+    (sessionIn (memory counts′ heads′ slots′ copies′ works′ texts′ queue′ loads′) answers′ reader′ line′ t′)
     out′
-    (r .taken)
+    taken
     (getD reader′ 2 0)
 
 -- ---- the end of the input
@@ -77,12 +77,12 @@ pub record Finished (w : Session) (out : List ℕ) (w′ : Session) (out′ : Li
   pub means : finishRoom ≤ length out → MeasuredIn w → FinishMeans w out w′ out′ r
 
 -- the words of the reader: as they were where nothing happens, else with what was written
-pub record Finishes (counts heads slots copies works texts queue loads answers reader line : List ℕ) (t : Tally) (out : List ℕ) (counts′ heads′ slots′ copies′ works′ texts′ queue′ loads′ answers′ reader′ line′ out′ : List ℕ) (r : Answer) : Type 0 where
+pub record Finishes (counts heads slots copies works texts queue loads answers reader line : List ℕ) (t : Tally) (out : List ℕ) (counts′ heads′ slots′ copies′ works′ texts′ queue′ loads′ answers′ reader′ line′ : List ℕ) (t′ : Tally) (out′ : List ℕ) (r : ℕ) : Type 0 where
   pub does : Finished
       (sessionIn (memory counts heads slots copies works texts queue loads) answers reader line t)
       out
-      (sessionIn (memory counts′ heads′ slots′ copies′ works′ texts′ queue′ loads′) answers′ reader′ line′ (r .tally))
+      (sessionIn (memory counts′ heads′ slots′ copies′ works′ texts′ queue′ loads′) answers′ reader′ line′ t′)
       out′
-      (r .taken)
+      r
   pub rests : length out < finishRoom → reader′ ≡ reader
-  pub wrote : finishRoom ≤ length out → getD reader′ 2 0 ≡ r .taken
+  pub wrote : finishRoom ≤ length out → getD reader′ 2 0 ≡ r

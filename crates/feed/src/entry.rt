@@ -1,12 +1,15 @@
-// The public calls: a part of the input, and its end, on lent arrays and with the tally by value.
+// The public calls: a part of the input, and its end, on lent arrays. They are given the tally by value, and answer what is to be added
+// to it.
 use crate::Answer;
 use lines::feeding::feed_part;
 use output::put_end;
 use progress::line_feeds;
 use progress::put_reader;
 use runs::Tally;
+use tally::change;
 ghost use mathlib.Core.Path.{_≡_};
 ghost use lib.ListN.{length};
+ghost use Rattle.tally.specs.Sums.{tallySum};
 ghost use Rattle.feed.specs.Entry.{Feeds, Finishes};
 
 // The sizes of two arrays, for the caller's proof: it does nothing.
@@ -32,7 +35,7 @@ pub fn feed_value(
     input: &[u8],
     out: &mut [u8],
 ) -> Answer
-    ensures { λ r. ⌜ Feeds (now (counts .entry)) (now (heads .entry)) (now (slots .entry)) (now (copies .entry)) (now (works .entry)) (now (texts .entry)) (now (queue .entry)) (now (loads .entry)) (now (answers .entry)) (now (reader .entry)) (now (line .entry)) t (now (input .entry)) (now (out .entry)) (now (counts .exit)) (now (heads .exit)) (now (slots .exit)) (now (copies .exit)) (now (works .exit)) (now (texts .exit)) (now (queue .exit)) (now (loads .exit)) (now (answers .exit)) (now (reader .exit)) (now (line .exit)) (now (out .exit)) r ⌝ }
+    ensures { λ r. ⌜ Feeds (now (counts .entry)) (now (heads .entry)) (now (slots .entry)) (now (copies .entry)) (now (works .entry)) (now (texts .entry)) (now (queue .entry)) (now (loads .entry)) (now (answers .entry)) (now (reader .entry)) (now (line .entry)) t (now (input .entry)) (now (out .entry)) (now (counts .exit)) (now (heads .exit)) (now (slots .exit)) (now (copies .exit)) (now (works .exit)) (now (texts .exit)) (now (queue .exit)) (now (loads .exit)) (now (answers .exit)) (now (reader .exit)) (now (line .exit)) (tallySum t (r .change)) (now (out .exit)) (r .taken) ⌝ }
 {
     sizes(reader, line);
     let lines = reader[0];
@@ -55,15 +58,15 @@ pub fn feed_value(
         count,
     );
     put_reader(reader, p, p.written);
-    let tally = p.tally;
+    let after = p.tally;
     Answer {
-        tally,
+        change: change(t, after),
         taken: p.taken,
     }
 }
 
-// The end of the input: a line feed ends a last line that lacks it, then the tally follows. It answers 0 where the output has no room,
-// else how many bytes it wrote.
+// The end of the input: a line feed ends a last line that lacks it, then the tally follows. It answers how many bytes it wrote; where
+// the output has no room it writes and adds nothing, and answers 0.
 pub fn finish_value(
     counts: &mut [u32; 8],
     heads: &mut [u32; 112],
@@ -79,11 +82,14 @@ pub fn finish_value(
     t: Tally,
     out: &mut [u8],
 ) -> Answer
-    ensures { λ r. ⌜ Finishes (now (counts .entry)) (now (heads .entry)) (now (slots .entry)) (now (copies .entry)) (now (works .entry)) (now (texts .entry)) (now (queue .entry)) (now (loads .entry)) (now (answers .entry)) (now (reader .entry)) (now (line .entry)) t (now (out .entry)) (now (counts .exit)) (now (heads .exit)) (now (slots .exit)) (now (copies .exit)) (now (works .exit)) (now (texts .exit)) (now (queue .exit)) (now (loads .exit)) (now (answers .exit)) (now (reader .exit)) (now (line .exit)) (now (out .exit)) r ⌝ }
+    ensures { λ r. ⌜ Finishes (now (counts .entry)) (now (heads .entry)) (now (slots .entry)) (now (copies .entry)) (now (works .entry)) (now (texts .entry)) (now (queue .entry)) (now (loads .entry)) (now (answers .entry)) (now (reader .entry)) (now (line .entry)) t (now (out .entry)) (now (counts .exit)) (now (heads .exit)) (now (slots .exit)) (now (copies .exit)) (now (works .exit)) (now (texts .exit)) (now (queue .exit)) (now (loads .exit)) (now (answers .exit)) (now (reader .exit)) (now (line .exit)) (tallySum t (r .change)) (now (out .exit)) (r .taken) ⌝ }
 {
     sizes(reader, line);
     if out.len() < 1088 {
-        return Answer { tally: t, taken: 0 };
+        return Answer {
+            change: change(t, t),
+            taken: 0,
+        };
     }
     let lines = reader[0];
     let count = reader[1];
@@ -110,7 +116,7 @@ pub fn finish_value(
     let written = put_end(out, p.written, tally);
     put_reader(reader, p, written);
     Answer {
-        tally,
+        change: change(t, tally),
         taken: written,
     }
 }

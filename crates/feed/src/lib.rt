@@ -4,8 +4,8 @@ use runs::Tally;
 
 pub mod entry;
 
-// The tally after a call, and how many bytes of a part it took, or at the end how many it wrote.
+// What a call adds to the tally, and how many bytes of a part it took, or at the end how many it wrote.
 pub struct Answer {
-    pub tally: Tally,
+    pub change: Tally,
     pub taken: usize,
 }

@@ -56,6 +56,70 @@ step-kept s l = go (decLe (length l) 120)
     go (yes k) = ap (step s) (kept-whole [] l (omega arith))
     go (no k) = step-long s (keptAll [] l) (kept-long [] l (omega arith)) ∙ sym (step-long s l (omega arith))
 
+held-same : (r : Reading) (w : List ℕ) → r .line ≡ keptAll [] (reverse w) → step (r .state) (r .line) ≡ step (r .state) (reverse w)
+held-same r w k = ap (step (r .state)) k ∙ step-kept (r .state) (reverse w)
+
+-- ---- the lines of an input, from a reading on
+
+-- from a reading on, `text` is what the lines print and the tally after them, and `s` the state that they leave
+pub record Agrees (r : Reading) (lines : List (List ℕ)) (text : List ℕ) (s : State) : Type 0 where
+  pub printed : text ≡ printedFrom (r .lines + 1) (r .state) lines
+  pub reached : s ≡ stateAfter (r .state) lines
+
+-- which lines the bytes of an input are, and what is printed and left after them. `w` is what has been read of the present line, its
+-- last byte first
+pub record Ending : Type 0 where
+  pub lines : List ℕ → List ℕ → List (List ℕ)
+  pub text : Reading → List ℕ
+  pub state : Reading → State
+  pub at-feed : (w : List ℕ) (b : ℕ) (l : List ℕ) → eqb b 10 ≡ true → lines w (b ∷ l) ≡ reverse w ∷ lines [] l
+  pub at-byte : (w : List ℕ) (b : ℕ) (l : List ℕ) → eqb b 10 ≡ false → lines w (b ∷ l) ≡ lines (b ∷ w) l
+  pub past : (r : Reading) → maxLines ≤ r .lines → Agrees r [] (text r) (state r)
+  pub at-end : (r : Reading) (n : ℕ) (w : List ℕ) → r .lines < maxLines → r .line ≡ keptAll [] (reverse w) → Agrees r (take (suc n) (lines w [])) (text r) (state r)
+
+module _ (e : Ending) where
+  -- `left` lines may still be read
+  abbrev pub AgreesOn : Reading → ℕ → List ℕ → List ℕ → Type 0
+  AgreesOn r left w input = Agrees r (take left (e .lines w input)) (fedText r input ++ e .text (fed r input)) (e .state (fed r input))
+
+  agrees-past : (r : Reading) (w input : List ℕ) → maxLines ≤ r .lines → AgreesOn r 0 w input
+  agrees-past r w input h = rw (past-silent r input h, past-kept r input h) (e .past r h)
+
+  -- a line feed, and any other byte
+  agrees-ended : (r : Reading) (n : ℕ) (w : List ℕ) (b : ℕ) (l : List ℕ) → r .lines < maxLines → eqb b 10 ≡ true → r .line ≡ keptAll [] (reverse w) → AgreesOn (ended r) n [] l → AgreesOn r (suc n) w (b ∷ l)
+  unfolding fed fedText printedFrom stateAfterUpTo
+  agrees-ended r n w b l h f k a =
+      rw (byte-prints r b h f, byte-ends r b h f, e .at-feed w b l f, append-assoc)
+      (record {
+        printed = rw (← held-same r w k) (ap (λ (t : List ℕ). endedText r ++ t) (a .printed));
+        reached = a .reached ∙ ap (λ (x : LineResult). stateAfter (x .state) (take n (e .lines [] l))) (held-same r w k);
+      })
+
+  agrees-kept : (r : Reading) (n : ℕ) (w : List ℕ) (b : ℕ) (l : List ℕ) → r .lines < maxLines → eqb b 10 ≡ false → AgreesOn (reading (r .state) (r .lines) (kept (r .line) b)) (suc n) (b ∷ w) l → AgreesOn r (suc n) w (b ∷ l)
+  unfolding fed fedText
+  agrees-kept r n w b l h f a =
+      rw (byte-silent r b h f, byte-kept r b h f, e .at-byte w b l f)
+      (record { printed = a .printed; reached = a .reached })
+
+  agrees : (input w : List ℕ) (r : Reading) (left : ℕ) → r .lines + left ≡ maxLines → r .line ≡ keptAll [] (reverse w) → AgreesOn r left w input
+  unfolding fed fedText
+  agrees [] w r zero h k = agrees-past r w [] (omega arith)
+  agrees [] w r (suc n) h k = e .at-end r n w (omega arith) k
+  agrees (b ∷ l) w r zero h k = agrees-past r w (b ∷ l) (omega arith)
+  agrees (b ∷ l) w r (suc n) h k =
+      go (eqb b 10) refl (agrees l [] (ended r) n) (agrees l (b ∷ w) (reading (r .state) (r .lines) (kept (r .line) b)) (suc n) h)
+    where
+      more : kept (r .line) b ≡ keptAll [] (reverse (b ∷ w))
+      more = unfold keptAll in rw (reverse-cons b w, keptAll-append [] (reverse w) (b ∷ []), k)
+
+      go : (t : Bool) → eqb b 10 ≡ t → (r .lines + 1 + n ≡ maxLines → _≡_ {A = List ℕ} [] (keptAll [] []) → AgreesOn (ended r) n [] l) → (kept (r .line) b ≡ keptAll [] (reverse (b ∷ w)) → AgreesOn (reading (r .state) (r .lines) (kept (r .line) b)) (suc n) (b ∷ w) l) → AgreesOn r (suc n) w (b ∷ l)
+      go true p f g = agrees-ended r n w b l (omega arith) p k (f (omega arith) (unfold keptAll in refl))
+      go false p f g = agrees-kept r n w b l (omega arith) p (g more)
+
+  -- from the start on
+  pub agrees-from-start : (input : List ℕ) → AgreesOn start maxLines [] input
+  agrees-from-start input = agrees input [] start maxLines refl (unfold keptAll in refl)
+
 -- ---- the end of the input
 
 last-none : (r : Reading) (l : List ℕ) → maxLines ≤ r .lines → (lastRead r l ≡ r) × (lastText r l ≡ [])
@@ -78,91 +142,54 @@ unfolding lastRead lastText fed fedText byteRead byteText
 last-is-fed r [] h = absurd (omega arith)
 last-is-fed r (b ∷ l) h = (refl, sym (append-nil (byteText r 10)))
 
--- ---- one reading, to the end of the input
+-- ---- the whole input
 
--- `w` is what has been read of the present line, its last byte first; `left` lines may still be read
-record Agrees (r : Reading) (left : ℕ) (w input : List ℕ) : Type 0 where
-  printed : fedText r input ++ finishedText (fed r input) ≡ printedFrom (r .lines + 1) (r .state) (take left (linesFrom w input))
-  reached : finished (fed r input) .state ≡ stateAfter (r .state) (take left (linesFrom w input))
-
-agrees-past : (r : Reading) (w input : List ℕ) → maxLines ≤ r .lines → Agrees r 0 w input
+whole-past : (r : Reading) → maxLines ≤ r .lines → Agrees r [] (finishedText r) (finished r .state)
 unfolding finished finishedText printedFrom stateAfterUpTo
-agrees-past r w input h =
+whole-past r h =
     record {
-      printed = rw (past-silent r input h, past-kept r input h, last-none r (r .line) h .1, last-none r (r .line) h .0);
-      reached = rw (past-kept r input h, last-none r (r .line) h .0);
+      printed = rw (last-none r (r .line) h .1, last-none r (r .line) h .0);
+      reached = rw (last-none r (r .line) h .0);
     }
 
 take-none : (n : ℕ) → _≡_ {A = List (List ℕ)} (take n []) []
 take-none zero = refl
 take-none (suc n) = refl
 
-agrees-end : (r : Reading) (n : ℕ) (w : List ℕ) → r .lines < maxLines → r .line ≡ keptAll [] (reverse w) → Agrees r (suc n) w []
-unfolding fed fedText finished finishedText linesFrom lastLine printedFrom stateAfterUpTo keptAll
-agrees-end r n [] h k =
+whole-end : (r : Reading) (n : ℕ) (w : List ℕ) → r .lines < maxLines → r .line ≡ keptAll [] (reverse w) → Agrees r (take (suc n) (linesFrom w [])) (finishedText r) (finished r .state)
+unfolding finished finishedText linesFrom lastLine printedFrom stateAfterUpTo keptAll
+whole-end r n [] h k =
     record {
       printed = rw (last-empty r (r .line) k .1, last-empty r (r .line) k .0);
       reached = rw (last-empty r (r .line) k .0);
     }
-agrees-end r n (c ∷ w) h k =
+whole-end r n (c ∷ w) h k =
     record {
-      printed = rw (last-some r (r .line) h some .1, last-some r (r .line) h some .0, same, take-none n) refl;
-      reached = rw (last-some r (r .line) h some .0, same, take-none n) refl;
+      printed = rw (last-some r (r .line) h some .1, last-some r (r .line) h some .0, held-same r (c ∷ w) k, take-none n) refl;
+      reached = rw (last-some r (r .line) h some .0, held-same r (c ∷ w) k, take-none n) refl;
     }
   where
     some : 0 < length (r .line)
     some = rw k (kept-some (reverse (c ∷ w)) (rw (length-reverse (c ∷ w)) (omega arith)))
 
-    same : step (r .state) (r .line) ≡ step (r .state) (reverse (c ∷ w))
-    same = ap (step (r .state)) k ∙ step-kept (r .state) (reverse (c ∷ w))
+whole-feed : (w : List ℕ) (b : ℕ) (l : List ℕ) → eqb b 10 ≡ true → linesFrom w (b ∷ l) ≡ reverse w ∷ linesFrom [] l
+unfolding linesFrom
+whole-feed w b l e = rw (linesFrom, e)
 
--- a line feed, and any other byte
-agrees-ended : (r : Reading) (n : ℕ) (w : List ℕ) (b : ℕ) (l : List ℕ) → r .lines < maxLines → eqb b 10 ≡ true → r .line ≡ keptAll [] (reverse w) → Agrees (ended r) n [] l → Agrees r (suc n) w (b ∷ l)
-unfolding fed fedText linesFrom printedFrom stateAfterUpTo
-agrees-ended r n w b l h e k a =
-    record {
-      printed =
-          rw (byte-prints r b h e, byte-ends r b h e, linesFrom, e, append-assoc, ← same) (ap (λ (t : List ℕ). endedText r ++ t) (a .printed));
-      reached = rw (byte-ends r b h e, linesFrom, e) (a .reached ∙ ap (λ (x : LineResult). stateAfter (x .state) (take n (linesFrom [] l))) same);
-    }
-  where
-    same : step (r .state) (r .line) ≡ step (r .state) (reverse w)
-    same = ap (step (r .state)) k ∙ step-kept (r .state) (reverse w)
+whole-byte : (w : List ℕ) (b : ℕ) (l : List ℕ) → eqb b 10 ≡ false → linesFrom w (b ∷ l) ≡ linesFrom (b ∷ w) l
+unfolding linesFrom
+whole-byte w b l e = rw (linesFrom, e)
 
-agrees-kept : (r : Reading) (n : ℕ) (w : List ℕ) (b : ℕ) (l : List ℕ) → r .lines < maxLines → eqb b 10 ≡ false → Agrees (reading (r .state) (r .lines) (kept (r .line) b)) (suc n) (b ∷ w) l → Agrees r (suc n) w (b ∷ l)
-unfolding fed fedText linesFrom
-agrees-kept r n w b l h e a =
-    record {
-      printed = rw (byte-silent r b h e, byte-kept r b h e, linesFrom, e) (a .printed);
-      reached = rw (byte-kept r b h e, linesFrom, e) (a .reached);
-    }
-
-agrees : (input w : List ℕ) (r : Reading) (left : ℕ) → r .lines + left ≡ maxLines → r .line ≡ keptAll [] (reverse w) → Agrees r left w input
-agrees [] w r zero h k = agrees-past r w [] (omega arith)
-agrees [] w r (suc n) h k = agrees-end r n w (omega arith) k
-agrees (b ∷ l) w r zero h k = agrees-past r w (b ∷ l) (omega arith)
-agrees (b ∷ l) w r (suc n) h k =
-    go (eqb b 10) refl (agrees l [] (ended r) n) (agrees l (b ∷ w) (reading (r .state) (r .lines) (kept (r .line) b)) (suc n) h)
-  where
-    more : kept (r .line) b ≡ keptAll [] (reverse (b ∷ w))
-    more = unfold keptAll in rw (reverse-cons b w, keptAll-append [] (reverse w) (b ∷ []), k)
-
-    go : (t : Bool) → eqb b 10 ≡ t → (r .lines + 1 + n ≡ maxLines → _≡_ {A = List ℕ} [] (keptAll [] []) → Agrees (ended r) n [] l) → (kept (r .line) b ≡ keptAll [] (reverse (b ∷ w)) → Agrees (reading (r .state) (r .lines) (kept (r .line) b)) (suc n) (b ∷ w) l) → Agrees r (suc n) w (b ∷ l)
-    go true e f g = agrees-ended r n w b l (omega arith) e k (f (omega arith) (unfold keptAll in refl))
-    go false e f g = agrees-kept r n w b l (omega arith) e (g more)
-
--- ---- the whole input
-
-agrees-whole : (input : List ℕ) → Agrees start maxLines [] input
-agrees-whole input = agrees input [] start maxLines refl (unfold keptAll in refl)
+abbrev whole : Ending
+whole = record { lines = linesFrom; text = finishedText; state = λ r. finished r .state; at-feed = whole-feed; at-byte = whole-byte; past = whole-past; at-end = whole-end }
 
 pub printed-whole : (input : List ℕ) → fedText start input ++ finishedText (fed start input) ≡ run input
 unfolding run linesOf
-printed-whole input = agrees-whole input .printed
+printed-whole input = agrees-from-start whole input .printed
 
 pub state-whole : (input : List ℕ) → finished (fed start input) .state ≡ stateAfter initialState (linesOf input)
 unfolding linesOf
-state-whole input = agrees-whole input .reached
+state-whole input = agrees-from-start whole input .reached
 
 -- ---- and any parts of it
 

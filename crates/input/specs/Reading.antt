@@ -1,10 +1,10 @@
 -- An input of bytes that arrives in parts: what is kept between them, and what each of them prints.
 use mathlib.Core.Bool.{true, false}
 use mathlib.Core.Path.{_≡_}
-use mathlib.Core.List.{List, [], _∷_, _++_}
+use mathlib.Core.List.{List, [], _∷_, _++_, reverse}
 use Prim.Native.Nat.{ℕ, _+_}
 use lib.Dec.{eqb, ltb, leb}
-use lib.ListN.{length}
+use lib.ListN.{length, take}
 use Rattle.model.specs.Measures.{maxLines, maxLineBytes}
 use Rattle.model.specs.Lines.{State, initialState}
 use Rattle.model.specs.Run.{step}
@@ -86,3 +86,15 @@ finished r = lastRead r (r .line)
 
 unfoldable pub finishedText : Reading → List ℕ
 finishedText r = lastText r (r .line) ++ tallyText (finished r .state .tally)
+
+-- ---- complete lines
+
+-- the bytes before each line feed; what follows the last one is no line yet, other than in `linesFrom` (crates/model/specs/Run.antt).
+-- `w` is what has been read of the present line, its last byte first
+unfoldable pub completeFrom : List ℕ → List ℕ → List (List ℕ)
+completeFrom w [] = []
+completeFrom w (b ∷ l) = elim (eqb b 10) [ true ↦ reverse w ∷ completeFrom [] l | false ↦ completeFrom (b ∷ w) l ]
+
+-- nothing after line 4,294,967,295 is read
+unfoldable pub completeLines : List ℕ → List (List ℕ)
+completeLines input = take maxLines (completeFrom [] input)

@@ -15,17 +15,17 @@ use Rattle.table.proofs.Fitting.{within-parts}
 use Rattle.model.specs.Measures.{maxServers, maxBuckets, maxMessages, maxAccepted, maxElection}
 use Rattle.model.specs.Calls.{Words, get, set, setif, del, keys, bucketFor}
 use Rattle.model.specs.Cluster.{Role, follower, Round, Call, Message, Cluster, freshServer, freshCluster, freshCopy}
-use Rattle.model.specs.Leader.{Reaction, ceased, largerNumber, nextNumber}
+use Rattle.model.specs.Leader.{Reaction, largerNumber, nextNumber}
 use Rattle.model.proofs.Elections.{eleven-above-the-top}
 use Rattle.model.specs.Lines.{Line, cluster, elect, call, deliver, copy, lose, timeout, stop, cut, start, State, initialState, Tally, firstOf, conditions, conditionsUpTo, either, noServer, noBucket, noBucketFor, badKey, badValue, badWords, limitReached, stoppedAt, isLeading, lastNumber, serverAt, dropAt, Work, afterStep, byLine, lostMessage, delivery, cutting, work, tallied, LineResult}
 use Rattle.model.specs.Parse.{parse}
 use Rattle.model.specs.Run.{step, stateAfter, stateAfterUpTo}
-use Rattle.limits.specs.Lists.{All, nil, cons, all-head, all-tail, all-imply, all-append, all-take, all-drop, all-set, all-at, all-replicate, map-replicate}
+use Rattle.limits.specs.Lists.{All, nil, cons, all-head, all-tail, all-imply, all-append, all-take, all-drop, all-set, all-at, all-replicate}
 use Rattle.limits.specs.Refusals.{ComesOut, refused-by, founded, took, comes-out}
-use Rattle.limits.specs.Tally.{none-applies, message-there, work-counts}
-use Rattle.limits.specs.Measures.{limitsAfter, one-above-within, KeySized, ValueSized, WordsSized, idle, ServerWithin, MessageWithin, AnswersWithin, endings, ReactionWithin, ClusterWithin, Grows, next-line, server-grows, message-grows}
+use Rattle.limits.specs.Tally.{none-applies, message-there, work-counts, Tallied, nothing-tallied, work-keeps-tally}
+use Rattle.limits.specs.Measures.{limitsAfter, one-above-within, KeySized, ValueSized, WordsSized, idle, ServerWithin, MessageWithin, AnswersWithin, endings, ReactionWithin, ClusterWithin, next-line, server-grows, message-grows, wider}
 use Rattle.limits.specs.Tables.{fresh-copy-within}
-use Rattle.limits.specs.Rules.{role-elected, forgotten-within, cut-within, cease-within, elect-within, beginCall-within, handle-within}
+use Rattle.limits.specs.Rules.{forgotten-within, cut-within, cease-within, elect-within, beginCall-within, handle-within}
 
 -- ---- what the tests of a line tell
 
@@ -85,58 +85,47 @@ leader-acts r e x =
 -- ---- one line
 
 -- the cluster after one more line, and the answers
-pub record Taken (n b k : ℕ) (w : Work) : Type 0 where
-  pub cluster : ClusterWithin n b (k + 1) (w .cluster)
-  pub answers : AnswersWithin b (limitsAfter (k + 1) (w .cluster .calls)) (w .answers)
+pub record Taken (top n b k : ℕ) (w : Work) : Type 0 where
+  pub cluster : ClusterWithin top n b (k + 1) (w .cluster)
+  pub answers : AnswersWithin b (limitsAfter top (k + 1)) (w .answers)
 
-module _ (n b k : ℕ) (c : Cluster) (bLow : 1 ≤ b) (w : ClusterWithin n b k c) where
-  -- the calls made after the line: the same, or one more by a server that was elected
-  record CallsAfter (calls : ℕ) : Type 0 where
-    from : c .calls ≤ calls
-    to : calls ≤ c .calls + 1
-    elected : 1 ≤ calls → calls < k + 1
-
-  same-calls : CallsAfter (c .calls)
-  same-calls = record { from = omega arith; to = omega arith; elected = λ h. omega (arith, w .elected h) }
-
-  line-grows : {calls : ℕ} (q : ℕ) → q ≤ 4 → CallsAfter calls → Grows (limitsAfter k (c .calls)) 0 (limitsAfter (k + 1) calls) q
-  line-grows {calls} q h x = next-line k (c .calls) calls q (x .from) (x .to) h
-
+module _ (top n b k : ℕ) (c : Cluster) (bLow : 1 ≤ b) (w : ClusterWithin top n b k c) where
   -- messages and servers as they were, under the next line's limits
-  kept-messages : {calls : ℕ} {l : List Message} → CallsAfter calls → All (MessageWithin n b (limitsAfter k (c .calls))) l →
-      All (MessageWithin n b (limitsAfter (k + 1) calls)) l
-  kept-messages x m = all-imply (message-grows (line-grows 0 (omega arith) x)) m
+  kept-messages : {l : List Message} → All (MessageWithin n b (limitsAfter top k)) l → All (MessageWithin n b (limitsAfter top (k + 1))) l
+  kept-messages m = all-imply (message-grows (next-line top k 0 (omega arith))) m
 
-  kept-servers : {calls : ℕ} → CallsAfter calls → All (ServerWithin n b (limitsAfter (k + 1) calls) 0) (c .servers)
-  kept-servers x = all-imply (server-grows (line-grows 0 (omega arith) x)) (w .servers)
+  kept-servers : All (ServerWithin n b (limitsAfter top (k + 1)) 0) (c .servers)
+  kept-servers = all-imply (server-grows (next-line top k 0 (omega arith))) (w .servers)
 
-  server-before : (s : ℕ) → s < n → ServerWithin n b (limitsAfter k (c .calls)) 0 (serverAt c s)
+  server-before : (s : ℕ) → s < n → ServerWithin n b (limitsAfter top k) 0 (serverAt c s)
   server-before s h = all-at s _ (omega (arith, w .size)) (w .servers)
 
   -- the server that the line is about, which may make four rounds
-  server-at : {calls : ℕ} (s : ℕ) → CallsAfter calls → s < n → ServerWithin n b (limitsAfter (k + 1) calls) 4 (serverAt c s)
-  server-at s x h = server-grows (line-grows 4 (omega arith) x) _ (server-before s h)
+  server-at : (s : ℕ) → s < n → ServerWithin n b (limitsAfter top (k + 1)) 4 (serverAt c s)
+  server-at s h = server-grows (next-line top k 4 (omega arith)) _ (server-before s h)
 
-  stepped-within : {calls : ℕ} (s : ℕ) (kept : List Message) (r : Reaction) → CallsAfter calls →
-      All (MessageWithin n b (limitsAfter k (c .calls))) kept →
-      ReactionWithin n b (limitsAfter (k + 1) calls) r → ClusterWithin n b (k + 1) (afterStep c s kept calls r)
+  stepped-within : {calls : ℕ} (s : ℕ) (kept : List Message) (r : Reaction) → calls ≤ k + 1 →
+      All (MessageWithin n b (limitsAfter top k)) kept →
+      ReactionWithin n b (limitsAfter top (k + 1)) r → ClusterWithin top n b (k + 1) (afterStep c s kept calls r)
   stepped-within s kept r x m y =
       record {
         size = rw length-set (w .size);
         buckets = w .buckets;
         accepted = omega (arith, w .accepted);
-        calls = omega (arith, w .calls, x .to);
-        elected = x .elected;
-        servers = all-set s (kept-servers x) (y .server);
-        messages = all-append (kept-messages x m) (y .sends);
+        calls = x;
+        servers = all-set s kept-servers (y .server);
+        messages = all-append (kept-messages m) (y .sends);
       }
 
-  byLine-taken : {calls : ℕ} (s : ℕ) (r : Reaction) → CallsAfter calls → ReactionWithin n b (limitsAfter (k + 1) calls) r →
-      Taken n b k (byLine c s calls r)
+  same-calls : c .calls ≤ k + 1
+  same-calls = omega (arith, w .calls)
+
+  byLine-taken : {calls : ℕ} (s : ℕ) (r : Reaction) → calls ≤ k + 1 → ReactionWithin n b (limitsAfter top (k + 1)) r →
+      Taken top n b k (byLine c s calls r)
   byLine-taken s r x y = record { cluster = stepped-within s (c .messages) r x (w .messages) y; answers = y .answers }
 
-  lost-within : (kept : List Message) (copied : ℕ) → All (MessageWithin n b (limitsAfter k (c .calls))) kept →
-      Taken n b k (lostMessage c kept copied)
+  lost-within : (kept : List Message) (copied : ℕ) → All (MessageWithin n b (limitsAfter top k)) kept →
+      Taken top n b k (lostMessage c kept copied)
   lost-within kept copied m =
       record {
         cluster =
@@ -144,91 +133,86 @@ module _ (n b k : ℕ) (c : Cluster) (bLow : 1 ≤ b) (w : ClusterWithin n b k c
               size = w .size;
               buckets = w .buckets;
               accepted = omega (arith, w .accepted);
-              calls = omega (arith, w .calls);
-              elected = same-calls .elected;
-              servers = kept-servers same-calls;
-              messages = kept-messages same-calls m;
+              calls = same-calls;
+              servers = kept-servers;
+              messages = kept-messages m;
             };
         answers = endings {out = []} (omega arith) nil;
       }
 
-  delivery-within : (m : Message) (kept : List Message) (copied : ℕ) → MessageWithin n b (limitsAfter k (c .calls)) m →
-      All (MessageWithin n b (limitsAfter k (c .calls))) kept → Taken n b k (delivery c m kept copied)
+  delivery-within : (m : Message) (kept : List Message) (copied : ℕ) → MessageWithin n b (limitsAfter top k) m →
+      All (MessageWithin n b (limitsAfter top k)) kept → Taken top n b k (delivery c m kept copied)
   unfolding delivery
   delivery-within m kept copied x o = go (stoppedAt c (m .receiver)) refl
     where
-      go : (t : Bool) → stoppedAt c (m .receiver) ≡ t → Taken n b k (delivery c m kept copied)
+      go : (t : Bool) → stoppedAt c (m .receiver) ≡ t → Taken top n b k (delivery c m kept copied)
       go true e = rw (delivery, e) (lost-within kept copied o)
       go false e =
-          let g = message-grows (line-grows 0 (omega arith) same-calls) m x in
-          let r = handle-within n b (limitsAfter (k + 1) (c .calls)) m _ g (server-at (m .receiver) same-calls (x .receiver)) in
+          let g = message-grows (next-line top k 0 (omega arith)) m x in
+          let r = handle-within n b (limitsAfter top (k + 1)) m _ g (server-at (m .receiver) (x .receiver)) in
           rw (delivery, e, w .size) (record { cluster = stepped-within (m .receiver) kept _ same-calls o r; answers = r .answers })
 
-  dropped : (i : ℕ) → All (MessageWithin n b (limitsAfter k (c .calls))) (dropAt i (c .messages))
+  dropped : (i : ℕ) → All (MessageWithin n b (limitsAfter top k)) (dropAt i (c .messages))
   dropped i = all-append (all-take i (w .messages)) (all-drop (i + 1) (w .messages))
 
   named : (s : ℕ) → noServer c s ≡ false → s < n
   named s e = omega (arith, server-there c s e, w .size)
 
-  elect-taken : (s : ℕ) → noServer c s ≡ false → lastNumber maxElection c s ≡ false → Taken n b k (work c (elect s))
+  elect-taken : (s : ℕ) → noServer c s ≡ false → lastNumber top c s ≡ false → Taken top n b k (work c (elect s))
   unfolding work nextNumber
   elect-taken s e f =
       let st = serverAt c s .stored in
       let old = server-before s (named s e) .stored in
-      let larger : largerNumber st ≤ limitsAfter k (c .calls) .elections = omega (arith, old .number, old .vote) in
-      let low = ltb-false maxElection (nextNumber st) (sym (eleven-above-the-top maxElection c s) ∙ f) in
+      let larger : largerNumber st ≤ limitsAfter top k .elections = omega (arith, old .number, old .vote) in
+      let low = ltb-false top (nextNumber st) (sym (eleven-above-the-top top c s) ∙ f) in
       rw (w .size)
       (byLine-taken s _ same-calls
-      (elect-within n b (limitsAfter (k + 1) (c .calls)) s _ (named s e) bLow (one-above-within k (c .calls) (largerNumber st) (w .calls) larger low) (server-at s same-calls (named s e))))
+      (elect-within n b (limitsAfter top (k + 1)) s _ (named s e) bLow (one-above-within top k (largerNumber st) larger low) (server-at s (named s e))))
 
   call-taken : (s : ℕ) (x : Words) → noServer c s ≡ false → noBucketFor c x ≡ false → badWords x ≡ false →
-      not (isLeading (serverAt c s .volatile .role)) ≡ false → Taken n b k (work c (call s x))
+      not (isLeading (serverAt c s .volatile .role)) ≡ false → Taken top n b k (work c (call s x))
   unfolding work
   call-taken s x e f g h =
-      let old = server-before s (named s e) in
-      let acting = leader-acts _ h in
-      let number = role-elected _ _ acting (old .frame .standing) in
-      let low = old .stored .number in
-      let more : CallsAfter (c .calls + 1) = record { from = omega arith; to = omega arith; elected = λ y. omega arith } in
+      let more : c .calls + 1 ≤ k + 1 = omega (arith, w .calls) in
       let bucket : bucketFor (c .buckets) x < b = omega (arith, bucket-less c x (omega (arith, w .buckets)) f, w .buckets) in
       let same-bucket = ap (λ z. bucketFor z x) (sym (w .buckets)) in
       rw (w .size)
       (byLine-taken s _ more
-      (beginCall-within n b (limitsAfter (k + 1) (c .calls + 1)) s _ (named s e) bucket (c .calls + 1) x (omega arith) (omega arith) (words-sized x g) same-bucket acting (server-at s more (named s e))))
+      (beginCall-within n b (limitsAfter top (k + 1)) s _ (named s e) bucket (c .calls + 1) x (omega arith) more (words-sized x g) same-bucket (leader-acts _ h) (server-at s (named s e))))
 
-  timeout-taken : (s i : ℕ) → noServer c s ≡ false → Taken n b k (work c (timeout s i))
+  timeout-taken : (s i : ℕ) → noServer c s ≡ false → Taken top n b k (work c (timeout s i))
   unfolding work
-  timeout-taken s i e = byLine-taken s _ same-calls (cease-within n b (limitsAfter (k + 1) (c .calls)) (server-at s same-calls (named s e)))
+  timeout-taken s i e = byLine-taken s _ same-calls (cease-within n b (limitsAfter top (k + 1)) (server-at s (named s e)))
 
-  stop-taken : (s : ℕ) → noServer c s ≡ false → Taken n b k (work c (stop s))
+  stop-taken : (s : ℕ) → noServer c s ≡ false → Taken top n b k (work c (stop s))
   unfolding work
   stop-taken s e =
-      let y = all-at s _ (server-there c s e) (kept-servers same-calls) in
+      let y = all-at s _ (server-there c s e) (kept-servers) in
       byLine-taken s _ same-calls
-      (record { server = record { stored = y .stored; frame = y .frame; slots = y .slots; resting = y .resting }; sends = nil; answers = endings {out = []} (omega arith) nil })
+      (record { server = record { stored = y .stored; frame = y .frame; slots = y .slots }; sends = nil; answers = endings {out = []} (omega arith) nil })
 
-  start-taken : (s : ℕ) → noServer c s ≡ false → Taken n b k (work c (start s))
+  start-taken : (s : ℕ) → noServer c s ≡ false → Taken top n b k (work c (start s))
   unfolding work
   start-taken s e =
-      let y = all-at s _ (server-there c s e) (kept-servers same-calls) in
+      let y = all-at s _ (server-there c s e) (kept-servers) in
       byLine-taken s _ same-calls
-      (record { server = forgotten-within n b (limitsAfter (k + 1) (c .calls)) y; sends = nil; answers = endings {out = []} (omega arith) nil })
+      (record { server = forgotten-within n b (limitsAfter top (k + 1)) y; sends = nil; answers = endings {out = []} (omega arith) nil })
 
-  cut-taken : (m : Message) (kept : List Message) (j : ℕ) → MessageWithin n b (limitsAfter k (c .calls)) m →
-      All (MessageWithin n b (limitsAfter k (c .calls))) kept → Taken n b k (cutting c m kept j)
+  cut-taken : (m : Message) (kept : List Message) (j : ℕ) → MessageWithin n b (limitsAfter top k) m →
+      All (MessageWithin n b (limitsAfter top k)) kept → Taken top n b k (cutting c m kept j)
   cut-taken m kept j x o =
-      let g = message-grows (line-grows 0 (omega arith) same-calls) m x in
+      let g = message-grows (next-line top k 0 (omega arith)) m x in
       let there : m .receiver < length (c .servers) = omega (arith, x .receiver, w .size) in
-      let y : ServerWithin n b (limitsAfter (k + 1) (c .calls)) 0 (serverAt c (m .receiver)) = all-at (m .receiver) _ there (kept-servers same-calls) in
-      let none-told : AnswersWithin b (limitsAfter (k + 1) (c .calls)) [] = endings {out = []} (omega arith) nil in
+      let y : ServerWithin n b (limitsAfter top (k + 1)) 0 (serverAt c (m .receiver)) = all-at (m .receiver) _ there (kept-servers) in
+      let none-told : AnswersWithin b (limitsAfter top (k + 1)) [] = endings {out = []} (omega arith) nil in
       record {
         cluster =
             stepped-within (m .receiver) kept _ same-calls o
-            (record { server = cut-within n b (limitsAfter (k + 1) (c .calls)) j m _ g y; sends = nil; answers = none-told });
+            (record { server = cut-within n b (limitsAfter top (k + 1)) j m _ g y; sends = nil; answers = none-told });
         answers = none-told;
       }
 
-  work-within : (l : Line) → All (λ x. x .applies ≡ false) (conditions c l) → Taken n b k (work c l)
+  work-within : (l : Line) → All (λ x. x .applies ≡ false) (conditionsUpTo top c l) → Taken top n b k (work c l)
   unfolding conditionsUpTo work
   work-within (cluster x y) (cons p nil) = let z : _≡_ {A = ℕ} 0 1 = cc in absurd (omega arith)
   work-within (elect s) (cons e (cons f (cons g (cons h nil)))) = elect-taken s e h
@@ -262,43 +246,73 @@ room-for-line c l e = not-spent c l (none-applies (conditions c l) e)
 
 -- ---- every list of lines
 
--- a cluster that stands, and the tally of its messages
-pub record Stands (c : Cluster) (t : Tally) : Type 0 where
+-- a cluster that stands, with no election number above `top`, and the tally of its messages, which agrees with itself and the list
+pub record StandsUpTo (top : ℕ) (c : Cluster) (t : Tally) : Type 0 where
   pub servers : ℕ
   pub buckets : ℕ
   pub someServers : 1 ≤ servers
   pub fewServers : servers ≤ maxServers
   pub someBuckets : 1 ≤ buckets
   pub fewBuckets : buckets ≤ maxBuckets
-  pub within : ClusterWithin servers buckets (c .accepted) c
+  pub within : ClusterWithin top servers buckets (c .accepted) c
   pub accepted : c .accepted ≤ maxAccepted
   pub sent : t .sent ≤ maxMessages * c .accepted
-  pub copied : t .copied ≤ c .accepted
-  pub arrived : t .delivered + t .lost ≤ c .accepted
+  pub copied : t .copied ≤ maxMessages * c .accepted
+  pub tallied : Tallied (c .messages) t
+
+-- election numbers up to the greatest of document 01
+abbrev pub Stands : Cluster → Tally → Type 0
+Stands = StandsUpTo maxElection
+
+cluster-wider : {n b k : ℕ} (top more : ℕ) → top ≤ more → (c : Cluster) → ClusterWithin top n b k c → ClusterWithin more n b k c
+cluster-wider {k = k} top more h c w =
+    record {
+      size = w .size;
+      buckets = w .buckets;
+      accepted = w .accepted;
+      calls = w .calls;
+      servers = all-imply (server-grows (wider top more k h)) (w .servers);
+      messages = all-imply (message-grows (wider top more k h)) (w .messages);
+    }
+
+pub stands-wider : (top more : ℕ) → top ≤ more → (c : Cluster) (t : Tally) → StandsUpTo top c t → StandsUpTo more c t
+stands-wider top more h c t w =
+    record {
+      servers = w .servers;
+      buckets = w .buckets;
+      someServers = w .someServers;
+      fewServers = w .fewServers;
+      someBuckets = w .someBuckets;
+      fewBuckets = w .fewBuckets;
+      within = cluster-wider top more h c (w .within);
+      accepted = w .accepted;
+      sent = w .sent;
+      copied = w .copied;
+      tallied = w .tallied;
+    }
 
 -- before there is a cluster nothing is counted
 abbrev pub Measured : Option Cluster → Tally → Type 0
 Measured none t = t ≡ initialState .tally
 Measured (some c) t = Stands c t
 
-fresh-server-within : (n b : ℕ) → 1 ≤ n → ServerWithin n b (limitsAfter 0 0) 0 (freshServer n b)
-unfolding freshServer ceased
-fresh-server-within n b h =
+fresh-server-within : (top n b : ℕ) → 1 ≤ n → ServerWithin n b (limitsAfter top 0) 0 (freshServer n b)
+unfolding freshServer
+fresh-server-within top n b h =
     record {
       stored = record { number = omega arith; vote = omega arith; leader = omega arith; size = length-replicate b _; copies = all-replicate b freshCopy (fresh-copy-within _) };
       frame = record { votes = length-replicate n _; rounds = length-replicate b _; calls = length-replicate b _; lastRound = omega arith; standing = tt };
       slots = λ i d. rw (getD-replicate {A = Option Round} b i none none d, getD-replicate {A = Option Call} b i none none d) idle;
-      resting = λ e. simp map-replicate;
     }
 
-fresh-cluster-within : (n b : ℕ) → 1 ≤ n → ClusterWithin n b 0 (freshCluster n b)
+fresh-cluster-within : (top n b : ℕ) → 1 ≤ n → ClusterWithin top n b 0 (freshCluster n b)
 unfolding freshCluster
-fresh-cluster-within n b h =
-    record { size = length-replicate n _; buckets = refl; accepted = refl; calls = omega arith; elected = omega arith; servers = all-replicate n _ (fresh-server-within n b h); messages = nil }
+fresh-cluster-within top n b h =
+    record { size = length-replicate n _; buckets = refl; accepted = refl; calls = omega arith; servers = all-replicate n _ (fresh-server-within top n b h); messages = nil }
 
 pub line-taken : (c : Cluster) (t : Tally) (l : Line) → (h : Stands c t) → firstOf (conditions c l) ≡ none →
-    Taken (h .servers) (h .buckets) (c .accepted) (work c l)
-line-taken c t l h e = work-within (h .servers) (h .buckets) (c .accepted) c (h .someBuckets) (h .within) l (none-applies (conditions c l) e)
+    Taken maxElection (h .servers) (h .buckets) (c .accepted) (work c l)
+line-taken c t l h e = work-within maxElection (h .servers) (h .buckets) (c .accepted) c (h .someBuckets) (h .within) l (none-applies (conditions c l) e)
 
 stands-on : (c : Cluster) (t : Tally) (l : Line) → Stands c t → firstOf (conditions c l) ≡ none →
     length (work c l .cluster .messages) ≤ maxMessages → Stands (work c l .cluster) (tallied t (work c l))
@@ -318,7 +332,7 @@ stands-on c t l h e room =
       accepted = omega arith;
       sent = omega (arith, h .sent, counts .sent);
       copied = omega (arith, h .copied, counts .copied);
-      arrived = omega (arith, h .arrived, counts .arrived);
+      tallied = work-keeps-tally c t l e room (h .tallied);
     }
 
 founded-stands : (n b : ℕ) (t : Tally) → within maxServers n ≡ true → within maxBuckets b ≡ true → t ≡ initialState .tally →
@@ -334,11 +348,11 @@ founded-stands n b t p q z =
       fewServers = high;
       someBuckets = some-there;
       fewBuckets = few;
-      within = fresh-cluster-within n b low;
+      within = fresh-cluster-within maxElection n b low;
       accepted = omega arith;
       sent = omega (arith, ap (λ x. x .sent) z);
       copied = omega (arith, ap (λ x. x .copied) z);
-      arrived = omega (arith, ap (λ x. x .delivered) z, ap (λ x. x .lost) z);
+      tallied = nothing-tallied t z;
     }
 
 pub line-keeps-measures : (s : State) (o : Option Line) (x : LineResult) → ComesOut s o x → Measured (s .cluster) (s .tally) →
@@ -355,3 +369,27 @@ measured-on s (l ∷ ls) h = measured-on (step s l .state) ls (line-keeps-measur
 
 pub within-always : (ls : List (List ℕ)) → Measured (stateAfter initialState ls .cluster) (stateAfter initialState ls .tally)
 within-always ls = measured-on initialState ls refl
+
+-- ---- the tally of every script
+
+-- the messages in flight; none before there is a cluster
+abbrev pub messagesOf : Option Cluster → List Message
+messagesOf none = []
+messagesOf (some c) = c .messages
+
+measured-tallied : (o : Option Cluster) (t : Tally) → Measured o t → Tallied (messagesOf o) t
+measured-tallied none t h = nothing-tallied t h
+measured-tallied (some c) t h = h .tallied
+
+pub tallied-always : (ls : List (List ℕ)) → Tallied (messagesOf (stateAfter initialState ls .cluster)) (stateAfter initialState ls .tally)
+tallied-always ls = let s = stateAfter initialState ls in measured-tallied (s .cluster) (s .tally) (within-always ls)
+
+pub balanced : (ls : List (List ℕ)) →
+    let t = stateAfter initialState ls .tally in t .sent + t .copied ≡ t .delivered + t .lost + t .inFlight
+balanced ls = tallied-always ls .balance
+
+pub in-flight : (ls : List (List ℕ)) → stateAfter initialState ls .tally .inFlight ≡ length (messagesOf (stateAfter initialState ls .cluster))
+in-flight ls = tallied-always ls .flight
+
+pub at-most-64 : (ls : List (List ℕ)) → length (messagesOf (stateAfter initialState ls .cluster)) ≤ maxMessages
+at-most-64 ls = tallied-always ls .room

@@ -5,16 +5,16 @@ use mathlib.Core.List.{List, [], _∷_}
 use mathlib.Core.Bool.{true}
 use mathlib.Core.Option.{Option, none, some}
 use mathlib.Core.Logic.{_≢_}
-use Prim.Native.Nat.{ℕ, _+_, _-_, _*_, _≤_, _<_, min}
+use Prim.Native.Nat.{ℕ, _+_, _*_, _≤_, _<_, min}
 use native.Mathlib.Omega.{arith}
 use lib.ListN.{length}
 use Rattle.entries.specs.Entries.{Entry}
 use Rattle.table.specs.Form.{ValueAtMost, fits}
-use Rattle.model.specs.Measures.{maxEntries, maxKeyBytes, maxValueBytes, maxElection}
+use Rattle.model.specs.Measures.{maxEntries, maxKeyBytes, maxValueBytes}
 use Rattle.model.specs.Calls.{Words, get, set, setif, del, keys, bucketFor, Result, value, listed, done, mismatch, full, notdone, unknown, Answer}
-use Rattle.model.specs.Cluster.{Copy, Stored, Role, follower, candidate, leading, Purpose, recoveryRead, recoveryWrite, check, ownWrite, Round, Call, Volatile, Server, Body, pleaseVote, ackVote, nackVote, replicaWrite, ackWrite, nackWrite, replicaRead, ackRead, nackRead, Message, Cluster, roundAt, callAt}
+use Rattle.model.specs.Cluster.{Copy, Stored, Role, follower, candidate, leading, Purpose, recoveryRead, recoveryWrite, check, ownWrite, Round, Call, Volatile, Server, Body, pleaseVote, ackVote, nackVote, replicaWrite, ackWrite, nackWrite, replicaRead, ackRead, nackRead, Message, Cluster, roundAt, callAt, freshCopy}
 use Rattle.model.specs.Replica.{Request, reading, writing}
-use Rattle.model.specs.Leader.{Reaction, ceased}
+use Rattle.model.specs.Leader.{Reaction}
 use Rattle.limits.specs.Lists.{All, all-imply}
 
 -- the greatest election number, the greatest round number and counter, and the greatest number of a call
@@ -23,14 +23,14 @@ pub record Limits : Type 0 where
   pub rounds : ℕ
   pub calls : ℕ
 
--- after k accepted lines: a line makes a call, or raises the greatest number in the cluster by at most one; it makes at
--- most four rounds
+-- after k accepted lines, where no election number is above `top`: a line raises the greatest election number in the cluster
+-- and the greatest number of a call by at most one, and it makes at most four rounds
 abbrev pub limitsAfter : ℕ → ℕ → Limits
-limitsAfter k calls = record { elections = min (k - calls) maxElection; rounds = 4 * k; calls = calls }
+limitsAfter top k = record { elections = min k top; rounds = 4 * k; calls = k }
 
--- one above a number within the limits is within them after a line that makes no call, unless it is above the greatest
-pub one-above-within : (k calls e : ℕ) → calls ≤ k → e ≤ limitsAfter k calls .elections → e + 1 ≤ maxElection → e + 1 ≤ limitsAfter (k + 1) calls .elections
-one-above-within k calls e h l top = omega arith
+-- one above a number within the limits is within them after another line, unless it is above the greatest
+pub one-above-within : (top k e : ℕ) → e ≤ limitsAfter top k .elections → e + 1 ≤ top → e + 1 ≤ limitsAfter top (k + 1) .elections
+one-above-within top k e h l = omega arith
 
 -- ---- copies. `q` is the number of rounds that may still be made in the same line: at rest it is 0
 
@@ -68,11 +68,11 @@ WordsSized (setif k e v) = KeySized k × ValueSized e × ValueSized v
 WordsSized (del k) = KeySized k
 WordsSized (keys i) = Unit {0}
 
--- a call on bucket i, for which q more rounds may be made
+-- a call on bucket i
 pub record CallWithin (b : ℕ) (l : Limits) (i q : ℕ) (c : Call) : Type 0 where
   pub first : 1 ≤ c .number
   pub last : c .number ≤ l .calls
-  pub rounds : c .rounds + q ≤ 4
+  pub rounds : c .rounds + q ≤ l .rounds
   pub sizes : WordsSized (c .words)
   pub bucket : bucketFor b (c .words) ≡ i
 
@@ -85,21 +85,28 @@ left recoveryWrite = 2
 left check = 1
 left ownWrite = 0
 
--- a round of a server with that number, whose last round is `last`
-pub record RoundWithin (n : ℕ) (l : Limits) (number last : ℕ) (r : Round) : Type 0 where
+-- only a recovery read looks at copies
+abbrev pub Unread : Purpose → Copy → Type 0
+Unread recoveryRead c = Unit {0}
+Unread recoveryWrite c = c ≡ freshCopy
+Unread check c = c ≡ freshCopy
+Unread ownWrite c = c ≡ freshCopy
+
+-- a round of a server with that number
+pub record RoundWithin (n : ℕ) (l : Limits) (number : ℕ) (r : Round) : Type 0 where
   pub low : 1 ≤ r .number
-  pub high : r .number ≤ last
+  pub high : r .number ≤ l .rounds
   pub elected : 1 ≤ r .election
   pub election : r .election ≤ l .elections
   pub present : r .election ≡ number
   pub marks : length (r .marks) ≡ n
   pub best : CopyWithin l 0 (r .best)
+  pub unread : Unread (r .purpose) (r .best)
 
 -- a bucket has a round open exactly where it has a call open
-pub data SlotWithin (n b : ℕ) (l : Limits) (number last i : ℕ) : Option Round → Option Call → Type 0 where
-  idle : SlotWithin n b l number last i none none
-  busy : {r : Round} {c : Call} → RoundWithin n l number last r → CallWithin b l i (left (r .purpose)) c →
-      SlotWithin n b l number last i (some r) (some c)
+pub data SlotWithin (n b : ℕ) (l : Limits) (q number i : ℕ) : Option Round → Option Call → Type 0 where
+  idle : SlotWithin n b l q number i none none
+  busy : {r : Round} {c : Call} → RoundWithin n l number r → CallWithin b l i q c → SlotWithin n b l q number i (some r) (some c)
 
 -- ---- servers
 
@@ -117,13 +124,11 @@ pub record FrameWithin (n b : ℕ) (l : Limits) (q number : ℕ) (w : Volatile) 
   pub lastRound : w .lastRound + q ≤ l .rounds
   pub standing : RoleWithin (w .role) number
 
--- `resting`: a follower has no vote counted, no round and no call open, so ceasing to lead changes nothing of it
 pub record ServerWithin (n b : ℕ) (l : Limits) (q : ℕ) (s : Server) : Type 0 where
   pub stored : StoredWithin n b l q (s .stored)
   pub frame : FrameWithin n b l q (s .stored .number) (s .volatile)
   pub slots : (i : ℕ) → i < b →
-      SlotWithin n b l (s .stored .number) (s .volatile .lastRound) i (roundAt (s .volatile) i) (callAt (s .volatile) i)
-  pub resting : s .volatile .role ≡ follower → ceased (s .volatile) ≡ s .volatile
+      SlotWithin n b l q (s .stored .number) i (roundAt (s .volatile) i) (callAt (s .volatile) i)
 
 -- ---- messages
 
@@ -172,7 +177,7 @@ ResultWithin unknown = Unit {0}
 pub record AnswerWithin (l : Limits) (a : Answer) : Type 0 where
   pub first : 1 ≤ a .call
   pub last : a .call ≤ l .calls
-  pub rounds : a .rounds ≤ 4
+  pub rounds : a .rounds ≤ l .rounds
   pub result : ResultWithin (a .result)
 
 -- the results of calls that end with their server's leading
@@ -197,15 +202,13 @@ pub record ReactionWithin (n b : ℕ) (l : Limits) (r : Reaction) : Type 0 where
 
 -- ---- the cluster after k accepted lines
 
--- `elected`: the first line that is taken makes no call, since no server leads yet
-pub record ClusterWithin (n b k : ℕ) (c : Cluster) : Type 0 where
+pub record ClusterWithin (top n b k : ℕ) (c : Cluster) : Type 0 where
   pub size : length (c .servers) ≡ n
   pub buckets : c .buckets ≡ b
   pub accepted : c .accepted ≡ k
   pub calls : c .calls ≤ k
-  pub elected : 1 ≤ c .calls → c .calls < k
-  pub servers : All (ServerWithin n b (limitsAfter k (c .calls)) 0) (c .servers)
-  pub messages : All (MessageWithin n b (limitsAfter k (c .calls))) (c .messages)
+  pub servers : All (ServerWithin n b (limitsAfter top k) 0) (c .servers)
+  pub messages : All (MessageWithin n b (limitsAfter top k)) (c .messages)
 
 -- ---- everything survives greater limits
 
@@ -221,9 +224,12 @@ pub fewer : (l : Limits) (q p : ℕ) → p ≤ q → Grows l q l p
 fewer l q p h = omega arith
 
 -- another line, with at most four rounds
-pub next-line : (k calls more q : ℕ) → calls ≤ more → more ≤ calls + 1 → q ≤ 4 →
-    Grows (limitsAfter k calls) 0 (limitsAfter (k + 1) more) q
-next-line k calls more q h i j = omega arith
+pub next-line : (top k q : ℕ) → q ≤ 4 → Grows (limitsAfter top k) 0 (limitsAfter top (k + 1)) q
+next-line top k q h = omega arith
+
+-- a greater last election number
+pub wider : (top more k : ℕ) → top ≤ more → Grows (limitsAfter top k) 0 (limitsAfter more k) 0
+wider top more k h = omega arith
 
 module _ {l : Limits} {q : ℕ} {m : Limits} {p : ℕ} (g : Grows l q m p) where
   pub copy-grows : (c : Copy) → CopyWithin l q c → CopyWithin m p c
@@ -235,29 +241,25 @@ module _ {l : Limits} {q : ℕ} {m : Limits} {p : ℕ} (g : Grows l q m p) where
   pub frame-grows : {n b number : ℕ} {v : Volatile} → FrameWithin n b l q number v → FrameWithin n b m p number v
   frame-grows w = record { votes = w .votes; rounds = w .rounds; calls = w .calls; lastRound = omega arith; standing = w .standing }
 
+  pub call-grows : {b i : ℕ} {c : Call} → CallWithin b l i q c → CallWithin b m i p c
+  call-grows w = record { first = w .first; last = omega arith; rounds = omega arith; sizes = w .sizes; bucket = w .bucket }
+
   same-slack : Grows l 0 m 0
   same-slack = omega arith
 
 module _ {l : Limits} {m : Limits} (g : Grows l 0 m 0) where
-  pub call-grows : {b i q : ℕ} {c : Call} → CallWithin b l i q c → CallWithin b m i q c
-  call-grows w = record { first = w .first; last = omega arith; rounds = w .rounds; sizes = w .sizes; bucket = w .bucket }
-
-  pub round-grows : {n number last : ℕ} {r : Round} → RoundWithin n l number last r → RoundWithin n m number last r
+  pub round-grows : {n number : ℕ} {r : Round} → RoundWithin n l number r → RoundWithin n m number r
   round-grows w =
       record {
         low = w .low;
-        high = w .high;
+        high = omega arith;
         elected = w .elected;
         election = omega arith;
         present = w .present;
         marks = w .marks;
         best = copy-grows g _ (w .best);
+        unread = w .unread;
       }
-
-  pub slot-grows : {n b number last i : ℕ} {r : Option Round} {c : Option Call} → SlotWithin n b l number last i r c →
-      SlotWithin n b m number last i r c
-  slot-grows idle = idle
-  slot-grows (busy r c) = busy (round-grows r) (call-grows c)
 
   body-grows : (x : Message) (body : Body) → BodyWithin l x body → BodyWithin m x body
   body-grows x pleaseVote w = w
@@ -282,12 +284,16 @@ module _ {l : Limits} {m : Limits} (g : Grows l 0 m 0) where
         body = body-grows x (x .body) (w .body);
       }
 
+pub slot-grows : {n b : ℕ} {l : Limits} {q : ℕ} {m : Limits} {p : ℕ} → Grows l q m p → {number i : ℕ} {r : Option Round} {c : Option Call} →
+    SlotWithin n b l q number i r c → SlotWithin n b m p number i r c
+slot-grows g idle = idle
+slot-grows g (busy r c) = busy (round-grows (same-slack g) r) (call-grows g c)
+
 pub server-grows : {n b : ℕ} {l : Limits} {q : ℕ} {m : Limits} {p : ℕ} → Grows l q m p → (s : Server) → ServerWithin n b l q s →
     ServerWithin n b m p s
 server-grows g s w =
     record {
       stored = stored-grows g (w .stored);
       frame = frame-grows g (w .frame);
-      slots = λ i h. slot-grows (same-slack g) (w .slots i h);
-      resting = w .resting;
+      slots = λ i h. slot-grows g (w .slots i h);
     }

@@ -1,5 +1,5 @@
--- What a line prints is at most 136 bytes: eight calls that end together, each with a number of six digits. The tally
--- line is at most 40 bytes. A whole run prints at most 136 for each line, and the tally line.
+-- What a line prints is at most 192 bytes: eight calls that end together, each with a number and a count of rounds of seven
+-- digits. The tally line is at most 49 bytes. A whole run prints at most 192 for each line, and the tally line.
 use mathlib.Core.Path.{_≡_, refl, ap, subst}
 use mathlib.Core.List.{List, [], _∷_}
 use mathlib.Core.Bool.{Bool, true, false}
@@ -12,7 +12,7 @@ use lib.ListN.{length, take, length-append, length-take}
 use borrow.Author.Tests.{ltb-false}
 use Rattle.model.specs.Measures.{maxBuckets, maxValueBytes, maxMessages, maxAccepted, maxLines}
 use Rattle.model.specs.Calls.{Result, value, listed, done, mismatch, full, notdone, unknown, Answer}
-use Rattle.model.specs.Cluster.{Cluster}
+use Rattle.model.specs.Cluster.{Message, Cluster}
 use Rattle.model.specs.Lines.{Line, State, initialState, Tally, refusal, LineResult, work}
 use Rattle.model.specs.Text.{bytes}
 use Rattle.model.specs.Print.{decimalInto, decimal, hexPairs, valueText, keyList, keysText, wordOf, dataOf, answerText, answerTexts, outcomeText, tallyText}
@@ -20,17 +20,17 @@ use Rattle.model.specs.Parse.{parse}
 use Rattle.model.specs.Run.{step, stateAfter, linesFrom, linesOf, printedFrom, run}
 use Rattle.limits.specs.Lists.{All, nil, cons}
 use Rattle.limits.specs.Refusals.{ComesOut, refused-by, founded, took, comes-out}
-use Rattle.limits.specs.Tally.{Tallied, line-keeps-tally, tallied-always, tallied-nothing}
+use Rattle.limits.specs.Tally.{Tallied, nothing-tallied}
 use Rattle.limits.specs.Measures.{Limits, KeySized, ValueSized, ResultWithin, AnswerWithin, Ending, AnswersWithin, single, endings}
 use Rattle.limits.specs.Always.{Measured, room-for-line, line-taken, line-keeps-measures, within-always}
 
--- eight answers of 17 bytes
+-- eight answers of 24 bytes
 abbrev pub maxPrinted : ℕ
-maxPrinted = 136
+maxPrinted = 192
 
--- counts of 12 digits for sent and copied, 12 for delivered and lost, and 2 for in flight
+-- counts of 8 digits for sent and for copied, 17 for delivered and lost, and 2 for in flight
 abbrev pub maxTallyBytes : ℕ
-maxTallyBytes = 40
+maxTallyBytes = 49
 
 -- ---- numbers and byte strings
 
@@ -95,23 +95,26 @@ ending-length full h = absurd h
 ending-length notdone h = omega arith
 ending-length unknown h = omega arith
 
--- the number of a call is below 1,000,000, since the first line that is taken is no call
-answer-length : (l : Limits) (a : Answer) → l .calls < maxAccepted → AnswerWithin l a →
-    length (answerText a) ≤ 10 + (length (wordOf (a .result)) + length (dataOf (a .result)))
+-- limits after at most 1,000,000 lines
+abbrev Few : Limits → Type 0
+Few l = (l .calls ≤ maxAccepted) × (l .rounds ≤ 4 * maxAccepted)
+
+answer-length : (l : Limits) (a : Answer) → Few l → AnswerWithin l a →
+    length (answerText a) ≤ 17 + (length (wordOf (a .result)) + length (dataOf (a .result)))
 unfolding answerText bytes
 answer-length l a h w =
-    let call = digits 5 (a .call) (omega (arith, w .last)) in
-    let rounds = digits 0 (a .rounds) (omega (arith, w .rounds)) in
+    let call = digits 6 (a .call) (omega (arith, w .last, h .0)) in
+    let rounds = digits 6 (a .rounds) (omega (arith, w .rounds, h .1)) in
     simp length-append (omega arith)
 
-endings-length : (l : Limits) (out : List Answer) → l .calls < maxAccepted → All (λ a. AnswerWithin l a × Ending (a .result)) out →
-    length (answerTexts out) ≤ 17 * length out
+endings-length : (l : Limits) (out : List Answer) → Few l → All (λ a. AnswerWithin l a × Ending (a .result)) out →
+    length (answerTexts out) ≤ 24 * length out
 unfolding answerTexts
 endings-length l [] h nil = omega arith
 endings-length l (a ∷ out) h (cons w k) =
     simp length-append (omega (arith, answer-length l a h (w .0), ending-length (a .result) (w .1), endings-length l out h k))
 
-answers-length : {b : ℕ} {l : Limits} (out : List Answer) → b ≤ maxBuckets → l .calls < maxAccepted → AnswersWithin b l out →
+answers-length : {b : ℕ} {l : Limits} (out : List Answer) → b ≤ maxBuckets → Few l → AnswersWithin b l out →
     length (answerTexts out) ≤ maxPrinted
 unfolding answerTexts
 answers-length {b} {l} out h k (single {a = a} w) =
@@ -127,10 +130,6 @@ refusal-length number r h k =
     let code = digits 1 r (omega arith) in
     simp length-append (omega arith)
 
-few-calls : (calls k : ℕ) → k < maxAccepted → (1 ≤ calls → calls < k + 1) → calls < maxAccepted
-few-calls zero k h f = omega arith
-few-calls (suc calls) k h f = omega (arith, f (omega arith))
-
 line-length : (number : ℕ) (s : State) (o : Option Line) (x : LineResult) → number ≤ maxLines → Measured (s .cluster) (s .tally) → ComesOut s o x →
     length (outcomeText number (x .outcome)) ≤ maxPrinted
 unfolding outcomeText answerTexts
@@ -139,7 +138,7 @@ line-length number s o x h m (founded n b i p q e) = omega arith
 line-length number s o x h m (took c l i e f room) =
     let k = subst (λ o. Measured o (s .tally)) e m in
     let w = line-taken c (s .tally) l k f in
-    answers-length (work c l .answers) (k .fewBuckets) (few-calls _ (c .accepted) (room-for-line c l f) (w .cluster .elected)) (w .answers)
+    answers-length (work c l .answers) (k .fewBuckets) (omega (arith, room-for-line c l f), omega (arith, room-for-line c l f)) (w .answers)
 
 pub printed-at-most : (ls : List (List ℕ)) (l : List ℕ) (number : ℕ) → number ≤ maxLines →
     length (outcomeText number (step (stateAfter initialState ls) l .outcome)) ≤ maxPrinted
@@ -147,37 +146,31 @@ printed-at-most ls l number h = line-length number (stateAfter initialState ls) 
 
 -- ---- the tally line
 
--- two counts that together come to at most 1,000,064: not both have seven digits, and one with seven leaves two
-pair-length : (x y : ℕ) → x + y ≤ maxAccepted + maxMessages → length (decimal x) + length (decimal y) ≤ 12
-pair-length x y h = go (decLt x 1000000) (decLt y 1000000)
+-- two counts that together come to at most 128,000,000: not both have nine digits
+pair-length : (x y : ℕ) → x + y ≤ 2 * (maxMessages * maxAccepted) → length (decimal x) + length (decimal y) ≤ 17
+pair-length x y h = go (decLt x 100000000)
   where
-    go : Dec (x < 1000000) → Dec (y < 1000000) → length (decimal x) + length (decimal y) ≤ 12
-    go (yes p) (yes q) = omega (arith, digits 5 x p, digits 5 y q)
-    go (yes p) (no q) = omega (arith, digits 1 x (omega arith), digits 6 y (omega arith))
-    go (no p) d = omega (arith, digits 6 x (omega arith), digits 1 y (omega arith))
+    go : Dec (x < 100000000) → length (decimal x) + length (decimal y) ≤ 17
+    go (yes p) = omega (arith, digits 7 x p, digits 8 y (omega arith))
+    go (no p) = omega (arith, digits 8 x (omega arith), digits 7 y (omega arith))
 
-tally-length : (t : Tally) → t .sent + t .copied ≤ maxAccepted + maxMessages → t .delivered + t .lost ≤ maxAccepted →
-    t .inFlight ≤ maxMessages →
+tally-length : (t : Tally) {messages : List Message} → t .sent ≤ maxMessages * maxAccepted → t .copied ≤ maxMessages * maxAccepted → Tallied messages t →
     length (tallyText t) ≤ maxTallyBytes
 unfolding tallyText bytes
-tally-length t made gone flight =
-    let a = pair-length (t .sent) (t .copied) made in
-    let b = pair-length (t .delivered) (t .lost) (omega arith) in
-    let c = digits 1 (t .inFlight) (omega arith) in
+tally-length t sent copied h =
+    let flight : t .inFlight ≤ maxMessages = omega (arith, h .flight, h .room) in
+    let a = digits 7 (t .sent) (omega arith) in
+    let b = digits 7 (t .copied) (omega arith) in
+    let c = pair-length (t .delivered) (t .lost) (omega (arith, h .balance)) in
+    let d = digits 1 (t .inFlight) (omega arith) in
     simp length-append (omega arith)
 
-measured-tally : (o : Option Cluster) (t : Tally) → Measured o t → t .sent + t .copied ≡ t .delivered + t .lost + t .inFlight →
-    t .inFlight ≤ maxMessages → length (tallyText t) ≤ maxTallyBytes
-measured-tally none t h e f =
-    let none-gone : t .delivered + t .lost ≤ 0 = omega (arith, ap (λ x. x .delivered) h, ap (λ x. x .lost) h) in
-    tally-length t (omega arith) (omega arith) f
-measured-tally (some c) t h e f = tally-length t (omega arith) (omega arith) f
-
-state-tally : (s : State) → Measured (s .cluster) (s .tally) → Tallied s → length (tallyText (s .tally)) ≤ maxTallyBytes
-state-tally s h t = measured-tally (s .cluster) (s .tally) h (t .balance) (omega (arith, t .flight, t .room))
+measured-tally : (o : Option Cluster) (t : Tally) → Measured o t → length (tallyText t) ≤ maxTallyBytes
+measured-tally none t h = tally-length t (omega (arith, ap (λ x. x .sent) h)) (omega (arith, ap (λ x. x .copied) h)) (nothing-tallied t h)
+measured-tally (some c) t h = tally-length t (omega (arith, h .sent, h .accepted)) (omega (arith, h .copied, h .accepted)) (h .tallied)
 
 pub tally-at-most : (ls : List (List ℕ)) → length (tallyText (stateAfter initialState ls .tally)) ≤ maxTallyBytes
-tally-at-most ls = state-tally (stateAfter initialState ls) (within-always ls) (tallied-always initialState ls tallied-nothing)
+tally-at-most ls = let s = stateAfter initialState ls in measured-tally (s .cluster) (s .tally) (within-always ls)
 
 -- ---- a whole run
 
@@ -189,15 +182,15 @@ unfolding linesOf
 few-lines input = take-at-most maxLines (linesFrom [] input)
 
 printedFrom-length : (number : ℕ) (s : State) (ls : List (List ℕ)) → number + length ls ≤ maxLines + 1 →
-    Measured (s .cluster) (s .tally) → Tallied s → length (printedFrom number s ls) ≤ maxPrinted * length ls + maxTallyBytes
+    Measured (s .cluster) (s .tally) → length (printedFrom number s ls) ≤ maxPrinted * length ls + maxTallyBytes
 unfolding printedFrom
-printedFrom-length number s [] h m t = omega (arith, state-tally s m t)
-printedFrom-length number s (l ∷ ls) h m t =
+printedFrom-length number s [] h m = omega (arith, measured-tally (s .cluster) (s .tally) m)
+printedFrom-length number s (l ∷ ls) h m =
     let x = comes-out s l in
     let line = line-length number s (parse l) (step s l) (omega arith) m x in
-    let rest = printedFrom-length (number + 1) (step s l .state) ls (omega arith) (line-keeps-measures s (parse l) (step s l) x m) (line-keeps-tally s (parse l) (step s l) x t) in
+    let rest = printedFrom-length (number + 1) (step s l .state) ls (omega arith) (line-keeps-measures s (parse l) (step s l) x m) in
     simp length-append (omega arith)
 
 pub run-at-most : (input : List ℕ) → length (run input) ≤ maxPrinted * length (linesOf input) + maxTallyBytes
 unfolding run
-run-at-most input = printedFrom-length 1 initialState (linesOf input) (omega (arith, few-lines input)) refl tallied-nothing
+run-at-most input = printedFrom-length 1 initialState (linesOf input) (omega (arith, few-lines input)) refl

@@ -12,7 +12,7 @@ unfoldable pub outcomeTexts : ℕ → List Outcome → List ℕ
 outcomeTexts number [] = []
 outcomeTexts number (o ∷ os) = outcomeText number o ++ outcomeTexts (number + 1) os
 
-printed-outcomes : (number : ℕ) (s : State) (ls : List (List ℕ)) → printedFrom number s ls ≡ outcomeTexts number (outcomes s ls) ++ tallyText (stateAfter s ls .tally)
+pub printed-outcomes : (number : ℕ) (s : State) (ls : List (List ℕ)) → printedFrom number s ls ≡ outcomeTexts number (outcomes s ls) ++ tallyText (stateAfter s ls .tally)
 unfolding printedFrom outcomeTexts outcomesUpTo stateAfterUpTo
 printed-outcomes number s [] = refl
 printed-outcomes number s (l ∷ ls) =

@@ -1,6 +1,6 @@
 -- The rules of a server keep its measures: one lemma for each rule.
-use mathlib.Core.Path.{_≡_, refl, sym, ap, _∙_, subst}
-use mathlib.Core.List.{List, [], _∷_, map-map}
+use mathlib.Core.Path.{_≡_, refl, sym, _∙_, subst}
+use mathlib.Core.List.{List, [], _∷_}
 use mathlib.Core.Bool.{Bool, true, false}
 use mathlib.Core.Option.{Option, none, some}
 use mathlib.Core.Logic.{_≢_}
@@ -23,10 +23,11 @@ use Rattle.model.specs.Leader.{Reaction, noReaction, withStored, withVolatile, 
 use Rattle.model.specs.Leader
 use Rattle.model.proofs.Elections.{above-the-number}
 use Rattle.model.proofs.FirstRound.{first-round}
+use Rattle.model.proofs.Replicas.{step-down-cases}
 use Rattle.model.proofs.Stores.{cut-cases}
 use Rattle.limits.specs.Lists.{All, nil, cons, all-imply, all-append, all-set, all-at, all-map}
 use Rattle.limits.specs.Tables.{EffectWithin, effect-within, fresh-copy-within}
-use Rattle.limits.specs.Measures.{Limits, Fits, CopyWithin, StoredWithin, WordsSized, CallWithin, left, RoundWithin, SlotWithin, idle, busy, RoleWithin, FrameWithin, ServerWithin, RequestWithin, OfVote, OfRound, BodyWithin, MessageWithin, ResultWithin, AnswerWithin, Ending, AnswersWithin, single, endings, ReactionWithin, fewer, copy-grows, stored-grows, frame-grows, server-grows}
+use Rattle.limits.specs.Measures.{Limits, Fits, CopyWithin, StoredWithin, WordsSized, CallWithin, left, RoundWithin, SlotWithin, idle, busy, RoleWithin, FrameWithin, ServerWithin, RequestWithin, OfVote, OfRound, BodyWithin, MessageWithin, ResultWithin, AnswerWithin, Ending, AnswersWithin, single, endings, ReactionWithin, fewer, copy-grows, stored-grows, frame-grows, server-grows, call-grows, slot-grows, Unread}
 
 -- ---- roles
 
@@ -113,16 +114,16 @@ module _ (n b : ℕ) (l : Limits) where
 
   with-stored : {q : ℕ} {s : Server} {st : Stored} → Kept q (s .stored .number) st → ServerWithin n b l q s →
       ServerWithin n b l q (withStored s st)
-  with-stored k w = record { stored = k .within; frame = rw (k .same) (w .frame); slots = λ i h. rw (k .same) (w .slots i h); resting = w .resting }
+  with-stored k w = record { stored = k .within; frame = rw (k .same) (w .frame); slots = λ i h. rw (k .same) (w .slots i h) }
 
   -- ---- when leading ends
 
   -- an open call's number and rounds
   abbrev EndWithin : Option Call → Type 0
   EndWithin none = Unit {0}
-  EndWithin (some c) = (1 ≤ c .number) × (c .number ≤ l .calls) × (c .rounds ≤ 4)
+  EndWithin (some c) = (1 ≤ c .number) × (c .number ≤ l .calls) × (c .rounds ≤ l .rounds)
 
-  slot-end : {number last i : ℕ} {r : Option Round} {c : Option Call} → SlotWithin n b l number last i r c → EndWithin c
+  slot-end : {q number i : ℕ} {r : Option Round} {c : Option Call} → SlotWithin n b l q number i r c → EndWithin c
   slot-end idle = tt
   slot-end (busy r c) = (c .first, c .last, omega arith)
 
@@ -170,27 +171,19 @@ module _ (n b : ℕ) (l : Limits) where
               standing = tt;
             };
         slots = λ i h. rw (List·getD-map (λ x. none) (v .rounds) i none, List·getD-map (λ x. none) (v .calls) i none) idle;
-        resting = λ e. simp map-map;
       }
 
   -- a server that comes back
   pub forgotten-within : {s : Server} {x : Bool} → ServerWithin n b l 0 s →
       ServerWithin n b l 0 (record { stored = s .stored; volatile = forgotten (s .volatile); stopped = x })
-  unfolding forgotten ceased
+  unfolding forgotten
   forgotten-within {s} w =
-      let v = s .volatile in
+      let c = ceased-within {s = s} (s .stored) (w .stored) w in
+      let f = c .frame in
       record {
-        stored = w .stored;
-        frame =
-            record {
-              votes = rw length-map (w .frame .votes);
-              rounds = rw length-map (w .frame .rounds);
-              calls = rw length-map (w .frame .calls);
-              lastRound = omega arith;
-              standing = tt;
-            };
-        slots = λ i h. rw (List·getD-map (λ x. none) (v .rounds) i none, List·getD-map (λ x. none) (v .calls) i none) idle;
-        resting = λ e. simp map-map;
+        stored = c .stored;
+        frame = record { votes = f .votes; rounds = f .rounds; calls = f .calls; lastRound = omega arith; standing = f .standing };
+        slots = c .slots;
       }
 
   -- a server that is stopped after some of its stores
@@ -198,7 +191,7 @@ module _ (n b : ℕ) (l : Limits) where
   cut-within k m s w h =
       let r = with-stored (cut-cases m (s .stored) (Kept 0 (s .stored .number)) (same-number (h .stored)) (λ e i. same-number voted) (λ e i. same-number voted)
       (λ v t e i. same-number voted) (λ v t e i j. copied v t e (h .stored)) (λ v t e i j. copied v t e voted) k) h in
-      record { stored = r .stored; frame = r .frame; slots = r .slots; resting = r .resting }
+      record { stored = r .stored; frame = r .frame; slots = r .slots }
     where
       same-number : {st : Stored} → StoredWithin n b l 0 st → Kept 0 (st .number) st
       same-number x = record { within = x; same = refl }
@@ -233,8 +226,7 @@ module _ (n b : ℕ) (l : Limits) where
   chosen false v w = w
 
   settle-within : {q : ℕ} {s : Server} → ServerWithin n b l q s → ReactionWithin n b l (stepDown s)
-  unfolding stepDown
-  settle-within {q} {s} w = chosen (ltb (s .stored .number) (s .stored .vote)) (cease-within w) (quiet-within w)
+  settle-within {q} {s} w = step-down-cases s (ReactionWithin n b l) (λ e f. cease-within w) (λ f. quiet-within w) (λ e. quiet-within w)
 
   -- ---- elections
 
@@ -246,15 +238,6 @@ module _ (n b : ℕ) (l : Limits) where
       role : (t : Bool) → RoleWithin (elim t [ true ↦ leading | false ↦ candidate ]) number
       role true = e
       role false = e
-
-  -- whoever stands is no follower
-  standing-acts : (votes : List Bool) (w : Volatile) → standing n votes w .role ≢ follower
-  unfolding standing
-  standing-acts votes w = go (leb (majority n) (votesFor votes))
-    where
-      go : (t : Bool) → elim t [ true ↦ leading | false ↦ candidate ] ≢ follower
-      go true e = let z : _≡_ {A = ℕ} 0 1 = cc in omega arith
-      go false e = let z : _≡_ {A = ℕ} 0 1 = cc in omega arith
 
   stands-within : (me : ℕ) (s : Server) → me < n → 1 ≤ b → 1 ≤ s .stored .number → ServerWithin n b l 0 s →
       ReactionWithin n b l (standForElection n me (s .stored .number) s)
@@ -268,7 +251,6 @@ module _ (n b : ℕ) (l : Limits) where
               stored = k .within;
               frame = rw (k .same) (standing-within votes (rw length-set (w .frame .votes)) e (w .frame));
               slots = λ i d. rw (k .same) (w .slots i d);
-              resting = λ x. absurd (standing-acts votes (s .volatile) x);
             };
         sends = broadcast-within me 0 (s .stored .number) 0 pleaseVote h j e (w .stored .number) (λ q. (refl, refl));
         answers = no-answers;
@@ -291,7 +273,7 @@ module _ (n b : ℕ) (l : Limits) where
   ack-within p e s w candidate r =
       let votes = ListN.set (s .volatile .votes) p true in
       let f = standing-within votes (rw length-set (w .frame .votes)) r (w .frame) in
-      chosen (eqb e (s .stored .number)) (quiet-within (record { stored = w .stored; frame = f; slots = w .slots; resting = λ x. absurd (standing-acts votes (s .volatile) x) })) (quiet-within w)
+      chosen (eqb e (s .stored .number)) (quiet-within (record { stored = w .stored; frame = f; slots = w .slots })) (quiet-within w)
 
   onAckVote-within : {q : ℕ} (p e : ℕ) (s : Server) → ServerWithin n b l q s → ReactionWithin n b l (onAckVote n p e s)
   unfolding onAckVote
@@ -299,64 +281,53 @@ module _ (n b : ℕ) (l : Limits) where
 
   -- ---- rounds
 
-  -- the slots of a server with that number and last round, but for bucket i
-  abbrev OtherSlots : (number last i : ℕ) → List (Option Round) → List (Option Call) → Type 0
-  OtherSlots number last i rs cs = (j : ℕ) → j < b → j ≢ i → SlotWithin n b l number last j (getD rs j none) (getD cs j none)
+  -- the slots of a server with that number, but for bucket i
+  abbrev OtherSlots : (number i : ℕ) → List (Option Round) → List (Option Call) → Type 0
+  OtherSlots number i rs cs = (j : ℕ) → j < b → j ≢ i → SlotWithin n b l 0 number j (getD rs j none) (getD cs j none)
 
-  all-slots : {number last : ℕ} (i : ℕ) (rs : List (Option Round)) (cs : List (Option Call)) → OtherSlots number last i rs cs →
-      SlotWithin n b l number last i (getD rs i none) (getD cs i none) →
-      (j : ℕ) → j < b → SlotWithin n b l number last j (getD rs j none) (getD cs j none)
-  all-slots {number} {last} i rs cs o h j d = go (ℕ-discrete j i)
+  all-slots : {number : ℕ} (i : ℕ) (rs : List (Option Round)) (cs : List (Option Call)) → OtherSlots number i rs cs →
+      SlotWithin n b l 0 number i (getD rs i none) (getD cs i none) →
+      (j : ℕ) → j < b → SlotWithin n b l 0 number j (getD rs j none) (getD cs j none)
+  all-slots {number} i rs cs o h j d = go (ℕ-discrete j i)
     where
-      go : Dec (j ≡ i) → SlotWithin n b l number last j (getD rs j none) (getD cs j none)
+      go : Dec (j ≡ i) → SlotWithin n b l 0 number j (getD rs j none) (getD cs j none)
       go (yes e) = rw e h
       go (no e) = o j d e
 
-  others-set : {number last : ℕ} (i : ℕ) (rs : List (Option Round)) (cs : List (Option Call)) (r : Option Round) (c : Option Call) →
-      OtherSlots number last i rs cs → OtherSlots number last i (ListN.set rs i r) (ListN.set cs i c)
+  others-set : {number : ℕ} (i : ℕ) (rs : List (Option Round)) (cs : List (Option Call)) (r : Option Round) (c : Option Call) →
+      OtherSlots number i rs cs → OtherSlots number i (ListN.set rs i r) (ListN.set cs i c)
   others-set i rs cs r c o j d e = rw (getD-set-other rs i j r none e, getD-set-other cs i j c none e) (o j d e)
 
-  slot-later : {number last j : ℕ} {r : Option Round} {c : Option Call} (later : ℕ) → last ≤ later →
-      SlotWithin n b l number last j r c → SlotWithin n b l number later j r c
-  slot-later later h idle = idle
-  slot-later later h (busy r c) = busy (record { low = r .low; high = omega arith; elected = r .elected; election = r .election; present = r .present; marks = r .marks; best = r .best }) c
-
-  -- a server in the midst of the call c on bucket i, for which q more rounds may be made; no follower has a call
+  -- a server in the midst of the call c on bucket i, for which q more rounds may be made
   record Amidst (i q : ℕ) (c : Call) (s : Server) : Type 0 where
     stored : StoredWithin n b l q (s .stored)
     frame : FrameWithin n b l q (s .stored .number) (s .volatile)
-    acting : s .volatile .role ≢ follower
-    others : OtherSlots (s .stored .number) (s .volatile .lastRound) i (s .volatile .rounds) (s .volatile .calls)
+    elected : 1 ≤ s .stored .number
+    others : OtherSlots (s .stored .number) i (s .volatile .rounds) (s .volatile .calls)
     there : callAt (s .volatile) i ≡ some c
     call : CallWithin b l i q c
-
-  amidst-elected : {i q : ℕ} {c : Call} {s : Server} → Amidst i q c s → 1 ≤ s .stored .number
-  amidst-elected {s = s} a = role-elected (s .volatile .role) (s .stored .number) (a .acting) (a .frame .standing)
 
   amidst-fewer : {i q : ℕ} {c : Call} {s : Server} (p : ℕ) → p ≤ q → Amidst i q c s → Amidst i p c s
   amidst-fewer {i} {q} p h a =
       let g = fewer l q p h in
-      let c = a .call in
       record {
         stored = stored-grows g (a .stored);
         frame = frame-grows g (a .frame);
-        acting = a .acting;
+        elected = a .elected;
         others = a .others;
         there = a .there;
-        call = record { first = c .first; last = c .last; rounds = omega arith; sizes = c .sizes; bucket = c .bucket };
+        call = call-grows g (a .call);
       }
 
-  -- it rests with a round open that leaves so many more
+  -- it rests with a round open
   amidst-rests : {i q : ℕ} {c : Call} {s : Server} (r : Round) → Amidst i q c s → roundAt (s .volatile) i ≡ some r →
-      RoundWithin n l (s .stored .number) (s .volatile .lastRound) r → left (r .purpose) ≡ q → ServerWithin n b l 0 s
-  amidst-rests {i} {q} {c} {s} r a e w h =
+      RoundWithin n l (s .stored .number) r → ServerWithin n b l 0 s
+  amidst-rests {i} {q} {c} {s} r a e w =
       let z = amidst-fewer 0 (omega arith) a in
-      let here : CallWithin b l i (left (r .purpose)) c = rw h (a .call) in
       record {
         stored = z .stored;
         frame = z .frame;
-        slots = all-slots i (s .volatile .rounds) (s .volatile .calls) (a .others) (rw (e, a .there) (busy w here));
-        resting = λ x. absurd (a .acting x);
+        slots = all-slots i (s .volatile .rounds) (s .volatile .calls) (a .others) (rw (e, a .there) (busy w (z .call)));
       }
 
   -- ---- a broadcast
@@ -371,6 +342,13 @@ module _ (n b : ℕ) (l : Limits) where
   report-within recoveryWrite c w = fresh-copy-within l
   report-within check c w = fresh-copy-within l
   report-within ownWrite c w = fresh-copy-within l
+
+  report-unread : (p : Purpose) (c : Copy) → Unread p (reportTo p c)
+  unfolding reportTo
+  report-unread recoveryRead c = tt
+  report-unread recoveryWrite c = refl
+  report-unread check c = refl
+  report-unread ownWrite c = refl
 
   -- server `me` works on bucket i
   module _ (me i : ℕ) (h : me < n) (d : i < b) where
@@ -397,35 +375,36 @@ module _ (n b : ℕ) (l : Limits) where
                   lastRound = omega (arith, f .lastRound);
                   standing = f .standing;
                 });
-            acting = a .acting;
-            others = rw (k .same) (λ j e x. slot-later _ (omega arith) (others-set i (v .rounds) (v .calls) _ _ (a .others) j e x));
+            elected = rw (k .same) (a .elected);
+            others = rw (k .same) (others-set i (v .rounds) (v .calls) _ _ (a .others));
             there = getD-set-same (v .calls) i _ none (omega (arith, f .calls)) ∙ rw (a .there);
             call = record { first = o .first; last = o .last; rounds = omega (arith, o .rounds); sizes = o .sizes; bucket = o .bucket };
           }
 
-      newRound-within : RoundWithin n l (s .stored .number) (s .volatile .lastRound + 1) (newRound n me i p s)
+      newRound-within : RoundWithin n l (s .stored .number) (newRound n me i p s)
       unfolding newRound
       newRound-within =
           record {
             low = omega arith;
-            high = omega arith;
-            elected = amidst-elected a;
+            high = omega (arith, a .frame .lastRound);
+            elected = a .elected;
             election = a .stored .number;
             present = refl;
             marks = rw (length-set, length-replicate);
             best = report-within p _ (copy-grows (fewer l (suc q) 0 (omega arith)) _ (copy-within i d (a .stored)));
+            unread = report-unread p _;
           }
 
-      opening-rests : left p ≡ q → ServerWithin n b l 0 (opening n me i p request s)
+      opening-rests : ServerWithin n b l 0 (opening n me i p request s)
       unfolding opening newRound
-      opening-rests e =
+      opening-rests =
           amidst-rests (newRound n me i p s) opening-amidst
           (getD-set-same (s .volatile .rounds) i _ none (omega (arith, a .frame .rounds)))
-          (rw (opening-kept .same) newRound-within) e
+          (rw (opening-kept .same) newRound-within)
 
       opening-sends : All (MessageWithin n b l) (broadcast n me i (s .stored .number) (s .volatile .lastRound + 1) (requestBody request))
       opening-sends =
-          broadcast-within me i (s .stored .number) (s .volatile .lastRound + 1) (requestBody request) h d (amidst-elected a) (a .stored .number) (body request w)
+          broadcast-within me i (s .stored .number) (s .volatile .lastRound + 1) (requestBody request) h d (a .elected) (a .stored .number) (body request w)
         where
           asked : Request → ℕ → Message
           asked y x = record { sender = me; receiver = x; bucket = i; election = s .stored .number; round = s .volatile .lastRound + 1; body = requestBody y }
@@ -438,15 +417,15 @@ module _ (n b : ℕ) (l : Limits) where
           body (writing v t) z x = unfold requestBody in (round, z .0, copy-grows (fewer l q 0 (omega arith)) _ (z .1))
 
       -- `follows`: what is shown of whatever follows where the sender alone is a majority
-      openRound-within : (next : Server → Reaction) → left p ≡ q →
+      openRound-within : (next : Server → Reaction) →
           ((t : Server) → Amidst i q (again (isOwn p) c) t → ReactionWithin n b l (next t)) →
           ReactionWithin n b l (openRound n me i p request next s)
       unfolding openRound
-      openRound-within next e follows =
+      openRound-within next follows =
           let r = follows (opening n me i p request s) opening-amidst in
           chosen (closes n (newRound n me i p s))
           (record { server = r .server; sends = all-append opening-sends (r .sends); answers = r .answers })
-          (record { server = opening-rests e; sends = opening-sends; answers = no-answers })
+          (record { server = opening-rests; sends = opening-sends; answers = no-answers })
 
     -- ---- calls
 
@@ -473,7 +452,6 @@ module _ (n b : ℕ) (l : Limits) where
                     all-slots i (ListN.set (v .rounds) i none) (ListN.set (v .calls) i none)
                     (others-set i (v .rounds) (v .calls) none none (a .others))
                     (rw (getD-set-same (v .rounds) i none none (omega (arith, f .rounds)), getD-set-same (v .calls) i none none (omega (arith, f .calls))) idle);
-                resting = λ x. absurd (a .acting x);
               };
           sends = nil;
           answers = rw (a .there) (single answer);
@@ -487,7 +465,7 @@ module _ (n b : ℕ) (l : Limits) where
         Fits t → Amidst i (suc q) c s →
         RequestWithin l q (s .stored .number) (writing (version (s .stored .number) counter) t)
     write-within counter t low high fit a =
-        let e = amidst-elected a in
+        let e = a .elected in
         (refl, record { election = a .stored .number; counter = high; unwritten = omega arith; written = omega arith; empty = λ z. absurd (omega arith); fitting = fit })
 
     applying-within : {c : Call} {s : Server} (x : Effect) → EffectWithin x → Amidst i 1 c s →
@@ -496,7 +474,7 @@ module _ (n b : ℕ) (l : Limits) where
     applying-within (answers r) w a = finish-within r w a
     applying-within (writes t) w a =
         let k = copy-within i d (a .stored) in
-        openRound-within ownWrite _ (write-within _ t (omega arith) (omega arith) w a) a (finish i done) refl (λ u m. finish-within done tt m)
+        openRound-within ownWrite _ (write-within _ t (omega arith) (omega arith) w a) a (finish i done) (λ u m. finish-within done tt m)
 
     afterRead-within : {c : Call} {s : Server} → Amidst i 1 c s → ReactionWithin n b l (afterRead n me i s)
     unfolding afterRead
@@ -505,20 +483,20 @@ module _ (n b : ℕ) (l : Limits) where
 
     checking-within : {c : Call} {s : Server} → Amidst i 2 c s → ReactionWithin n b l (checking n me i s)
     unfolding checking
-    checking-within a = openRound-within check reading tt a (afterRead n me i) refl (λ u m. afterRead-within m)
+    checking-within a = openRound-within check reading tt a (afterRead n me i) (λ u m. afterRead-within m)
 
     recovering-within : {c : Call} {s : Server} (t : List Entry) → Fits t → Amidst i 3 c s →
         ReactionWithin n b l (recovering n me i t s)
     unfolding recovering
     recovering-within t w a =
-        openRound-within recoveryWrite _ (write-within 1 t (omega arith) (omega (arith, a .frame .lastRound)) w a) a (checking n me i) refl (λ u m. checking-within m)
+        openRound-within recoveryWrite _ (write-within 1 t (omega arith) (omega (arith, a .frame .lastRound)) w a) a (checking n me i) (λ u m. checking-within m)
 
     readBucket-within : {c : Call} {s : Server} → Amidst i 4 c s → ReactionWithin n b l (startRead n me i s)
     unfolding startRead
     readBucket-within {c} {s} a =
         chosen (recovered (s .stored .number) (copyAt (s .stored) i))
         (checking-within (amidst-fewer 2 (omega arith) a))
-        (openRound-within recoveryRead reading tt a _ refl (λ u m. recovering-within _ (copy-within i d (a .stored) .fitting) m))
+        (openRound-within recoveryRead reading tt a _ (λ u m. recovering-within _ (copy-within i d (a .stored) .fitting) m))
 
     startCall-within : {c : Call} {s : Server} → Amidst i 4 c s → ReactionWithin n b l (startCall n me i (c .words) s)
     startCall-within {c} {s} a =
@@ -539,10 +517,10 @@ module _ (n b : ℕ) (l : Limits) where
         (record {
           stored = w .stored;
           frame = record { votes = f .votes; rounds = f .rounds; calls = rw length-set (f .calls); lastRound = f .lastRound; standing = f .standing };
-          acting = acting;
-          others = λ j k o. rw (getD-set-other (v .calls) i j (some new) none o) (w .slots j k);
+          elected = role-elected (v .role) (s .stored .number) acting (f .standing);
+          others = λ j k o. rw (getD-set-other (v .calls) i j (some new) none o) (slot-grows (fewer l 4 0 (omega arith)) (w .slots j k));
           there = getD-set-same (v .calls) i (some new) none (omega (arith, f .calls));
-          call = record { first = low; last = high; rounds = omega arith; sizes = sizes; bucket = bucket };
+          call = record { first = low; last = high; rounds = omega (arith, f .lastRound); sizes = sizes; bucket = bucket };
         })
 
     -- ---- what follows a round that closed, fails or stays open
@@ -554,40 +532,36 @@ module _ (n b : ℕ) (l : Limits) where
     closed-within best w check a = afterRead-within a
     closed-within best w ownWrite a = finish-within done tt a
 
-    -- a server with a call open is no follower
-    call-acts : {q : ℕ} {c : Call} {s : Server} → callAt (s .volatile) i ≡ some c → ServerWithin n b l q s → s .volatile .role ≢ follower
-    unfolding ceased
-    call-acts {q} {c} {s} e w x =
-        let there = ap (λ v. callAt v i) (w .resting x) ∙ e in
-        let gone : callAt (ceased (s .volatile)) i ≡ none = List·getD-map (λ y. none) (s .volatile .calls) i none in
-        let z : _≡_ {A = ℕ} 0 1 = cc in
-        omega arith
-
     -- the server with its round replaced, in the midst of the call there
-    with-round : {q : ℕ} {c : Call} {s : Server} (r : Round) → callAt (s .volatile) i ≡ some c → CallWithin b l i q c →
-        ServerWithin n b l 4 s → Amidst i q c (withRound s i r)
-    with-round {q} {c} {s} r e call w =
-        let g = fewer l 4 q (omega (arith, call .rounds)) in
-        let f = frame-grows g (w .frame) in
+    with-round : {c : Call} {s : Server} (r : Round) → callAt (s .volatile) i ≡ some c → CallWithin b l i 4 c → 1 ≤ s .stored .number →
+        ServerWithin n b l 4 s → Amidst i 4 c (withRound s i r)
+    with-round {c} {s} r e call low w =
+        let f = w .frame in
         record {
-          stored = stored-grows g (w .stored);
+          stored = w .stored;
           frame = record { votes = f .votes; rounds = rw length-set (f .rounds); calls = f .calls; lastRound = f .lastRound; standing = f .standing };
-          acting = call-acts e w;
-          others = λ j k o. rw (getD-set-other (s .volatile .rounds) i j (some r) none o) (w .slots j k);
+          elected = low;
+          others = λ j k o. rw (getD-set-other (s .volatile .rounds) i j (some r) none o) (slot-grows (fewer l 4 0 (omega arith)) (w .slots j k));
           there = e;
           call = call;
         }
 
+    left-few : (p : Purpose) → left p ≤ 4
+    left-few recoveryRead = omega arith
+    left-few recoveryWrite = omega arith
+    left-few check = omega arith
+    left-few ownWrite = omega arith
+
     counting-within : {c : Call} {s : Server} (r : Round) → callAt (s .volatile) i ≡ some c →
-        CallWithin b l i (left (r .purpose)) c → RoundWithin n l (s .stored .number) (s .volatile .lastRound) r →
+        CallWithin b l i 4 c → RoundWithin n l (s .stored .number) r →
         ServerWithin n b l 4 s →
         ReactionWithin n b l (counting n me i r s)
     unfolding counting closed
     counting-within {c} {s} r e call w k =
-        let a = with-round r e call k in
+        let a = with-round r e call (omega (arith, w .elected, w .present)) k in
         let there : roundAt (withRound s i r .volatile) i ≡ some r = getD-set-same (s .volatile .rounds) i (some r) none (omega (arith, k .frame .rounds)) in
-        chosen (closes n r) (closed-within (r .best .table) (w .best .fitting) (r .purpose) a)
-        (chosen (fails n r) (cease-within k) (quiet-within (amidst-rests r a there w refl)))
+        chosen (closes n r) (closed-within (r .best .table) (w .best .fitting) (r .purpose) (amidst-fewer (left (r .purpose)) (left-few (r .purpose)) a))
+        (chosen (fails n r) (cease-within k) (quiet-within (amidst-rests r a there w)))
 
   -- ---- replies to rounds
 
@@ -608,8 +582,15 @@ module _ (n b : ℕ) (l : Limits) where
       go true e = rw (better, e) x
       go false e = rw (better, e) w
 
-  counted-within : {number last : ℕ} (p : ℕ) (m : Mark) (report : Copy) (r : Round) → CopyWithin l 0 report →
-      RoundWithin n l number last r → RoundWithin n l number last (counted p m report r)
+  better-unread : (p : Purpose) (old new : Copy) → Unread p old → Unread p new → Unread p (better old new)
+  unfolding better above
+  better-unread recoveryRead old new h k = tt
+  better-unread recoveryWrite old new h k = rw (h, k)
+  better-unread check old new h k = rw (h, k)
+  better-unread ownWrite old new h k = rw (h, k)
+
+  counted-within : {number : ℕ} (p : ℕ) (m : Mark) (report : Copy) (r : Round) → CopyWithin l 0 report →
+      RoundWithin n l number r → RoundWithin n l number (counted p m report r)
   unfolding counted
   counted-within p m report r x w =
       record {
@@ -620,8 +601,15 @@ module _ (n b : ℕ) (l : Limits) where
         present = w .present;
         marks = marked-size p m (r .marks) ∙ w .marks;
         best = best (getD (r .marks) p refused);
+        unread = unread (getD (r .marks) p refused);
       }
     where
+      unread : (y : Mark) →
+          Unread (r .purpose) (elim y [ silent ↦ better (r .best) (reportTo (r .purpose) report) | acknowledged ↦ r .best | refused ↦ r .best ])
+      unread silent = better-unread (r .purpose) _ _ (w .unread) (report-unread (r .purpose) report)
+      unread acknowledged = w .unread
+      unread refused = w .unread
+
       best : (y : Mark) →
           CopyWithin l 0 (elim y [ silent ↦ better (r .best) (reportTo (r .purpose) report) | acknowledged ↦ r .best | refused ↦ r .best ])
       best silent = better-within _ _ (w .best) (report-within (r .purpose) report x)
@@ -630,7 +618,7 @@ module _ (n b : ℕ) (l : Limits) where
 
   module _ {s : Server} (me : ℕ) (m : Message) (mark : Mark) (report : Copy) (h : me < n) (d : m .bucket < b) (x : CopyWithin l 0 report) (w : ServerWithin n b l 4 s) where
     reply-within : (o : Option Round) (c : Option Call) → callAt (s .volatile) (m .bucket) ≡ c →
-        SlotWithin n b l (s .stored .number) (s .volatile .lastRound) (m .bucket) o c →
+        SlotWithin n b l 4 (s .stored .number) (m .bucket) o c →
         ReactionWithin n b l
         (elim o [
           | none ↦ noReaction s

@@ -1,21 +1,18 @@
 -- The message tally: sent and copied together equal delivered, lost and in flight; in flight is the length of the message
--- list, which never exceeds 64.
-use mathlib.Core.Path.{_≡_, refl, _∙_}
+-- list, which has at most 64. Every line keeps that (`balanced`, `in-flight`, `at-most-64` in Always.antt).
+use mathlib.Core.Path.{_≡_, refl, sym, ap, _∙_}
 use mathlib.Core.List.{List, [], _∷_, _++_, append-nil}
 use mathlib.Core.Bool.{Bool, true, false}
-use mathlib.Core.Option.{Option, none, some}
+use mathlib.Core.Option.{none}
 use Prim.Native.Nat.{ℕ, _+_, _≤_, _<_}
 use native.Mathlib.Omega.{arith}
 use lib.ListN.{length, length-append, length-take, length-drop}
 use borrow.Author.Tests.{leb-false}
 use Rattle.model.specs.Measures.{maxMessages}
-use Rattle.model.specs.Cluster.{Cluster, Message, freshCluster}
+use Rattle.model.specs.Cluster.{Cluster, Message}
 use Rattle.model.specs.Leader.{Reaction}
-use Rattle.model.specs.Lines.{Line, cluster, elect, call, deliver, copy, lose, timeout, stop, cut, start, State, initialState, Condition, when, firstOf, conditions, conditionsUpTo, noMessage, limitReached, dropAt, stoppedAt, Work, byLine, delivery, work, LineResult}
-use Rattle.model.specs.Parse.{parse}
-use Rattle.model.specs.Run.{step, stateAfter, stateAfterUpTo}
+use Rattle.model.specs.Lines.{Line, cluster, elect, call, deliver, copy, lose, timeout, stop, cut, start, initialState, Tally, Condition, when, firstOf, conditions, conditionsUpTo, noMessage, limitReached, dropAt, stoppedAt, Work, byLine, delivery, work, tallied}
 use Rattle.limits.specs.Lists.{All, nil, cons, all-head, all-tail}
-use Rattle.limits.specs.Refusals.{ComesOut, refused-by, founded, took, comes-out}
 
 -- ---- one line taken
 
@@ -70,11 +67,10 @@ work-balances c (cut i k) e =
     omega (arith, same, length-dropAt i (c .messages) there)
 work-balances c (start s) e = simp length-append (omega arith)
 
--- what one line adds to the tally: what it sends stands in the list, and it copies, hands over or loses at most one
+-- what one line adds to the tally: what it sends stands in the list, and it copies at most one
 pub record Counts (w : Work) : Type 0 where
   pub sent : w .sent ≤ length (w .cluster .messages)
   pub copied : w .copied ≤ 1
-  pub arrived : w .delivered + w .lost ≤ 1
 
 added-count : (kept sends : List Message) → length sends ≤ length (kept ++ sends)
 added-count kept sends = simp length-append (omega arith)
@@ -85,10 +81,10 @@ handing-counts c m kept copied h = go (stoppedAt c (m .receiver)) refl
   where
     go : (b : Bool) → stoppedAt c (m .receiver) ≡ b → Counts (delivery c m kept copied)
     go true p = rw (delivery, p) (omega arith)
-    go false p = rw (delivery, p) (record { sent = added-count kept _; copied = h; arrived = omega arith })
+    go false p = rw (delivery, p) (record { sent = added-count kept _; copied = h })
 
 byLine-counts : (c : Cluster) (s calls : ℕ) (r : Reaction) → Counts (byLine c s calls r)
-byLine-counts c s calls r = record { sent = added-count (c .messages) (r .sends); copied = omega arith; arrived = omega arith }
+byLine-counts c s calls r = record { sent = added-count (c .messages) (r .sends); copied = omega arith }
 
 pub work-counts : (c : Cluster) (l : Line) → Counts (work c l)
 unfolding work
@@ -103,42 +99,23 @@ work-counts c (stop s) = byLine-counts c s (c .calls) _
 work-counts c (cut i k) = omega arith
 work-counts c (start s) = byLine-counts c s (c .calls) _
 
--- ---- every list of lines
+-- ---- the tally beside the messages in flight
 
--- the messages in flight; none before there is a cluster
-abbrev pub messagesOf : Option Cluster → List Message
-messagesOf none = []
-messagesOf (some c) = c .messages
+-- the tally agrees with itself and with the list
+pub record Tallied (messages : List Message) (t : Tally) : Type 0 where
+  pub balance : t .sent + t .copied ≡ t .delivered + t .lost + t .inFlight
+  pub flight : t .inFlight ≡ length messages
+  pub room : length messages ≤ maxMessages
 
-pub record Tallied (s : State) : Type 0 where
-  pub balance : s .tally .sent + s .tally .copied ≡ s .tally .delivered + s .tally .lost + s .tally .inFlight
-  pub flight : s .tally .inFlight ≡ length (messagesOf (s .cluster))
-  pub room : length (messagesOf (s .cluster)) ≤ maxMessages
+pub nothing-tallied : (t : Tally) → t ≡ initialState .tally → Tallied [] t
+nothing-tallied t e =
+    record {
+      balance = ap (λ x. x .sent + x .copied) e ∙ sym (ap (λ x. x .delivered + x .lost + x .inFlight) e);
+      flight = ap (λ x. x .inFlight) e;
+      room = omega arith;
+    }
 
-pub line-keeps-tally : (s : State) (o : Option Line) (x : LineResult) → ComesOut s o x → Tallied s → Tallied (x .state)
-unfolding freshCluster
-line-keeps-tally s o x (refused-by r low high) t = t
-line-keeps-tally s o x (founded n b i p q e) t =
-    let empty : length (messagesOf (s .cluster)) ≡ 0 = rw e in
-    record { balance = t .balance; flight = t .flight ∙ empty; room = omega arith }
-line-keeps-tally s o x (took c l i e f room) t =
-    let before : length (messagesOf (s .cluster)) ≡ length (c .messages) = rw e in
-    record { balance = omega (arith, t .balance, t .flight, work-balances c l f); flight = refl; room = room }
-
-pub tallied-always : (s : State) (ls : List (List ℕ)) → Tallied s → Tallied (stateAfter s ls)
-unfolding stateAfterUpTo
-tallied-always s [] t = t
-tallied-always s (l ∷ ls) t = tallied-always (step s l .state) ls (line-keeps-tally s (parse l) (step s l) (comes-out s l) t)
-
-pub tallied-nothing : Tallied initialState
-tallied-nothing = record { balance = omega arith; flight = refl; room = omega arith }
-
-pub balanced : (ls : List (List ℕ)) →
-    let t = stateAfter initialState ls .tally in t .sent + t .copied ≡ t .delivered + t .lost + t .inFlight
-balanced ls = tallied-always initialState ls tallied-nothing .balance
-
-pub in-flight : (ls : List (List ℕ)) → stateAfter initialState ls .tally .inFlight ≡ length (messagesOf (stateAfter initialState ls .cluster))
-in-flight ls = tallied-always initialState ls tallied-nothing .flight
-
-pub at-most-64 : (ls : List (List ℕ)) → length (messagesOf (stateAfter initialState ls .cluster)) ≤ maxMessages
-at-most-64 ls = tallied-always initialState ls tallied-nothing .room
+-- a line that is taken, with room for what it sends, keeps it so
+pub work-keeps-tally : (c : Cluster) (t : Tally) (l : Line) → firstOf (conditions c l) ≡ none → length (work c l .cluster .messages) ≤ maxMessages →
+    Tallied (c .messages) t → Tallied (work c l .cluster .messages) (tallied t (work c l))
+work-keeps-tally c t l e room h = record { balance = omega (arith, h .balance, h .flight, work-balances c l e); flight = refl; room = room }

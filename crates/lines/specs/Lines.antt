@@ -5,8 +5,7 @@ use Prim.Native.Nat.{ℕ, _+_, _≤_, _<_}
 use lib.ListN.{length, take, getD}
 use Rattle.model.specs.Parse.{parse}
 use Rattle.model.specs.Print.{outcomeText}
-use Rattle.parse.specs.declared.Line.{Line}
-use Rattle.parse.specs.Meaning.{lineIn, keptOf}
+use Rattle.parse.specs.Meaning.{parsed}
 use Rattle.views.specs.Memory.{Memory}
 use Rattle.runs.specs.declared.Tally.{Tally}
 use Rattle.machine.specs.declared.Stepped.{Stepped}
@@ -36,9 +35,7 @@ pub record KeptFrom (h : Held) (input : List ℕ) (from : ℕ) (h′ : Held) (ta
 
 -- the present line is read and performed
 pub record LineRun (m : Memory) (l : List ℕ) (t : Tally) (h : Held) (m′ : Memory) (l′ : List ℕ) (r : Stepped) : Type 0 where
-  pub line : Line
-  pub reads : lineIn line ≡ keptOf (parse (presentLine h))
-  pub performs : Performed m l t line m′ l′ r
+  pub performs : Performed m l t (parsed (parse (presentLine h))) m′ l′ r
 
 -- a line at its end: the text is its outcome, under the line's number
 pub record LineEnded (w w′ : Session) (text : List ℕ) : Type 0 where

@@ -7,7 +7,7 @@ ghost use mathlib.Core.Path.{_≡_};
 ghost use Prim.Native.Nat.{_≤_};
 ghost use lib.ListN.{length};
 ghost use Rattle.model.specs.Parse.{parse};
-ghost use Rattle.parse.specs.Meaning.{lineIn, keptOf};
+ghost use Rattle.parse.specs.Meaning.{parsed};
 ghost use Rattle.lines.specs.Sessions.{held, put, presentLine};
 ghost use Rattle.lines.specs.Lines.{KeptFrom};
 
@@ -42,7 +42,7 @@ pub fn keep(line: &mut [u8; 121], input: &[u8], count: usize, from: usize) -> Ke
 
 // The present line, read.
 pub fn read_line(line: &[u8], count: usize) -> Line
-    ensures { λ r. ⌜ lineIn r ≡ keptOf (parse (presentLine (held (now (line .entry)) count))) ⌝ }
+    ensures { λ r. ⌜ r ≡ parsed (parse (presentLine (held (now (line .entry)) count))) ⌝ }
 {
     let n = at_most(count, line.len());
     parse_line(&line[..n])

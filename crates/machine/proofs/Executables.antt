@@ -2,7 +2,7 @@
 use mathlib.Core.Path.{_≡_, refl, sym, _∙_}
 use mathlib.Core.Bool.{Bool, true, false, true≢false}
 use native.Mathlib.Omega.{arith}
-use native.Mathlib.Nat.{min-le-left}
+use native.Mathlib.Nat.{min-le-left, min-le-right}
 use Prim.Native.Nat.{ℕ, _≤_, _<_}
 use borrow.Author.Tests.{leb-false, eqb-true, eqb-false}
 use lib.Dec.{eqb, leb}
@@ -136,33 +136,33 @@ module _ (c : Counts) where
   present false u h = refl
 
   -- a message is handed over only to a server that is there
-  pub stays : (x : Step) (l : Local) → gone c x l ≡ false → x .server < c .servers
+  pub stays : (x : Step) (l : Local) → x .server ≤ x .asked .receiver → gone c x l ≡ false → x .server < c .servers
   unfolding gone
-  stays x l h = leb-false _ _ (present (leb (c .servers) (x .server)) (flagIn (l .head .stopped)) h)
+  stays x l s h = omega (arith, s, leb-false (c .servers) (x .asked .receiver) (present (leb (c .servers) (x .asked .receiver)) (flagIn (l .head .stopped)) h))
 
-  hands : (x : Step) (y : Message) (l : Local) (f : Effect) → Measured c → x .message < c .messages → x .bucket ≤ 7 → Executable c (handPlan c x y l f)
+  hands : (x : Step) (y : Message) (l : Local) (f : Effect) → Measured c → x .message < c .messages → x .server ≤ x .asked .receiver → x .bucket ≤ 7 → Executable c (handPlan c x y l f)
   unfolding handPlan
-  hands x y l f m i b =
+  hands x y l f m i s b =
       either (gone c x l) _ _
       (λ h. loses (x .message) (x .removes) f m i)
-      (λ h. carries _ refl m (record { server = stays x l h; bucket = omega (arith, b); place = omega (arith, i, m .messages); there = λ e. i }))
+      (λ h. carries _ refl m (record { server = stays x l s h; bucket = omega (arith, b); place = omega (arith, i, m .messages); there = λ e. i }))
 
   hands-at : (a : Memory) (i : ℕ) (removes : Bool) (f : Effect) → Measured c → Executable c (handAt a c i removes f)
   unfolding handAt
-  hands-at a i removes f m = accepted _ f _ (λ z. hands _ _ _ f m (in-list c i z) (min-le-left 7 _))
+  hands-at a i removes f m = accepted _ f _ (λ z. hands _ _ _ f m (in-list c i z) (min-le-right 6 _) (min-le-left 7 _))
 
-  cuts : (x : Step) (k : ℕ) (y : Message) (l : Local) (f : Effect) → Measured c → x .message < c .messages → x .bucket ≤ 7 → Executable c (cutPlan c x k y l f)
+  cuts : (x : Step) (k : ℕ) (y : Message) (l : Local) (f : Effect) → Measured c → x .message < c .messages → x .server ≤ x .asked .receiver → x .bucket ≤ 7 → Executable c (cutPlan c x k y l f)
   unfolding cutPlan
-  cuts x k y l f m i b =
+  cuts x k y l f m i s b =
       either (gone c x l) _ _
       (λ h. refused 18 f (λ z. omega (arith, z)))
       (λ h. either (cuttable k y l) _ _
-      (λ e. carries _ refl m (record { server = stays x l h; bucket = omega (arith, b); place = omega (arith, i, m .messages); there = λ e. i }))
+      (λ e. carries _ refl m (record { server = stays x l s h; bucket = omega (arith, b); place = omega (arith, i, m .messages); there = λ e. i }))
       (λ e. refused 18 f (λ z. omega (arith, z))))
 
   cuts-at : (a : Memory) (i k : ℕ) (f : Effect) → Measured c → Executable c (cutAt a c i k f)
   unfolding cutAt
-  cuts-at a i k f m = accepted _ f _ (λ z. cuts _ k _ _ f m (in-list c i z) (min-le-left 7 _))
+  cuts-at a i k f m = accepted _ f _ (λ z. cuts _ k _ _ f m (in-list c i z) (min-le-right 6 _) (min-le-left 7 _))
 
   loses-at : (i : ℕ) (f : Effect) → Measured c → Executable c (loseAt c i f)
   unfolding loseAt

@@ -4,7 +4,7 @@ use mathlib.Core.Logic.{_≢_}
 use mathlib.Core.Bool.{Bool, true, false, true≢false}
 use mathlib.Core.List.{List}
 use Prim.Native.Nat.{ℕ, _≤_, _<_}
-use native.Mathlib.Nat.{min-le-left}
+use native.Mathlib.Nat.{min-le-left, min-le-right}
 use native.Mathlib.Omega.{arith}
 use borrow.Author.Tests.{le-leb, lt-leb, eq-eqb, ne-eqb}
 use Rattle.entries.specs.Decoded.{tableIn}
@@ -80,7 +80,7 @@ module _ (c : Counts) (i : ℕ) (removes : Bool) (y : Message) (x : Step) (e : x
   pub handable : Measured c → i < c .messages → (to : Local) → gone c x to ≡ false → Handable c x
   handable m h to g = record {
     measured = m;
-    server = stays c x to g;
+    server = stays c x to (rw e (min-le-right 6 (y .receiver))) g;
     bucket = let b : x .bucket ≤ 7 = rw (ap (λ x. x .bucket) e) (min-le-left 7 (y .bucket)) in omega arith;
     listed = rw (ap (λ x. x .message) e) h;
   }

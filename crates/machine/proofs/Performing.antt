@@ -48,8 +48,8 @@ small none t e = record {
 small (some c) t h = record {
   sent = omega (arith, h .sent, h .accepted);
   copied = omega (arith, h .copied, h .accepted);
-  delivered = omega (arith, h .arrived, h .accepted);
-  lost = omega (arith, h .arrived, h .accepted);
+  delivered = omega (arith, h .tallied .balance, h .sent, h .copied, h .accepted);
+  lost = omega (arith, h .tallied .balance, h .sent, h .copied, h .accepted);
 }
 
 module _ (m : Memory) (l : List ℕ) (t : Tally) (x : Line) (m′ : Memory) (l′ : List ℕ) (r : Report) (sized : Sized m) (answers : length l ≡ 32) (whole : WholeLine x) (run : RanLine m l x m′ l′ r)

@@ -9,7 +9,7 @@ use lib.ListN.{replicate, getD, set}
 use Rattle.entries.specs.Entries.{Entry}
 use Rattle.model.specs.Measures.{majority}
 use Rattle.model.specs.Calls.{Words, Result, done, notdone, unknown, Effect, answers, writes, effectWrites, effect, Answer}
-use Rattle.model.specs.Cluster.{Version, version, above, Copy, Stored, follower, candidate, leading, Purpose, recoveryRead, recoveryWrite, check, ownWrite, Mark, silent, acknowledged, refused, Round, Call, Volatile, Server, Body, pleaseVote, ackVote, nackVote, replicaWrite, ackWrite, nackWrite, replicaRead, ackRead, nackRead, Message, freshCopy, copyAt, roundAt, callAt}
+use Rattle.model.specs.Cluster.{Version, version, above, Copy, Stored, follower, candidate, leading, Purpose, recoveryRead, recoveryWrite, check, ownWrite, Mark, silent, acknowledged, refused, Round, Call, Volatile, Server, Body, pleaseVote, ackVote, nackVote, replicaWrite, ackWrite, nackWrite, replicaRead, ackRead, nackRead, Message, freshCopy, copyAt, roundAt, callAt, Role}
 use Rattle.model.specs.Replica.{grants, afterVote, Request, reading, writing, requestBody, mayAccept, accepting, acknowledging, refusing}
 
 -- what a server's step gives: the server afterwards, the messages it sends, in order, and the answers it prints
@@ -77,9 +77,20 @@ unfoldable pub forgotten : Volatile → Volatile
 forgotten w =
     let v = ceased w in record { role = v .role; votes = v .votes; lastRound = 0; rounds = v .rounds; calls = v .calls }
 
--- a server whose vote rises above its own number is no longer leader or candidate
+-- whether a server leads or stands for election
+unfoldable pub acts : Role → Bool
+acts follower = false
+acts candidate = true
+acts leading = true
+
+-- a server whose vote rises above its own number is no longer leader or candidate; a follower was neither, and stays as it is
 unfoldable pub stepDown : Server → Reaction
-stepDown s = elim (ltb (s .stored .number) (s .stored .vote)) [ true ↦ cease s | false ↦ noReaction s ]
+stepDown s =
+    elim (acts (s .volatile .role)) [
+      | false ↦ noReaction s
+      | true ↦
+          elim (ltb (s .stored .number) (s .stored .vote)) [ true ↦ cease s | false ↦ noReaction s ]
+    ]
 
 -- ---- elections
 

@@ -1,16 +1,14 @@
 -- A server seen at one slot is that slot put into itself; ceasing and stepping down as moves.
 use mathlib.Core.Path.{_≡_, refl, sym, ap, ap₂, _∙_}
 use mathlib.Core.Bool.{true, false}
-use mathlib.Core.List.{List, [], _∷_, map}
-use mathlib.Core.Option.{Option, none}
+use mathlib.Core.List.{List, []}
 use Prim.Native.Nat.{ℕ}
-use borrow.Author.Tests.{eqb-true}
-use lib.Dec.{eqb, ltb}
+use lib.Dec.{ltb}
 use lib.ListN.{length, set}
 use Rattle.entries.specs.Entries.{Entry}
 use Rattle.model.specs.Calls as calls
 use Rattle.model.specs.Cluster as cluster
-use Rattle.model.specs.Leader.{Reaction, reaction, noReaction, withVolatile, endings, ceased, cease, stepDown}
+use Rattle.model.specs.Leader.{Reaction, reaction, noReaction, endings, cease, acts, stepDown}
 use Rattle.cells.specs.Cells.{putCell}
 use Rattle.cells.specs.Laws.{itself}
 use Rattle.server.specs.declared.Version.{Version}
@@ -52,46 +50,29 @@ module _ (n me b : ℕ) (a : Asked) (s : cluster.Server) (l : Local) (t : Tables
 abbrev pub replyWith : ℕ → Version → ℕ → Local → Move
 replyWith kind w keeps l = record { local = l; sends = kind; written = w; fills = 0; keeps = keeps; answer = noAnswer; ceases = false; forgets = false }
 
--- a follower has no vote, round or call, as in every reached state (`resting` in crates/limits/specs/Measures.antt)
-abbrev pub Resting : cluster.Server → Type 0
-Resting s = s .volatile .role ≡ cluster.follower → ceased (s .volatile) ≡ s .volatile
-
-no-endings : (l : List (Option cluster.Call)) → endings (map (λ c. none) l) ≡ []
-unfolding endings
-no-endings [] = refl
-no-endings (c ∷ l) = no-endings l
-
--- with nothing to end, a server that steps down stays as it is and answers nothing
-stays : (s : cluster.Server) → ceased (s .volatile) ≡ s .volatile → stepDown s ≡ noReaction s
-unfolding stepDown cease ceased
-stays s e =
-    let none-ends = ap (λ w. endings (w .calls)) (sym e) ∙ no-endings (s .volatile .calls) in
-    elim (ltb (s .stored .number) (s .stored .vote)) as (λ z. elim z [ true ↦ cease s | false ↦ noReaction s ] ≡ noReaction s)
-    [ true ↦ ap₂ (λ w out. reaction (withVolatile s w) [] out) e none-ends | false ↦ refl ]
-
 -- a server that steps down, or not, once it replied; its calls are left as they were
 pub stepped-down-means : (n me b : ℕ) (a : Asked) (s : cluster.Server) (t : Tables) (words : calls.Words) (v : List ℕ) (u : List Entry)
     (kind : ℕ) (w : Version) (keeps : ℕ) (l : Local)
     → length (l .head .votes) ≡ 7 → set (s .volatile .calls) b (callIn (l .call) words) ≡ s .volatile .calls
     → let m = replyWith kind w keeps l in
-    Resting (movedServer n b m t words s)
-    → let r = stepDown (movedServer n b m t words s) in
+    let r = stepDown (movedServer n b m t words s) in
     reaction (r .server) (sendsIn n me b a m t) (r .answers) ≡ reactionIn n me b a (steppedDown m) t words v u s
-unfolding serverAfter answersAfter answersIn sendsIn workAfter copyAfter roleIn cease stepDown steppedDown
-stepped-down-means n me b a s t words v u kind w keeps l seven same rests =
+unfolding serverAfter answersAfter answersIn sendsIn workAfter copyAfter cease stepDown steppedDown
+stepped-down-means n me b a s t words v u kind w keeps l seven same =
     let m = replyWith kind w keeps l in
     let s1 = movedServer n b m t words s in
     let ms = sendsIn n me b a m t in
     let steps : Move = elim (ltb (l .head .number) (l .head .vote)) [ true ↦ ceasing m | false ↦ m ] in
-    elim (eqb (l .head .role) 0) as
-    (λ y. (y ≡ true → ceased (s1 .volatile) ≡ s1 .volatile) → reaction (stepDown s1 .server) ms (stepDown s1 .answers) ≡ reactionIn n me b a (elim y [ true ↦ m | false ↦ steps ]) t words v u s) [
+    let ceases : Reaction = elim (ltb (l .head .number) (l .head .vote)) [ true ↦ cease s1 | false ↦ noReaction s1 ] in
+    elim (acts (roleIn (l .head .role))) as
+    (λ y. let r : Reaction = elim y [ false ↦ noReaction s1 | true ↦ ceases ] in
+    reaction (r .server) ms (r .answers) ≡ reactionIn n me b a (elim y [ false ↦ m | true ↦ steps ]) t words v u s) [
+      | false ↦ refl
       | true ↦
-          λ idle. ap (λ r. reaction (r .server) ms (r .answers)) (stays s1 (idle refl))
-      | false ↦
-          λ idle. elim (ltb (l .head .number) (l .head .vote)) as
+          elim (ltb (l .head .number) (l .head .vote)) as
           (λ z. let r : Reaction = elim z [ true ↦ cease s1 | false ↦ noReaction s1 ] in
           reaction (r .server) ms (r .answers) ≡ reactionIn n me b a (elim z [ true ↦ ceasing m | false ↦ m ]) t words v u s) [
             | true ↦ ap₂ (λ z out. reaction z ms out) (sym (ceased-means n (besideIn s1) (l .head) seven)) (ap endings same)
             | false ↦ refl
           ]
-    ] (λ e. rests (ap roleIn (eqb-true (l .head .role) 0 e)))
+    ]

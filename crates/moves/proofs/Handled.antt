@@ -21,7 +21,7 @@ use Rattle.rounds.proofs.KindLaws.{past-votes}
 use Rattle.moves.specs.declared.Local.{Local}
 use Rattle.moves.specs.Moves.{replyMove, votingMove, handlingMove, handledMove}
 use Rattle.moves.specs.Reactions.{Seen, Tables, bodyIn, messageIn, askedIn, reactionIn}
-use Rattle.moves.proofs.Ceasing.{Resting, quiet-means}
+use Rattle.moves.proofs.Ceasing.{quiet-means}
 use Rattle.moves.proofs.VoterMoves.{vote-means, read-means, write-means}
 use Rattle.moves.proofs.LineMoves.{ack-vote-means}
 
@@ -65,7 +65,7 @@ module _ (n me b result : ℕ) (x : Message) (s : cluster.Server) (l : Local) (t
       → onReply n me (messageIn x (t .message)) (markIn mark) (record { version = versionIn (pickVersion reports (x .version) noVersion); table = pickTable reports (t .message) [] }) s
       ≡ reactionIn n me b (askedIn x) (replyMove n me result mark (pickVersion reports (x .version) noVersion) x l) t words v u s
 
-  module _ (seen : Seen n b s l (t .copy) (t .work) words) (rests : Resting s) (same : b ≡ x .bucket) (replies : ReplyMeans) where
+  module _ (seen : Seen n b s l (t .copy) (t .work) words) (same : b ≡ x .bucket) (replies : ReplyMeans) where
     -- what is to be shown of kind k
     abbrev Handled : ℕ → Type 0
     Handled k =
@@ -81,10 +81,10 @@ module _ (n me b result : ℕ) (x : Message) (s : cluster.Server) (l : Local) (t
 
     rounds-handled : (k : ℕ) → x .kind ≡ suc (suc (suc (suc k))) → Handled (suc (suc (suc (suc k))))
     unfolding bodyIn handlingIn among handlingMove markIn pickVersion pickTable
-    rounds-handled zero e = write-means n me b x s l t words v u seen rests same
+    rounds-handled zero e = write-means n me b x s l t words v u seen same
     rounds-handled (suc zero) e = replies 1 false (ap handlingIn e)
     rounds-handled (suc (suc zero)) e = replies 2 false (ap handlingIn e)
-    rounds-handled (suc (suc (suc zero))) e = read-means n me b x s l t words v u seen rests same
+    rounds-handled (suc (suc (suc zero))) e = read-means n me b x s l t words v u seen same
     rounds-handled (suc (suc (suc (suc zero)))) e = replies 1 true (ap handlingIn e)
     rounds-handled (suc (suc (suc (suc (suc zero))))) e = replies 2 false (ap handlingIn e)
     rounds-handled (suc (suc (suc (suc (suc (suc k)))))) e = others-handled (suc (suc (suc (suc (suc (suc (suc (suc (suc (suc k)))))))))) (omega arith)
@@ -92,7 +92,7 @@ module _ (n me b result : ℕ) (x : Message) (s : cluster.Server) (l : Local) (t
     kinds-handled : (k : ℕ) → x .kind ≡ k → Handled k
     unfolding bodyIn handlingIn among handlingMove votingMove
     kinds-handled zero e = quiet-means n me b (askedIn x) s l t words v u seen
-    kinds-handled (suc zero) e = vote-means n me b x s l t words v u seen rests
+    kinds-handled (suc zero) e = vote-means n me b x s l t words v u seen
     kinds-handled (suc (suc zero)) e = ack-vote-means n me b (askedIn x) s l t words v u seen (x .sender) (x .election)
     kinds-handled (suc (suc (suc zero))) e = quiet-means n me b (askedIn x) s l t words v u seen
     kinds-handled (suc (suc (suc (suc k)))) e = rounds-handled k e

@@ -1,5 +1,5 @@
 -- What others ask of a server, as a voter and as a replica: votes, reads and writes as moves.
-use mathlib.Core.Path.{_≡_, refl, sym, ap, ap₂, _∙_, subst}
+use mathlib.Core.Path.{_≡_, refl, sym, ap, ap₂, _∙_}
 use mathlib.Core.Bool.{Bool, true, false}
 use mathlib.Core.List.{List, [], _∷_}
 use Prim.Native.Nat.{ℕ}
@@ -21,7 +21,7 @@ use Rattle.moves.specs.declared.Local.{Local}
 use Rattle.moves.specs.Moves.{withHead, sending, steppedDown, stores, voteMove, readRequestMove, writeRequestMove, requestMove}
 use Rattle.moves.specs.Reactions.{frontIn, cellIn, Seen, Tables, workAfter, copyAfter, bodyIn, messageIn, Asked, askedIn, replyIn}
 use Rattle.moves.specs.Reactions.{sendsIn, answersIn, movedServer, serverAfter, answersAfter, reactionIn}
-use Rattle.moves.proofs.Ceasing.{placed, seen-itself, calls-kept, replyWith, Resting, stepped-down-means}
+use Rattle.moves.proofs.Ceasing.{placed, seen-itself, calls-kept, replyWith, stepped-down-means}
 
 -- the reply to PLEASEVOTE, by whether the vote is given
 vote-reply : (n me b : ℕ) (a : Asked) (l : Local) (t : Tables) (z : Bool)
@@ -40,10 +40,7 @@ kept-copy x l t true = refl
 kept-copy x l t false = refl
 
 module _ (n me b : ℕ) (x : Message) (s : cluster.Server) (l : Local) (t : Tables) (words : calls.Words) (v : List ℕ) (u : List Entry)
-    (seen : Seen n b s l (t .copy) (t .work) words) (rests : Resting s) where
-  rests-there : Resting (placed n b l t words s)
-  rests-there = subst Resting (seen-itself n b s l t words seen) rests
-
+    (seen : Seen n b s l (t .copy) (t .work) words) where
   pub vote-means : onPleaseVote me (messageIn x (t .message)) s ≡ reactionIn n me b (askedIn x) (voteMove x l) t words v u s
   unfolding onPleaseVote voteMove grants afterVoteHead workAfter copyAfter
   vote-means =
@@ -53,7 +50,7 @@ module _ (n me b : ℕ) (x : Message) (s : cluster.Server) (l : Local) (t : Tabl
       let after = after-vote-means (x .election) (x .sender) n (besideIn s1) (l .head) in
       ap (onPleaseVote me (messageIn x (t .message))) (seen-itself n b s l t words seen)
       ∙ (ap₂ (λ z ms. reaction (stepDown z .server) ms (stepDown z .answers)) (sym after) (vote-reply n me b (askedIn x) (withHead h1 l) t given)
-      ∙ stepped-down-means n me b (askedIn x) s t words v u (chosen given 2 3) noVersion 0 (withHead h1 l) (seen .votes) (calls-kept n b s l t words seen) rests-there)
+      ∙ stepped-down-means n me b (askedIn x) s t words v u (chosen given 2 3) noVersion 0 (withHead h1 l) (seen .votes) (calls-kept n b s l t words seen))
 
   -- the request under the message's number is refused
   abbrev refusedBy : Request → Reaction
@@ -79,7 +76,7 @@ module _ (n me b : ℕ) (x : Message) (s : cluster.Server) (l : Local) (t : Tabl
   unfolding accepting acknowledging workAfter copyAfter sendsIn bodyIn
   read-accepted same =
       ap reporting (copy-read same)
-      ∙ stepped-down-means n me b (askedIn x) s t words v u 8 (l .version) 0 (withHead (votingHead (x .election) (x .sender) (l .head)) l) (seen .votes) (calls-kept n b s l t words seen) rests-there
+      ∙ stepped-down-means n me b (askedIn x) s t words v u 8 (l .version) 0 (withHead (votingHead (x .election) (x .sender) (l .head)) l) (seen .votes) (calls-kept n b s l t words seen)
 
   write-stored : b ≡ x .bucket
       → accepting (x .bucket) (x .election) (x .sender) (writing (versionIn (x .version)) (t .message)) (placed n b l t words s .stored)
@@ -101,7 +98,7 @@ module _ (n me b : ℕ) (x : Message) (s : cluster.Server) (l : Local) (t : Tabl
   unfolding acknowledging workAfter sendsIn bodyIn
   write-accepted same =
       ap acknowledgingWith (write-stored same)
-      ∙ stepped-down-means n me b (askedIn x) s t words v u 5 noVersion (chosen (stores (x .version) l) 2 0) (writeRequestMove x l .local) (seen .votes) (calls-kept n b s l t words seen) rests-there
+      ∙ stepped-down-means n me b (askedIn x) s t words v u 5 noVersion (chosen (stores (x .version) l) 2 0) (writeRequestMove x l .local) (seen .votes) (calls-kept n b s l t words seen)
 
   -- a request is refused below the vote, and accepted otherwise
   request-by : (q : Request) (writes : Bool)

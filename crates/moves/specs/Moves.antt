@@ -7,7 +7,7 @@ use lib.Dec.{eqb, ltb, leb}
 use lib.ListN.{replicate}
 use Rattle.model.specs.Cluster as cluster
 use Rattle.model.specs.Replica.{grants, mayAccept}
-use Rattle.model.specs.Leader.{closes, fails}
+use Rattle.model.specs.Leader.{acts, closes, fails}
 use Rattle.server.specs.declared.Version.{Version}
 use Rattle.server.specs.declared.Head.{Head}
 use Rattle.server.specs.declared.Round.{Round}
@@ -17,7 +17,7 @@ use Rattle.server.specs.declared.Counted.{Counted}
 use Rattle.server.specs.declared.Message.{Message}
 use Rattle.server.specs.declared.Handling.{Handling}
 use Rattle.server.specs.declared.Handling.the-variants.{Vote, Request, Reply, Other}
-use Rattle.server.specs.Views.{versionIn, storedIn, openIn, roundIn, chosen}
+use Rattle.server.specs.Views.{roleIn, versionIn, storedIn, openIn, roundIn, chosen}
 use Rattle.server.specs.Heads.{votingHead, afterVoteHead, ceasedHead, electedHead, onAckVoteHead}
 use Rattle.rounds.specs.Rounds.{pickVersion, noVersion, roundWith, newRoundOf, openedHead, countedOf, matching}
 use Rattle.open_calls.specs.Calls.{oneMoreOf, answerWith, versionOf, nextVersionOf}
@@ -207,12 +207,12 @@ ceasing m =
       forgets = m .forgets;
     }
 
--- a server whose vote rises above its own number ceases to lead; a follower has nothing to end, and is left alone
+-- a leader or candidate whose vote rises above its own number ceases; a follower is left alone
 unfoldable pub steppedDown : Move → Move
 steppedDown m =
-    elim (eqb (m .local .head .role) 0) [
-      | true ↦ m
-      | false ↦ elim (ltb (m .local .head .number) (m .local .head .vote)) [ true ↦ ceasing m | false ↦ m ]
+    elim (acts (roleIn (m .local .head .role))) [
+      | false ↦ m
+      | true ↦ elim (ltb (m .local .head .number) (m .local .head .vote)) [ true ↦ ceasing m | false ↦ m ]
     ]
 
 -- ---- replies to rounds

@@ -19,20 +19,32 @@ use server::votes::on_ack_vote;
 use server::votes::voting;
 ghost use mathlib.Core.Path.{_≡_};
 ghost use mathlib.Core.Bool.{true, false};
+ghost use Rattle.model.specs.Leader.{acts};
+ghost use Rattle.server.specs.Views.{roleIn};
 ghost use Rattle.moves.specs.Moves.{steppedDown, voteMove, readRequestMove, writeRequestMove, requestMove, votingMove};
 
-// A server whose vote rises above its own number leads no more. Most requests reach a follower, which has nothing to end:
-// it is left alone, so that nobody walks over its slots.
+// Whether a role is that of a leader or a candidate.
+fn role_acts(role: u32) -> bool
+    ensures { λ r. ⌜ r ≡ acts (roleIn role) ⌝ }
+{
+    if role == 1 {
+        return true;
+    }
+    role == 2
+}
+
+// A leader or candidate whose vote rises above its own number is one no more. Most requests reach a follower, which is left
+// alone, so that nobody walks over its slots.
 fn stepped_down(m: Move) -> Move
     ensures { λ r. ⌜ r ≡ steppedDown m ⌝ }
 {
     let l = m.local;
     let h = l.head;
-    if h.role == 0 {
+    if role_acts(h.role) {
+        if must_step_down(h) {
+            return ceasing(m);
+        }
         return m;
-    }
-    if must_step_down(h) {
-        return ceasing(m);
     }
     m
 }

@@ -11,7 +11,7 @@ ghost use Rattle.runs.specs.Meaning.{outcomeIn, tallyIn};
 ghost use Rattle.print.specs.Printed.{Printed};
 ghost use Rattle.output.specs.Told.{Told};
 
-pub mod answers;
+mod answers;
 
 // The refusal, or the answers.
 pub fn put_outcome(out: &mut [u8], at: usize, line: u32, r: Report, answers: &[u32; 32]) -> usize

@@ -11,12 +11,11 @@ use Rattle.table.specs.Form.{sameBytes}
 use Rattle.model.specs.Text.{bytes}
 use Rattle.model.specs.Calls.{get, set, setif, del, keys}
 use Rattle.model.specs.Lines.{Line, cluster, elect, call, deliver, copy, lose, timeout, stop, cut, start}
-use Rattle.model.specs.Parse.{number, hexDigit, pairs, hexadecimal, item, made, made2, made3, made4, lineOf1}
+use Rattle.model.specs.Parse.{number, hexDigit, pairs, hexadecimal, item, made, made2, made3, made4}
 use Rattle.parse.specs.declared.Kind.{Kind}
 use Rattle.parse.specs.declared.Kind.the-variants as K
 use Rattle.parse.specs.Digits.{present, allThree, nibble, pairBytes, itemBytes}
-use Rattle.parse.specs.Kept.{kept, keptItem}
-use Rattle.parse.specs.Meaning.{kindOf1, lineFor, keptWords, keptLine, keptOf, numbersFor, numberFor, callFor}
+use Rattle.parse.specs.Meaning.{lineWith, lineWithNumbers, parsedCall, parsedLine, parsed, numberFor, numbersFor, callFor}
 use Rattle.parse.proofs.Sameness.{same-true}
 use Rattle.parse.proofs.Pairs.{joined, pair-step, hexadecimal-pairs, item-dash, item-dot, item-pairs, present-value}
 
@@ -95,13 +94,13 @@ all-three true true false h = (refl, (refl, h))
 all-three true false r h = (refl, (h, cc))
 all-three false q r h = (h, (cc, cc))
 
-pub call-reads : (c : Kind) {x : Option ℕ} {s : ℕ} (k e v : List ℕ) → some s ≡ x → allThree (present (hexadecimal k)) (present (item e)) (present (item v)) ≡ true → lineFor c s 0 (kept 8 (pairBytes k)) (keptItem (itemBytes e)) (keptItem (itemBytes v)) ≡ callFor c x (hexadecimal k) (item e) (item v)
+pub call-reads : (c : Kind) {x : Option ℕ} {s : ℕ} (k e v : List ℕ) → some s ≡ x → allThree (present (hexadecimal k)) (present (item e)) (present (item v)) ≡ true → lineWith c s 0 (pairBytes k) (itemBytes e) (itemBytes v) ≡ callFor c x (hexadecimal k) (item e) (item v)
 unfolding callFor
 call-reads c k e v f h =
     let t = all-three _ _ _ h in
     rw (← f, hexadecimal-bytes k (t .0), item-bytes e (t .1 .0), item-bytes v (t .1 .1))
 
-pub call-fails : (c : Kind) (x : Option ℕ) (k : Option (List ℕ)) (e v : Option (Option (List ℕ))) → allThree (present k) (present e) (present v) ≡ false → none ≡ callFor c x k e v
+pub call-fails : (c : Kind) (x : Option ℕ) (k : Option (List ℕ)) (e v : Option (Option (List ℕ))) → allThree (present k) (present e) (present v) ≡ false → parsed none ≡ callFor c x k e v
 unfolding callFor allThree present
 call-fails c none k e v h = refl
 call-fails c (some s) none e v h = refl
@@ -111,103 +110,82 @@ call-fails c (some s) (some k) (some e) (some v) h = cc
 
 -- ---- the model's readings, by kinds: `f` makes the line of kind c
 
-one-number : (c : Kind) (f : ℕ → Line) → ((n : ℕ) → lineFor c n 0 [] none none ≡ some (keptLine (f n))) → (x : Option ℕ) → numberFor c x ≡ keptOf (made f x)
-unfolding numberFor keptOf made
+one-number : (c : Kind) (f : ℕ → Line) → ((n : ℕ) → lineWithNumbers c n 0 ≡ parsedLine (f n)) → (x : Option ℕ) → numberFor c x ≡ parsed (made f x)
+unfolding numberFor parsed made
 one-number c f h none = refl
 one-number c f h (some n) = h n
 
-two-numbers : (c : Kind) (f : ℕ → ℕ → Line) → ((n m : ℕ) → lineFor c n m [] none none ≡ some (keptLine (f n m))) → (x y : Option ℕ) → numbersFor c x y ≡ keptOf (made2 f x y)
-unfolding numbersFor keptOf made made2
+two-numbers : (c : Kind) (f : ℕ → ℕ → Line) → ((n m : ℕ) → lineWithNumbers c n m ≡ parsedLine (f n m)) → (x y : Option ℕ) → numbersFor c x y ≡ parsed (made2 f x y)
+unfolding numbersFor parsed made made2
 two-numbers c f h none y = refl
 two-numbers c f h (some n) none = refl
 two-numbers c f h (some n) (some m) = h n m
 
-with-key : (c : Kind) (f : ℕ → List ℕ → Line) → ((s : ℕ) (k : List ℕ) (e v : Option (List ℕ)) → lineFor c s 0 (kept 8 k) e v ≡ some (keptLine (f s k))) → (x : Option ℕ) (y : Option (List ℕ)) → callFor c x y (item (bytes "-")) (item (bytes "-")) ≡ keptOf (made2 f x y)
-unfolding callFor keptOf made made2 item sameBytes order bytes
+with-key : (c : Kind) (f : ℕ → List ℕ → Line) → ((s : ℕ) (k : List ℕ) → lineWith c s 0 k none none ≡ parsedLine (f s k)) → (x : Option ℕ) (y : Option (List ℕ)) → callFor c x y (item (bytes "-")) (item (bytes "-")) ≡ parsed (made2 f x y)
+unfolding callFor parsed made made2 item sameBytes order bytes
 with-key c f h none y = refl
 with-key c f h (some s) none = refl
-with-key c f h (some s) (some k) = h s k _ _
+with-key c f h (some s) (some k) = h s k
 
--- a line of two words, by the tests of the first
-kindBy : Bool → Bool → Bool → Bool → Bool → Bool → Kind
-kindBy p q r s t u =
-    elim p [
-      | true ↦ K.Elect
-      | false ↦
-          elim q [
-            | true ↦ K.Deliver
-            | false ↦
-                elim r [ true ↦ K.Copy | false ↦ elim s [ true ↦ K.Lose | false ↦ elim t [ true ↦ K.Stop | false ↦ elim u [ true ↦ K.Start | false ↦ K.Malformed ] ] ] ]
-          ]
-    ]
+pub elect-line : (x : Option ℕ) → numberFor K.Elect x ≡ parsed (made elect x)
+unfolding parsedLine
+elect-line = one-number K.Elect elect (λ n. refl)
 
-lineBy : Bool → Bool → Bool → Bool → Bool → Bool → Option ℕ → Option Line
-lineBy p q r s t u x =
-    elim p [
-      | true ↦ made elect x
-      | false ↦
-          elim q [
-            | true ↦ made deliver x
-            | false ↦
-                elim r [ true ↦ made copy x | false ↦ elim s [ true ↦ made lose x | false ↦ elim t [ true ↦ made stop x | false ↦ elim u [ true ↦ made start x | false ↦ none ] ] ] ]
-          ]
-    ]
+pub deliver-line : (x : Option ℕ) → numberFor K.Deliver x ≡ parsed (made deliver x)
+unfolding parsedLine
+deliver-line = one-number K.Deliver deliver (λ n. refl)
 
-by-tests : (p q r s t u : Bool) (x : Option ℕ) → numberFor (kindBy p q r s t u) x ≡ keptOf (lineBy p q r s t u x)
-unfolding kindBy lineBy lineFor keptLine numberFor keptOf
-by-tests true q r s t u x = one-number K.Elect elect (λ n. refl) x
-by-tests false true r s t u x = one-number K.Deliver deliver (λ n. refl) x
-by-tests false false true s t u x = one-number K.Copy copy (λ n. refl) x
-by-tests false false false true t u x = one-number K.Lose lose (λ n. refl) x
-by-tests false false false false true u x = one-number K.Stop stop (λ n. refl) x
-by-tests false false false false false true x = one-number K.Start start (λ n. refl) x
-by-tests false false false false false false none = refl
-by-tests false false false false false false (some n) = refl
+pub copy-line : (x : Option ℕ) → numberFor K.Copy x ≡ parsed (made copy x)
+unfolding parsedLine
+copy-line = one-number K.Copy copy (λ n. refl)
 
-pub number-line : (w a : List ℕ) → numberFor (kindOf1 w) (number a) ≡ keptOf (lineOf1 w a)
-unfolding kindBy lineBy kindOf1 lineOf1
-number-line w a =
-    by-tests (sameBytes w (bytes "elect")) (sameBytes w (bytes "deliver")) (sameBytes w (bytes "copy")) (sameBytes w (bytes "lose")) (sameBytes w (bytes "stop")) (sameBytes w (bytes "start")) (number a)
+pub lose-line : (x : Option ℕ) → numberFor K.Lose x ≡ parsed (made lose x)
+unfolding parsedLine
+lose-line = one-number K.Lose lose (λ n. refl)
 
-pub cluster-line : (x y : Option ℕ) → numbersFor K.Cluster x y ≡ keptOf (made2 cluster x y)
-unfolding lineFor keptLine
+pub stop-line : (x : Option ℕ) → numberFor K.Stop x ≡ parsed (made stop x)
+unfolding parsedLine
+stop-line = one-number K.Stop stop (λ n. refl)
+
+pub start-line : (x : Option ℕ) → numberFor K.Start x ≡ parsed (made start x)
+unfolding parsedLine
+start-line = one-number K.Start start (λ n. refl)
+
+pub cluster-line : (x y : Option ℕ) → numbersFor K.Cluster x y ≡ parsed (made2 cluster x y)
+unfolding parsedLine
 cluster-line = two-numbers K.Cluster cluster (λ n m. refl)
 
-pub timeout-line : (x y : Option ℕ) → numbersFor K.Timeout x y ≡ keptOf (made2 timeout x y)
-unfolding lineFor keptLine
+pub timeout-line : (x y : Option ℕ) → numbersFor K.Timeout x y ≡ parsed (made2 timeout x y)
+unfolding parsedLine
 timeout-line = two-numbers K.Timeout timeout (λ n m. refl)
 
-pub cut-line : (x y : Option ℕ) → numbersFor K.Cut x y ≡ keptOf (made2 cut x y)
-unfolding lineFor keptLine
+pub cut-line : (x y : Option ℕ) → numbersFor K.Cut x y ≡ parsed (made2 cut x y)
+unfolding parsedLine
 cut-line = two-numbers K.Cut cut (λ n m. refl)
 
-pub keys-line : (x y : Option ℕ) → numbersFor K.Keys x y ≡ keptOf (made2 (λ s n. call s (keys n)) x y)
-unfolding lineFor keptLine keptWords
+pub keys-line : (x y : Option ℕ) → numbersFor K.Keys x y ≡ parsed (made2 (λ s n. call s (keys n)) x y)
+unfolding parsedLine parsedCall
 keys-line = two-numbers K.Keys (λ s n. call s (keys n)) (λ n m. refl)
 
-pub get-line : (x : Option ℕ) (y : Option (List ℕ)) → callFor K.Get x y (item (bytes "-")) (item (bytes "-")) ≡ keptOf (made2 (λ s k. call s (get k)) x y)
-unfolding lineFor keptLine keptWords
-get-line = with-key K.Get (λ s k. call s (get k)) (λ s k e v. refl)
+pub get-line : (x : Option ℕ) (y : Option (List ℕ)) → callFor K.Get x y (item (bytes "-")) (item (bytes "-")) ≡ parsed (made2 (λ s k. call s (get k)) x y)
+unfolding parsedLine parsedCall
+get-line = with-key K.Get (λ s k. call s (get k)) (λ s k. refl)
 
-pub del-line : (x : Option ℕ) (y : Option (List ℕ)) → callFor K.Del x y (item (bytes "-")) (item (bytes "-")) ≡ keptOf (made2 (λ s k. call s (del k)) x y)
-unfolding lineFor keptLine keptWords
-del-line = with-key K.Del (λ s k. call s (del k)) (λ s k e v. refl)
+pub del-line : (x : Option ℕ) (y : Option (List ℕ)) → callFor K.Del x y (item (bytes "-")) (item (bytes "-")) ≡ parsed (made2 (λ s k. call s (del k)) x y)
+unfolding parsedLine parsedCall
+del-line = with-key K.Del (λ s k. call s (del k)) (λ s k. refl)
 
-pub set-line : (x : Option ℕ) (y : Option (List ℕ)) (z : Option (Option (List ℕ))) → callFor K.Set x y (item (bytes "-")) z ≡ keptOf (made3 (λ s k v. call s (set k v)) x y z)
-unfolding callFor keptOf made made2 made3 lineFor keptLine keptWords keptItem item sameBytes order bytes
+pub set-line : (x : Option ℕ) (y : Option (List ℕ)) (z : Option (Option (List ℕ))) → callFor K.Set x y (item (bytes "-")) z ≡ parsed (made3 (λ s k v. call s (set k v)) x y z)
+unfolding callFor parsed parsedLine parsedCall made made2 made3 item sameBytes order bytes
 set-line none y z = refl
 set-line (some s) none z = refl
 set-line (some s) (some k) none = refl
 set-line (some s) (some k) (some v) = refl
 
-pub setif-line : (x : Option ℕ) (y : Option (List ℕ)) (z u : Option (Option (List ℕ))) → callFor K.SetIf x y z u ≡ keptOf (made4 (λ s k e v. call s (setif k e v)) x y z u)
-unfolding callFor keptOf made made2 made3 made4 lineFor keptLine keptWords
+pub setif-line : (x : Option ℕ) (y : Option (List ℕ)) (z u : Option (Option (List ℕ))) → callFor K.SetIf x y z u ≡ parsed (made4 (λ s k e v. call s (setif k e v)) x y z u)
+unfolding callFor parsed parsedLine parsedCall made made2 made3 made4
 setif-line none y z u = refl
 setif-line (some s) none z u = refl
 setif-line (some s) (some k) none u = refl
 setif-line (some s) (some k) (some e) none = refl
 setif-line (some s) (some k) (some e) (some v) = refl
-
-pub no-line : {o : Option Line} → o ≡ none → keptOf o ≡ none
-unfolding keptOf
-no-line e = ap keptOf e

@@ -1,18 +1,87 @@
--- No rule sees more of a line than is kept of it: a line and what is kept of it are performed alike.
+-- What a line by value keeps of the line that was read: all of it, but for the last bytes of a key or value that is too long.
+-- No rule sees more of a line than that: a line and what is kept of it are performed alike.
 use mathlib.Core.Path.{_≡_, refl, ap, ap₂, _∙_}
-use mathlib.Core.List.{List, append-nil}
+use mathlib.Core.List.{List, _++_, append-nil}
 use mathlib.Core.Bool.{Bool, true, false}
 use mathlib.Core.Option.{Option, none, some}
 use Prim.Native.Nat.{ℕ, _≤_, _-_}
 use native.Mathlib.Omega.{arith}
-use lib.ListN.{length, length-append, length-take, length-replicate}
+use lib.ListN.{length, take, replicate, length-append, length-take, length-replicate}
 use lib.Seq.{take-all}
 use borrow.Author.Tests.{ltb-false}
 use Rattle.model.specs.Calls.{Words, get, set, setif, del, keys}
 use Rattle.model.specs.Cluster.{Cluster}
 use Rattle.model.specs.Lines.{Line, cluster, elect, call, deliver, copy, lose, timeout, stop, cut, start, State, either, noServer, noBucketFor, badKey, badValue, badWords, firstOf, conditions, conditionsUpTo, inCluster, inClusterUpTo, createCluster, perform, performUpTo}
-use Rattle.parse.specs.Kept.{kept, keptItem}
-use Rattle.parse.specs.Meaning.{keptWords, keptLine}
+use Rattle.entries.specs.Decoded.{keyBytes, valueBytes}
+use Rattle.parse.specs.Kept.{keyFor, valueFor, itemFor, keyIn, valueIn, givenIn}
+use Rattle.parse.specs.Meaning.{lineFor, lineIn, parsedCall, parsedLine, parsed}
+use Rattle.parse.proofs.Padding.{padded-back}
+
+-- ---- what is kept of a line
+
+-- in the place of the bytes past the first `top` stand zeros
+unfoldable pub kept : ℕ → List ℕ → List ℕ
+kept top l = take top l ++ replicate (length l - top) 0
+
+unfoldable pub keptItem : Option (List ℕ) → Option (List ℕ)
+keptItem none = none
+keptItem (some v) = some (kept 16 v)
+
+unfoldable pub keptWords : Words → Words
+keptWords (get k) = get (kept 8 k)
+keptWords (set k v) = set (kept 8 k) (keptItem v)
+keptWords (setif k e v) = setif (kept 8 k) (keptItem e) (keptItem v)
+keptWords (del k) = del (kept 8 k)
+keptWords (keys b) = keys b
+
+unfoldable pub keptLine : Line → Line
+keptLine (cluster n b) = cluster n b
+keptLine (elect s) = elect s
+keptLine (call s w) = call s (keptWords w)
+keptLine (deliver i) = deliver i
+keptLine (copy i) = copy i
+keptLine (lose i) = lose i
+keptLine (timeout s b) = timeout s b
+keptLine (stop s) = stop s
+keptLine (cut i k) = cut i k
+keptLine (start s) = start s
+
+unfoldable pub keptOf : Option Line → Option Line
+keptOf none = none
+keptOf (some l) = some (keptLine l)
+
+-- ---- the line by value that was read stands for that
+
+key-read : (k : List ℕ) → keyIn (keyFor k) ≡ kept 8 k
+unfolding keyIn keyBytes keyFor kept
+key-read k = rw (padded-back 8 k)
+
+value-read : (v : Option (List ℕ)) → givenIn (itemFor v) ≡ keptItem v
+unfolding givenIn itemFor valueIn valueBytes valueFor kept keptItem
+value-read none = refl
+value-read (some v) = rw (padded-back 16 v)
+
+call-means : (s : ℕ) (w : Words) → lineIn (parsedCall s w) ≡ some (call s (keptWords w))
+unfolding lineIn lineFor parsedCall keptWords
+call-means s (get k) = rw (key-read k)
+call-means s (set k v) = rw (key-read k, value-read v)
+call-means s (setif k e v) = rw (key-read k, value-read e, value-read v)
+call-means s (del k) = rw (key-read k)
+call-means s (keys b) = refl
+
+pub parsed-means : (o : Option Line) → lineIn (parsed o) ≡ keptOf o
+unfolding lineIn lineFor parsed parsedLine keptOf keptLine
+parsed-means none = refl
+parsed-means (some (cluster n b)) = refl
+parsed-means (some (elect s)) = refl
+parsed-means (some (call s w)) = call-means s w
+parsed-means (some (deliver i)) = refl
+parsed-means (some (copy i)) = refl
+parsed-means (some (lose i)) = refl
+parsed-means (some (timeout s b)) = refl
+parsed-means (some (stop s)) = refl
+parsed-means (some (cut i k)) = refl
+parsed-means (some (start s)) = refl
 
 -- ---- a key or value
 

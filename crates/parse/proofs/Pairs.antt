@@ -1,23 +1,22 @@
 -- Keys and values: which words are pairs of hexadecimal digits, and the bytes that pairs stand for.
-use mathlib.Core.Path.{_≡_, refl, sym, ap, _∙_}
+use mathlib.Core.Path.{_≡_, refl, _∙_}
 use mathlib.Core.List.{List, [], _∷_}
 use mathlib.Core.Bool.{true, false}
 use mathlib.Core.Option.{Option, none, some}
-use Prim.Native.Nat.{ℕ, zero, suc, _≤_, _<_, _+_, _*_, _/_, min}
+use Prim.Native.Nat.{ℕ, zero, suc, _≤_, _<_, _+_, _*_, _/_}
 use native.Mathlib.Omega.{arith}
 use native.Mathlib.Numerals.{add-one}
-use lib.ListN.{length, take, drop, getD, drop-of-length-le}
+use lib.ListN.{length, drop, getD, drop-of-length-le}
 use lib.Seq.{drop-cons}
-use Rattle.entries.specs.declared.Key.{Key}
 use Rattle.entries.specs.declared.Value.{Value}
-use Rattle.entries.specs.Decoded.{keyBytes, valueBytes}
-use Rattle.entries.proofs.Lists.{Copying, copying-ends, take-min}
 use Rattle.table.specs.Form.{sameBytes}
 use Rattle.model.specs.Text.{bytes}
 use Rattle.model.specs.Parse.{hexDigit, pairs, hexadecimal, item}
 use Rattle.parse.specs.Digits.{digitOf, present, nibble, Nibble, pairBytes, itemBytes}
-use Rattle.parse.specs.Kept.{kept, keptItem, keyIn, valueIn, givenIn}
+use Rattle.parse.specs.Kept.{padded, keyFor, valueFor, itemFor}
+use Rattle.parse.proofs.Sameness.{same-true}
 use Rattle.parse.proofs.Numbers.{is-digit, no-digit}
+use Rattle.parse.proofs.Padding.{Padding, padding-ends}
 
 -- ---- a byte as a digit, 0 where it is none
 
@@ -154,26 +153,21 @@ pair-byte (a ∷ (b ∷ l)) (suc i) h =
     let f : 2 * suc i + 1 ≡ suc (suc (2 * i + 1)) = omega arith in
     rw (f, e) (pair-byte l i (omega arith))
 
--- ---- what is kept of them
+-- ---- keys and values by value
 
--- n of an array's bytes, where n may be above its room, are those that were copied
-copied : (top : ℕ) (s : List ℕ) {n i : ℕ} {b : List ℕ} → Copying top s n b i → n ≤ i → take (length s) b ≡ take top s
-copied top s {n} {i} {b} c h =
-    let e : n ≡ min (length s) (length b) = omega (arith, c .count, c .room) in
-    sym (take-min (length s) b) ∙ rw (← e) (copying-ends c h)
+pub key-padded : (s : List ℕ) {n i : ℕ} {b : List ℕ} {len : ℕ} → Padding 8 s n b i → n ≤ i → len ≡ length s → record { bytes = b; len = len } ≡ keyFor s
+unfolding keyFor
+key-padded s c h e = rw (e, padding-ends c h)
 
-pub key-kept : (s : List ℕ) {n i : ℕ} (k : Key) → Copying 8 s n (k .bytes) i → n ≤ i → k .len ≡ length s → keyIn k ≡ kept 8 s
-unfolding keyIn kept keyBytes
-key-kept s k c h e = rw (e, copied 8 s c h)
+pub value-padded : (s : List ℕ) {n i : ℕ} {b : List ℕ} {len : ℕ} → Padding 16 s n b i → n ≤ i → len ≡ length s → record { bytes = b; len = len } ≡ valueFor s
+unfolding valueFor
+value-padded s c h e = rw (e, padding-ends c h)
 
-pub value-kept : (s : List ℕ) {n i : ℕ} (v : Value) → Copying 16 s n (v .bytes) i → n ≤ i → v .len ≡ length s → valueIn v ≡ kept 16 s
-unfolding valueIn kept valueBytes
-value-kept s v c h e = rw (e, copied 16 s c h)
+pub item-there : (w : List ℕ) (v : Value) → sameBytes w (bytes "-") ≡ false → v ≡ valueFor (pairBytes w) → record { there = true; value = v } ≡ itemFor (itemBytes w)
+unfolding itemFor itemBytes
+item-there w v h e = rw (itemBytes, h, e)
 
-pub given-there : (w : List ℕ) (v : Value) → sameBytes w (bytes "-") ≡ false → valueIn v ≡ kept 16 (pairBytes w) → givenIn (record { there = true; value = v }) ≡ keptItem (itemBytes w)
-unfolding givenIn keptItem itemBytes
-given-there w v h e = rw (itemBytes, h) (ap some e)
-
-pub given-none : (w : List ℕ) (v : Value) → sameBytes w (bytes "-") ≡ true → givenIn (record { there = false; value = v }) ≡ keptItem (itemBytes w)
-unfolding givenIn keptItem itemBytes
-given-none w v h = rw (itemBytes, h)
+-- `-` has no pairs, so the value that is not there is zeros
+pub item-absent : (w : List ℕ) (v : Value) → sameBytes w (bytes "-") ≡ true → v ≡ valueFor (pairBytes w) → record { there = false; value = v } ≡ itemFor (itemBytes w)
+unfolding itemFor itemBytes pairBytes bytes valueFor padded
+item-absent w v h e = rw (itemBytes, h, e, same-true w (bytes "-") h)

@@ -1,25 +1,34 @@
--- What is kept of a key or value in a line: its length, and its first bytes up to the greatest length that document 01
--- allows. In the place of the bytes past those stand zeros: a key or value so long is refused whatever they are.
-use mathlib.Core.List.{List, _++_}
+-- Keys and values in a line: how they stand there by value, and what is read back from that. A key or value has its whole
+-- length, and its first bytes up to the greatest length that document 01 allows; zeros stand behind them.
+use mathlib.Core.List.{List, [], _∷_, _++_}
 use mathlib.Core.Bool.{true, false}
 use mathlib.Core.Option.{Option, none, some}
-use Prim.Native.Nat.{ℕ, _-_}
-use lib.ListN.{length, take, replicate}
+use Prim.Native.Nat.{ℕ, zero, suc, _-_}
+use lib.ListN.{length, replicate}
 use Rattle.entries.specs.declared.Key.{Key}
 use Rattle.entries.specs.declared.Value.{Value}
 use Rattle.entries.specs.declared.Item.{Item}
-use Rattle.entries.specs.Decoded.{keyBytes, valueBytes}
+use Rattle.entries.specs.Decoded.{keyBytes, valueBytes, absentItem}
 use Rattle.model.specs.Measures.{maxKeyBytes, maxValueBytes}
 
-unfoldable pub kept : ℕ → List ℕ → List ℕ
-kept top l = take top l ++ replicate (length l - top) 0
+-- n bytes: the first of l, and zeros where l has no more
+unfoldable pub padded : ℕ → List ℕ → List ℕ
+padded zero l = []
+padded (suc n) [] = 0 ∷ padded n []
+padded (suc n) (b ∷ l) = b ∷ padded n l
 
--- the same of a value, if it is there
-unfoldable pub keptItem : Option (List ℕ) → Option (List ℕ)
-keptItem none = none
-keptItem (some v) = some (kept maxValueBytes v)
+unfoldable pub keyFor : List ℕ → Key
+keyFor l = record { bytes = padded maxKeyBytes l; len = length l }
 
--- what a key or value by value stands for, where its length may be above its room
+unfoldable pub valueFor : List ℕ → Value
+valueFor l = record { bytes = padded maxValueBytes l; len = length l }
+
+-- a value that may be absent
+unfoldable pub itemFor : Option (List ℕ) → Item
+itemFor none = absentItem
+itemFor (some v) = record { value = valueFor v; there = true }
+
+-- what a key or value by value stands for, where its length may be above its room: it is refused whatever its last bytes are
 unfoldable pub keyIn : Key → List ℕ
 keyIn k = keyBytes k ++ replicate (k .len - maxKeyBytes) 0
 

@@ -1,45 +1,20 @@
--- What a line by value stands for, and what is kept of a line: all of it, but for the bytes of a key or value that is
--- too long (`kept`). No rule can see the difference (`performed` of proofs/Keeping.antt).
+-- The line by value that reading gives, every byte of it (`parsed`), and what a line by value stands for (`lineIn`): of a key or
+-- value that is too long the last bytes are lost. No rule can see the difference (`performed` of proofs/Keeping.antt).
 use mathlib.Core.Bool.{true, false}
 use mathlib.Core.List.{List, []}
 use mathlib.Core.Option.{Option, none, some}
 use Prim.Native.Nat.{ℕ}
 use Rattle.table.specs.Form.{sameBytes}
 use Rattle.model.specs.Text.{bytes}
-use Rattle.model.specs.Measures.{maxKeyBytes}
 use Rattle.model.specs.Calls.{Words, get, set, setif, del, keys}
 use Rattle.model.specs.Lines.{Line, cluster, elect, call, deliver, copy, lose, timeout, stop, cut, start}
 use Rattle.model.specs.Parse.{number, made2}
+use Rattle.entries.specs.declared.Key.{Key}
 use Rattle.entries.specs.declared.Item.{Item}
-use Rattle.parse.specs.Kept.{kept, keptItem, keyIn, givenIn}
+use Rattle.parse.specs.Kept.{keyFor, itemFor, keyIn, givenIn}
 use Rattle.parse.specs.declared.Kind.{Kind}
 use Rattle.parse.specs.declared.Kind.the-variants as K
 use Rattle.parse.specs.declared.Line.{Line as Parsed}
-
--- the kind of a line of two words, by the first
-unfoldable pub kindOf1 : List ℕ → Kind
-kindOf1 w =
-    elim (sameBytes w (bytes "elect")) [
-      | true ↦ K.Elect
-      | false ↦
-          elim (sameBytes w (bytes "deliver")) [
-            | true ↦ K.Deliver
-            | false ↦
-                elim (sameBytes w (bytes "copy")) [
-                  | true ↦ K.Copy
-                  | false ↦
-                      elim (sameBytes w (bytes "lose")) [
-                        | true ↦ K.Lose
-                        | false ↦
-                            elim (sameBytes w (bytes "stop")) [
-                              | true ↦ K.Stop
-                              | false ↦
-                                  elim (sameBytes w (bytes "start")) [ true ↦ K.Start | false ↦ K.Malformed ]
-                            ]
-                      ]
-                ]
-          ]
-    ]
 
 -- the lines of two numbers behind their first word: a server and a bucket, or a message and how many stores
 unfoldable pub twoNumbersLine : List ℕ → List ℕ → List ℕ → Option Line
@@ -82,44 +57,57 @@ newItem r = record { value = r .value; there = r .«has_value» }
 unfoldable pub lineIn : Parsed → Option Line
 lineIn r = lineFor (r .kind) (r .first) (r .second) (keyIn (r .key)) (givenIn (expectedItem r)) (givenIn (newItem r))
 
-unfoldable pub keptWords : Words → Words
-keptWords (get k) = get (kept maxKeyBytes k)
-keptWords (set k v) = set (kept maxKeyBytes k) (keptItem v)
-keptWords (setif k e v) = setif (kept maxKeyBytes k) (keptItem e) (keptItem v)
-keptWords (del k) = del (kept maxKeyBytes k)
-keptWords (keys b) = keys b
+-- ---- the line by value that reading gives
 
-unfoldable pub keptLine : Line → Line
-keptLine (cluster n b) = cluster n b
-keptLine (elect s) = elect s
-keptLine (call s w) = call s (keptWords w)
-keptLine (deliver i) = deliver i
-keptLine (copy i) = copy i
-keptLine (lose i) = lose i
-keptLine (timeout s b) = timeout s b
-keptLine (stop s) = stop s
-keptLine (cut i k) = cut i k
-keptLine (start s) = start s
+-- the line of a kind with its numbers, key, expected value and value
+abbrev pub lineOfParts : Kind → ℕ → ℕ → Key → Item → Item → Parsed
+lineOfParts c a b k e v =
+    record { key = k; expected = e .value; value = v .value; first = a; second = b; kind = c; «has_expected» = e .there; «has_value» = v .there }
 
-unfoldable pub keptOf : Option Line → Option Line
-keptOf none = none
-keptOf (some l) = some (keptLine l)
+abbrev pub lineWith : Kind → ℕ → ℕ → List ℕ → Option (List ℕ) → Option (List ℕ) → Parsed
+lineWith c a b k e v = lineOfParts c a b (keyFor k) (itemFor e) (itemFor v)
 
--- ---- a line of two numbers, or of a number, a key and two values, where all of them could be read
+-- what a line does not have is zeros: a number, a key of no bytes, an absent value
+abbrev pub lineWithNumbers : Kind → ℕ → ℕ → Parsed
+lineWithNumbers c a b = lineWith c a b [] none none
 
-unfoldable pub numbersFor : Kind → Option ℕ → Option ℕ → Option Line
-numbersFor k none y = none
-numbersFor k (some a) none = none
-numbersFor k (some a) (some b) = lineFor k a b [] none none
+unfoldable pub parsedCall : ℕ → Words → Parsed
+parsedCall s (get k) = lineWith K.Get s 0 k none none
+parsedCall s (set k v) = lineWith K.Set s 0 k none v
+parsedCall s (setif k e v) = lineWith K.SetIf s 0 k e v
+parsedCall s (del k) = lineWith K.Del s 0 k none none
+parsedCall s (keys b) = lineWithNumbers K.Keys s b
 
--- a line of one number
-unfoldable pub numberFor : Kind → Option ℕ → Option Line
-numberFor k none = none
-numberFor k (some a) = lineFor k a 0 [] none none
+unfoldable pub parsedLine : Line → Parsed
+parsedLine (cluster n b) = lineWithNumbers K.Cluster n b
+parsedLine (elect s) = lineWithNumbers K.Elect s 0
+parsedLine (call s w) = parsedCall s w
+parsedLine (deliver i) = lineWithNumbers K.Deliver i 0
+parsedLine (copy i) = lineWithNumbers K.Copy i 0
+parsedLine (lose i) = lineWithNumbers K.Lose i 0
+parsedLine (timeout s b) = lineWithNumbers K.Timeout s b
+parsedLine (stop s) = lineWithNumbers K.Stop s 0
+parsedLine (cut i k) = lineWithNumbers K.Cut i k
+parsedLine (start s) = lineWithNumbers K.Start s 0
 
-unfoldable pub callFor : Kind → Option ℕ → Option (List ℕ) → Option (Option (List ℕ)) → Option (Option (List ℕ)) → Option Line
-callFor c none k e v = none
-callFor c (some s) none e v = none
-callFor c (some s) (some k) none v = none
-callFor c (some s) (some k) (some e) none = none
-callFor c (some s) (some k) (some e) (some v) = lineFor c s 0 (kept maxKeyBytes k) (keptItem e) (keptItem v)
+unfoldable pub parsed : Option Line → Parsed
+parsed none = lineWithNumbers K.Malformed 0 0
+parsed (some l) = parsedLine l
+
+-- ---- a line of one or two numbers, or of a number, a key and two values, where all of them could be read
+
+unfoldable pub numberFor : Kind → Option ℕ → Parsed
+numberFor c none = parsed none
+numberFor c (some a) = lineWithNumbers c a 0
+
+unfoldable pub numbersFor : Kind → Option ℕ → Option ℕ → Parsed
+numbersFor c none y = parsed none
+numbersFor c (some a) none = parsed none
+numbersFor c (some a) (some b) = lineWithNumbers c a b
+
+unfoldable pub callFor : Kind → Option ℕ → Option (List ℕ) → Option (Option (List ℕ)) → Option (Option (List ℕ)) → Parsed
+callFor c none k e v = parsed none
+callFor c (some s) none e v = parsed none
+callFor c (some s) (some k) none v = parsed none
+callFor c (some s) (some k) (some e) none = parsed none
+callFor c (some s) (some k) (some e) (some v) = lineWith c s 0 k e v

@@ -7,7 +7,7 @@ ghost use Rattle.model.specs.Parse.{digit, hexDigit, decimalFrom, number};
 ghost use Rattle.parse.specs.Digits.{digitOf, numberIn};
 
 // The digit that a byte is, or a number above 9.
-pub fn digit(b: u8) -> u8
+fn digit(b: u8) -> u8
     ensures { λ r. ⌜ digitOf 10 r ≡ digit b ⌝ }
 {
     if b < 48 {

@@ -10,7 +10,7 @@ ghost use Prim.Native.Nat.{_<_, _+_, _*_};
 ghost use lib.ListN.{length, getD};
 ghost use Rattle.model.specs.Parse.{pairs, hexadecimal, item};
 ghost use Rattle.parse.specs.Digits.{present, pairBytes, itemBytes, Nibble};
-ghost use Rattle.parse.specs.Kept.{kept, keptItem, keyIn, valueIn, givenIn};
+ghost use Rattle.parse.specs.Kept.{keyFor, valueFor, itemFor};
 
 // Whether a word is made of pairs of digits.
 fn is_pairs(word: &[u8]) -> bool
@@ -83,7 +83,7 @@ fn pair_at(word: &[u8], i: usize) -> u8
 
 // The bytes of a key, and their number; those past the eighth are not kept.
 pub fn key_in(word: &[u8]) -> Key
-    ensures { λ r. ⌜ keyIn r ≡ kept 8 (pairBytes (now (word .entry))) ⌝ }
+    ensures { λ r. ⌜ r ≡ keyFor (pairBytes (now (word .entry))) ⌝ }
 {
     let len = word.len() / 2;
     let n = at_most(len, 8);
@@ -98,7 +98,7 @@ pub fn key_in(word: &[u8]) -> Key
 
 // The bytes of a value, and their number; those past the sixteenth are not kept.
 fn value_in(word: &[u8]) -> Value
-    ensures { λ r. ⌜ valueIn r ≡ kept 16 (pairBytes (now (word .entry))) ⌝ }
+    ensures { λ r. ⌜ r ≡ valueFor (pairBytes (now (word .entry))) ⌝ }
 {
     let len = word.len() / 2;
     let n = at_most(len, 16);
@@ -113,7 +113,7 @@ fn value_in(word: &[u8]) -> Value
 
 // The value that a word stands for, absent for `-`; `.` has no pairs, so it stands for no bytes.
 pub fn item_in(word: &[u8]) -> Item
-    ensures { λ r. ⌜ givenIn r ≡ keptItem (itemBytes (now (word .entry))) ⌝ }
+    ensures { λ r. ⌜ r ≡ itemFor (itemBytes (now (word .entry))) ⌝ }
 {
     let value = value_in(word);
     if same_word(word, b"-") {

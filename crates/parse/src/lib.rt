@@ -6,11 +6,11 @@ use entries::Key;
 use entries::Value;
 ghost use mathlib.Core.Path.{_≡_};
 ghost use Rattle.model.specs.Parse.{parse};
-ghost use Rattle.parse.specs.Meaning.{lineIn, keptOf};
+ghost use Rattle.parse.specs.Meaning.{parsed};
 
 pub mod digits;
-pub mod hexadecimals;
-pub mod lines;
+mod hexadecimals;
+mod lines;
 pub mod words;
 
 // A number that was read, or none.
@@ -40,7 +40,8 @@ pub enum Kind {
 
 // A line that was read. `first` is its server, place or number of servers, `second` its bucket, its number of buckets or
 // of stores. A key or value has its whole length, which may be above its room, and as many of its bytes as there is room
-// for. Whether the expected value and the value are there stands last: a flag among the arrays makes every line slower.
+// for, with zeros behind them; what a line does not have is zeros. Whether the expected value and the value are there
+// stands last: a flag among the arrays makes every line slower.
 pub struct Line {
     pub key: Key,
     pub expected: Value,
@@ -54,7 +55,7 @@ pub struct Line {
 
 // The line of these bytes, which end before its line feed.
 pub fn parse_line(line: &[u8]) -> Line
-    ensures { λ r. ⌜ lineIn r ≡ keptOf (parse (now (line .entry))) ⌝ }
+    ensures { λ r. ⌜ r ≡ parsed (parse (now (line .entry))) ⌝ }
 {
     if 120 < line.len() {
         return malformed();

@@ -18,18 +18,18 @@ ghost use mathlib.Core.Option.{none};
 ghost use Rattle.model.specs.Text.{bytes};
 ghost use Rattle.model.specs.Parse.{number, hexadecimal, item, words, lineOf1, lineOf2, lineOf3, lineOf4, lineOf};
 ghost use Rattle.parse.specs.Digits.{present, allThree};
-ghost use Rattle.parse.specs.Kept.{keyIn, givenIn};
-ghost use Rattle.parse.specs.Meaning.{kindOf1, twoNumbersLine, lineFor, lineIn, keptOf, numbersFor, callFor};
+ghost use Rattle.parse.specs.Kept.{keyFor};
+ghost use Rattle.parse.specs.Meaning.{twoNumbersLine, lineOfParts, lineWithNumbers, parsed, numberFor, numbersFor, callFor};
 
 fn blank_key() -> Key
-    ensures { λ r. ⌜ keyIn r ≡ [] ⌝ }
+    ensures { λ r. ⌜ r ≡ keyFor [] ⌝ }
 {
     let bytes = [0u8; 8];
     Key { bytes, len: 0 }
 }
 
 fn of_words(kind: Kind, first: u32, second: u32, key: Key, expected: Item, value: Item) -> Line
-    ensures { λ r. ⌜ lineIn r ≡ lineFor kind first second (keyIn key) (givenIn expected) (givenIn value) ⌝ }
+    ensures { λ r. ⌜ r ≡ lineOfParts kind first second key expected value ⌝ }
 {
     let e = expected.value;
     let v = value.value;
@@ -46,21 +46,32 @@ fn of_words(kind: Kind, first: u32, second: u32, key: Key, expected: Item, value
 }
 
 fn of_numbers(kind: Kind, first: u32, second: u32) -> Line
-    ensures { λ r. ⌜ lineIn r ≡ lineFor kind first second [] none none ⌝ }
+    ensures { λ r. ⌜ r ≡ lineWithNumbers kind first second ⌝ }
 {
     of_words(kind, first, second, blank_key(), absent(), absent())
 }
 
 // A line that is not of the forms of document 01.
 pub fn malformed() -> Line
-    ensures { λ r. ⌜ lineIn r ≡ none ⌝ }
+    ensures { λ r. ⌜ r ≡ parsed none ⌝ }
 {
     of_numbers(Kind::Malformed, 0, 0)
 }
 
-// A line with two numbers; where the kind has one only, the second word is any number.
+// A line with one number.
+fn number_line(kind: Kind, word: &[u8]) -> Line
+    ensures { λ r. ⌜ r ≡ numberFor kind (number (now (word .entry))) ⌝ }
+{
+    let n = number(word);
+    match n {
+        Number::Not => malformed(),
+        Number::Is(x) => of_numbers(kind, x, 0),
+    }
+}
+
+// A line with two numbers.
 fn numbers_line(kind: Kind, first: &[u8], second: &[u8]) -> Line
-    ensures { λ r. ⌜ lineIn r ≡ numbersFor kind (number (now (first .entry))) (number (now (second .entry))) ⌝ }
+    ensures { λ r. ⌜ r ≡ numbersFor kind (number (now (first .entry))) (number (now (second .entry))) ⌝ }
 {
     let n = number(first);
     match n {
@@ -88,9 +99,9 @@ fn all_readable(key: &[u8], expected: &[u8], value: &[u8]) -> bool
     false
 }
 
-// A call with a key; where the kind has no expected value or no value, that word is any value.
+// A call with a key; where the kind has no expected value or no value, that word is `-`.
 fn call_line(kind: Kind, server: &[u8], key: &[u8], expected: &[u8], value: &[u8]) -> Line
-    ensures { λ r. ⌜ lineIn r ≡ callFor kind (number (now (server .entry))) (hexadecimal (now (key .entry))) (item (now (expected .entry))) (item (now (value .entry))) ⌝ }
+    ensures { λ r. ⌜ r ≡ callFor kind (number (now (server .entry))) (hexadecimal (now (key .entry))) (item (now (expected .entry))) (item (now (value .entry))) ⌝ }
 {
     let n = number(server);
     match n {
@@ -107,52 +118,40 @@ fn call_line(kind: Kind, server: &[u8], key: &[u8], expected: &[u8], value: &[u8
     }
 }
 
-// The kind of a line of two words.
-fn kind_of_1(word: &[u8]) -> Kind
-    ensures { λ r. ⌜ r ≡ kindOf1 (now (word .entry)) ⌝ }
+fn line_of_1(word: &[u8], a: &[u8]) -> Line
+    ensures { λ r. ⌜ r ≡ parsed (lineOf1 (now (word .entry)) (now (a .entry))) ⌝ }
 {
     if same_word(word, b"elect") {
-        return Kind::Elect;
+        return number_line(Kind::Elect, a);
     }
     if same_word(word, b"deliver") {
-        return Kind::Deliver;
+        return number_line(Kind::Deliver, a);
     }
     if same_word(word, b"copy") {
-        return Kind::Copy;
+        return number_line(Kind::Copy, a);
     }
     if same_word(word, b"lose") {
-        return Kind::Lose;
+        return number_line(Kind::Lose, a);
     }
     if same_word(word, b"stop") {
-        return Kind::Stop;
+        return number_line(Kind::Stop, a);
     }
     if same_word(word, b"start") {
-        return Kind::Start;
+        return number_line(Kind::Start, a);
     }
-    Kind::Malformed
-}
-
-fn line_of_1(word: &[u8], a: &[u8]) -> Line
-    ensures { λ r. ⌜ lineIn r ≡ keptOf (lineOf1 (now (word .entry)) (now (a .entry))) ⌝ }
-{
-    let kind = kind_of_1(word);
-    let n = number(a);
-    match n {
-        Number::Not => malformed(),
-        Number::Is(x) => of_numbers(kind, x, 0),
-    }
+    malformed()
 }
 
 // A call with a key and no values.
 fn key_line(kind: Kind, server: &[u8], key: &[u8]) -> Line
-    ensures { λ r. ⌜ lineIn r ≡ callFor kind (number (now (server .entry))) (hexadecimal (now (key .entry))) (item (bytes "-")) (item (bytes "-")) ⌝ }
+    ensures { λ r. ⌜ r ≡ callFor kind (number (now (server .entry))) (hexadecimal (now (key .entry))) (item (bytes "-")) (item (bytes "-")) ⌝ }
 {
     call_line(kind, server, key, b"-", b"-")
 }
 
 // A line of two numbers behind its first word: a server and a bucket, or a message and how many stores.
 fn two_numbers_line(word: &[u8], a: &[u8], b: &[u8]) -> Line
-    ensures { λ r. ⌜ lineIn r ≡ keptOf (twoNumbersLine (now (word .entry)) (now (a .entry)) (now (b .entry))) ⌝ }
+    ensures { λ r. ⌜ r ≡ parsed (twoNumbersLine (now (word .entry)) (now (a .entry)) (now (b .entry))) ⌝ }
 {
     if same_word(word, b"keys") {
         return numbers_line(Kind::Keys, a, b);
@@ -167,7 +166,7 @@ fn two_numbers_line(word: &[u8], a: &[u8], b: &[u8]) -> Line
 }
 
 fn line_of_2(word: &[u8], a: &[u8], b: &[u8]) -> Line
-    ensures { λ r. ⌜ lineIn r ≡ keptOf (lineOf2 (now (word .entry)) (now (a .entry)) (now (b .entry))) ⌝ }
+    ensures { λ r. ⌜ r ≡ parsed (lineOf2 (now (word .entry)) (now (a .entry)) (now (b .entry))) ⌝ }
 {
     if same_word(word, b"cluster") {
         return numbers_line(Kind::Cluster, a, b);
@@ -182,7 +181,7 @@ fn line_of_2(word: &[u8], a: &[u8], b: &[u8]) -> Line
 }
 
 fn line_of_3(word: &[u8], a: &[u8], b: &[u8], c: &[u8]) -> Line
-    ensures { λ r. ⌜ lineIn r ≡ keptOf (lineOf3 (now (word .entry)) (now (a .entry)) (now (b .entry)) (now (c .entry))) ⌝ }
+    ensures { λ r. ⌜ r ≡ parsed (lineOf3 (now (word .entry)) (now (a .entry)) (now (b .entry)) (now (c .entry))) ⌝ }
 {
     if same_word(word, b"set") {
         return call_line(Kind::Set, a, b, b"-", c);
@@ -191,7 +190,7 @@ fn line_of_3(word: &[u8], a: &[u8], b: &[u8], c: &[u8]) -> Line
 }
 
 fn line_of_4(word: &[u8], a: &[u8], b: &[u8], c: &[u8], d: &[u8]) -> Line
-    ensures { λ r. ⌜ lineIn r ≡ keptOf (lineOf4 (now (word .entry)) (now (a .entry)) (now (b .entry)) (now (c .entry)) (now (d .entry))) ⌝ }
+    ensures { λ r. ⌜ r ≡ parsed (lineOf4 (now (word .entry)) (now (a .entry)) (now (b .entry)) (now (c .entry)) (now (d .entry))) ⌝ }
 {
     if same_word(word, b"setif") {
         return call_line(Kind::SetIf, a, b, c, d);
@@ -201,7 +200,7 @@ fn line_of_4(word: &[u8], a: &[u8], b: &[u8], c: &[u8], d: &[u8]) -> Line
 
 // The words before `rest` are read, and `rest` holds one more, or several.
 fn with_four(word: &[u8], a: &[u8], b: &[u8], c: &[u8], rest: &[u8]) -> Line
-    ensures { λ r. ⌜ lineIn r ≡ keptOf (lineOf (now (word .entry) ∷ (now (a .entry) ∷ (now (b .entry) ∷ (now (c .entry) ∷ (words (now (rest .entry)))))))) ⌝ }
+    ensures { λ r. ⌜ r ≡ parsed (lineOf (now (word .entry) ∷ (now (a .entry) ∷ (now (b .entry) ∷ (now (c .entry) ∷ (words (now (rest .entry)))))))) ⌝ }
 {
     let end = word_end(rest);
     if end < rest.len() {
@@ -212,7 +211,7 @@ fn with_four(word: &[u8], a: &[u8], b: &[u8], c: &[u8], rest: &[u8]) -> Line
 
 // The words before `rest` are read, and `rest` holds one more, or several.
 fn with_three(word: &[u8], a: &[u8], b: &[u8], rest: &[u8]) -> Line
-    ensures { λ r. ⌜ lineIn r ≡ keptOf (lineOf (now (word .entry) ∷ (now (a .entry) ∷ (now (b .entry) ∷ (words (now (rest .entry))))))) ⌝ }
+    ensures { λ r. ⌜ r ≡ parsed (lineOf (now (word .entry) ∷ (now (a .entry) ∷ (now (b .entry) ∷ (words (now (rest .entry))))))) ⌝ }
 {
     let end = word_end(rest);
     if end < rest.len() {
@@ -224,7 +223,7 @@ fn with_three(word: &[u8], a: &[u8], b: &[u8], rest: &[u8]) -> Line
 
 // The words before `rest` are read, and `rest` holds one more, or several.
 fn with_two(word: &[u8], a: &[u8], rest: &[u8]) -> Line
-    ensures { λ r. ⌜ lineIn r ≡ keptOf (lineOf (now (word .entry) ∷ (now (a .entry) ∷ (words (now (rest .entry)))))) ⌝ }
+    ensures { λ r. ⌜ r ≡ parsed (lineOf (now (word .entry) ∷ (now (a .entry) ∷ (words (now (rest .entry)))))) ⌝ }
 {
     let end = word_end(rest);
     if end < rest.len() {
@@ -236,7 +235,7 @@ fn with_two(word: &[u8], a: &[u8], rest: &[u8]) -> Line
 
 // The words before `rest` are read, and `rest` holds one more, or several.
 pub fn with_word(word: &[u8], rest: &[u8]) -> Line
-    ensures { λ r. ⌜ lineIn r ≡ keptOf (lineOf (now (word .entry) ∷ (words (now (rest .entry))))) ⌝ }
+    ensures { λ r. ⌜ r ≡ parsed (lineOf (now (word .entry) ∷ (words (now (rest .entry))))) ⌝ }
 {
     let end = word_end(rest);
     if end < rest.len() {

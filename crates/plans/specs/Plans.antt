@@ -180,9 +180,9 @@ lostPlan c i removes f =
       effect = f;
     }
 
--- a server that is not there, or that is stopped
+-- a receiver that is no server, or that is stopped
 unfoldable pub gone : Counts → Step → Local → Bool
-gone c x l = elim (leb (c .servers) (x .server)) [ true ↦ true | false ↦ flagIn (l .head .stopped) ]
+gone c x l = elim (leb (c .servers) (x .asked .receiver)) [ true ↦ true | false ↦ flagIn (l .head .stopped) ]
 
 -- to such a server it is lost
 unfoldable pub handPlan : Counts → Step → Message → Local → Effect → Plan

@@ -85,11 +85,13 @@ pub fn receiver(heads: &[u32; 112], slots: &[u32; 1792], x: Step) -> Local
     load_local(heads, slots, s, k)
 }
 
-// Whether a message goes to a server that is not there, or that is stopped.
+// Whether the receiver of a message is no server, or is stopped. The step's server is within the arrays whatever the message says,
+// so the message itself is asked.
 pub fn is_gone(c: Counts, x: Step, l: Local) -> bool
     ensures { λ r. ⌜ r ≡ gone c x l ⌝ }
 {
-    if c.servers <= x.server {
+    let m = x.asked;
+    if c.servers <= m.receiver {
         return true;
     }
     let h = l.head;

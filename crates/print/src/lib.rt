@@ -3,9 +3,9 @@ use entries::Key;
 use entries::Value;
 
 pub mod answers;
-pub mod bytes;
-pub mod decimals;
-pub mod hexadecimals;
+mod bytes;
+mod decimals;
+mod hexadecimals;
 pub mod lines;
 
 // The figures of a number: the bytes from `from` on.

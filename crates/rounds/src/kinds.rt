@@ -4,7 +4,7 @@ ghost use mathlib.Core.Path.{_≡_};
 ghost use Rattle.model.specs.Cluster.{Body, kindNumber};
 ghost use Rattle.rounds.specs.Kinds.{handlingIn, handlingOf};
 
-// Kinds 1 to 3 are votes, 4 and 7 requests, 5, 6, 8 and 9 replies; any other is refused.
+// Kinds 1 to 3 are votes, 4 and 7 requests, 5, 6, 8 and 9 replies; any other stands in foreign memory alone, and changes nothing.
 pub fn kind_of_message(kind: u32) -> Handling
     ensures is { λ r. ⌜ r ≡ handlingIn kind ⌝ }
     ensures means { λ r. ⌜ ((body : Body) → kindNumber body ≡ kind → r ≡ handlingOf body) ⌝ }

@@ -73,10 +73,8 @@ module _ (m : Memory) (l : List ℕ) (t : lines.Tally) (ready : Ready m l t) (i 
     on : part ≡ asked .bucket
     on = omega (arith, message-within ready i here .bucket, measured ready .buckets)
 
-    among-servers : leb (counts .servers) place ≡ false
-    among-servers =
-        let low : asked .receiver < counts .servers = message-within ready i here .receiver in
-        lt-leb (counts .servers) place (omega (arith, to))
+    among-servers : leb (counts .servers) (asked .receiver) ≡ false
+    among-servers = lt-leb (counts .servers) (asked .receiver) (message-within ready i here .receiver)
 
     ours : part < counts .buckets
     ours = omega (arith, message-within ready i here .bucket, on)

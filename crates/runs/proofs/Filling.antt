@@ -8,14 +8,14 @@ use borrow.Author.Tests.{eqb-true}
 use lib.Dec.{eqb, ltb}
 use lib.ListN.{getD, take}
 use Rattle.model.specs.Replica.{mayAccept}
-use Rattle.model.specs.Leader.{closes, fails}
+use Rattle.model.specs.Leader.{acts, closes, fails}
 use Rattle.server.specs.declared.Version.{Version}
 use Rattle.server.specs.declared.Round.{Round}
 use Rattle.server.specs.declared.Counted.{Counted}
 use Rattle.server.specs.declared.Message.{Message}
 use Rattle.server.specs.declared.Handling.{Handling}
 use Rattle.server.specs.declared.Handling.the-variants.{Vote, Request, Reply, Other}
-use Rattle.server.specs.Views.{among, markIn, openIn, roundIn, storedIn, chosen}
+use Rattle.server.specs.Views.{among, markIn, openIn, roundIn, storedIn, chosen, roleIn}
 use Rattle.rounds.specs.Rounds.{noVersion, pickVersion, isSilent, countedOf, matching}
 use Rattle.rounds.specs.Kinds.{handlingIn}
 use Rattle.moves.specs.declared.Local.{Local}
@@ -109,7 +109,7 @@ module _ (n me result : ℕ) (l : Local) where
 
     plain-stepped : (v : Move) → Plain v → Plain (steppedDown v)
     unfolding steppedDown
-    plain-stepped v e = either Plain (eqb (v .local .head .role) 0) _ _ e (either Plain (ltb (v .local .head .number) (v .local .head .vote)) _ _ e e)
+    plain-stepped v e = either Plain (acts (roleIn (v .local .head .role))) _ _ (either Plain (ltb (v .local .head .number) (v .local .head .vote)) _ _ e e) e
 
     plain-voting : (kind : ℕ) → Plain (votingMove n kind m l)
     unfolding votingMove voteMove

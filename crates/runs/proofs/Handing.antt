@@ -13,6 +13,7 @@ use Rattle.model.specs.Calls as calls
 use Rattle.model.specs.Cluster as cluster
 use Rattle.model.specs.Leader.{Reaction, handle, onReply}
 use Rattle.model.specs.Lines as lines
+use Rattle.model.specs.Measures.{maxElection}
 use Rattle.limits.specs.Lists.{all-at}
 use Rattle.limits.specs.Measures.{limitsAfter, Fits, MessageWithin}
 use Rattle.limits.specs.Tables.{EffectWithin, effect-within}
@@ -46,7 +47,7 @@ use Rattle.runs.specs.Meaning.{stateIn, resultOf}
 use Rattle.runs.proofs.Accepting.{Ready, Possible, keptMessages, workOf, reactionOf}
 use Rattle.runs.proofs.Standing.{measured}
 use Rattle.runs.proofs.Conditions.{judged, planned, ready-perform, server-stands, stopped-seen, message-judged, moved-run, lost-run}
-use Rattle.runs.proofs.Resting.{cluster-within, server-within, last-low, counter-low, table-fits, call-open}
+use Rattle.runs.proofs.Resting.{cluster-within, last-low, counter-low, table-fits, call-open}
 use Rattle.runs.proofs.Filling.{handled-written, reads-table-open}
 
 -- two that differ are of several
@@ -76,11 +77,11 @@ module _ {m : Memory} {l : List ℕ} {t : lines.Tally} (ready : Ready m l t) (i 
   pub message-there : lines.messageAt (clusterAt m) i ≡ message
   message-there = message-at (flight (m .queue) (m .loads) (countsAt (m .counts) .messages)) i _ sound here
 
-  pub message-within : MessageWithin n most (limitsAfter (countsAt (m .counts) .lines) (countsAt (m .counts) .calls)) message
+  pub message-within : MessageWithin n most (limitsAfter maxElection (countsAt (m .counts) .lines)) message
   message-within =
       let c = countsAt (m .counts) in
       let size = length-flight (flight (m .queue) (m .loads) (c .messages)) in
-      subst (MessageWithin n most (limitsAfter (c .lines) (c .calls))) message-there (all-at i _ (omega arith) (cluster-within ready .messages))
+      subst (MessageWithin n most (limitsAfter maxElection (c .lines))) message-there (all-at i _ (omega arith) (cluster-within ready .messages))
 
   -- ---- its receiver s
 
@@ -160,13 +161,13 @@ module _ {m : Memory} {l : List ℕ} {t : lines.Tally} (ready : Ready m l t) (i 
               let call = call-open ready s b mine ours d in
               reply-means n s b (askedIn asked) server here-local tables (callWordsAt m k) f mark reports asked message several (measured ready .servers) mine
               (server-seen n most m s b ours) refl refl refl (sym on) (λ h. call .live) (λ h. reads (unfold readsTable in rw (readsTable, e) h)) refl
-              (omega (arith, last-low ready s b mine ours)) (omega (arith, call .rounds)) (counter-low ready s b mine ours)
+              (omega (arith, last-low ready s b mine ours)) (omega (arith, call .rounds, ready .stands .accepted)) (counter-low ready s b mine ours)
           go false d = shut mark reports d
 
       handled : handle n s message server ≡ reactionOf m (countsAt (m .counts)) step move f
       handled =
           handled-means n s b (f .result) asked server here-local tables (callWordsAt m k) (valueBytes (f .value)) (tableIn (f .table)) (server-seen n most m s b ours)
-          (server-within ready s b mine ours .resting) on replies
+          on replies
 
       -- ---- what it comes to
 
@@ -242,10 +243,8 @@ module _ (m : Memory) (l : List ℕ) (t : lines.Tally) (ready : Ready m l t) (i 
     on : part ≡ messageAt (m .queue) i .bucket
     on = omega (arith, message-within ready i here .bucket, measured ready .buckets)
 
-    among-servers : leb (counts .servers) place ≡ false
-    among-servers =
-        let low : messageAt (m .queue) i .receiver < counts .servers = message-within ready i here .receiver in
-        lt-leb (counts .servers) place (omega (arith, to))
+    among-servers : leb (counts .servers) (messageAt (m .queue) i .receiver) ≡ false
+    among-servers = lt-leb (counts .servers) (messageAt (m .queue) i .receiver) (message-within ready i here .receiver)
 
     handed-by : (z : Bool) → flagIn (headAt (m .heads) place .stopped) ≡ z
         → lines.acceptLine (stateIn m t) (lines.delivery (clusterAt m) (message ready i here) (keptMessages removes i (clusterAt m .messages)) (chosen removes 0 1)) ≡ planned m l t counts f plan

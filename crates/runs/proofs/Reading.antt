@@ -6,7 +6,8 @@ use Prim.Native.Nat.{ℕ}
 use Rattle.model.specs.Lines as lines
 use Rattle.model.specs.Parse.{parse}
 use Rattle.model.specs.Run.{step, stepUpTo}
-use Rattle.parse.specs.Meaning.{keptOf}
+use Rattle.parse.specs.Meaning.{lineIn, parsed}
+use Rattle.parse.proofs.Keeping.{keptOf}
 use Rattle.parse.proofs.Keeping as keeping
 use Rattle.runs.specs.Meaning.{performed}
 
@@ -23,6 +24,6 @@ step-performed s bytes = go (parse bytes) refl
     go none e = rw (stepUpTo, e)
     go (some x) e = rw (stepUpTo, e)
 
--- a line that reads as the bytes do
-pub step-read : (s : lines.State) (bytes : List ℕ) (o : Option lines.Line) → o ≡ keptOf (parse bytes) → step s bytes ≡ performed s o
-step-read s bytes o e = step-performed s bytes ∙ sym (kept-performed s (parse bytes)) ∙ ap (performed s) (sym e)
+-- the line by value that the bytes read as is performed as they are
+pub step-read : (s : lines.State) (bytes : List ℕ) → step s bytes ≡ performed s (lineIn (parsed (parse bytes)))
+step-read s bytes = step-performed s bytes ∙ sym (kept-performed s (parse bytes)) ∙ ap (performed s) (sym (keeping.parsed-means (parse bytes)))

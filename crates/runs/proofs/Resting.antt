@@ -11,6 +11,7 @@ use Rattle.model.specs.Calls as calls
 use Rattle.model.specs.Cluster as cluster
 use Rattle.model.specs.Lines as lines
 use Rattle.limits.specs.Lists.{all-at}
+use Rattle.model.specs.Measures.{maxElection}
 use Rattle.limits.specs.Measures.{Limits, limitsAfter, Fits, CopyWithin, WordsSized, SlotWithin, idle, busy, ServerWithin, ClusterWithin}
 use Rattle.server.specs.declared.Round.{Round}
 use Rattle.server.specs.declared.Call.{Call}
@@ -24,37 +25,37 @@ use Rattle.runs.proofs.Accepting.{Ready}
 -- ---- the cluster
 
 pub cluster-within : {m : Memory} {l : List ℕ} {t : lines.Tally} → Ready m l t
-    → ClusterWithin (countsAt (m .counts) .servers) (countsAt (m .counts) .buckets) (countsAt (m .counts) .lines) (clusterAt m)
+    → ClusterWithin maxElection (countsAt (m .counts) .servers) (countsAt (m .counts) .buckets) (countsAt (m .counts) .lines) (clusterAt m)
 cluster-within {m} ready =
     let c = countsAt (m .counts) in
     let h = ready .stands in
     let n : h .servers ≡ c .servers = sym (h .within .size) ∙ length-servers (c .servers) (c .buckets) m in
     let b : h .buckets ≡ c .buckets = sym (h .within .buckets) in
-    subst (λ x. ClusterWithin (c .servers) x (c .lines) (clusterAt m)) b (subst (λ x. ClusterWithin x (h .buckets) (c .lines) (clusterAt m)) n (h .within))
+    subst (λ x. ClusterWithin maxElection (c .servers) x (c .lines) (clusterAt m)) b (subst (λ x. ClusterWithin maxElection x (h .buckets) (c .lines) (clusterAt m)) n (h .within))
 
 -- ---- a round and a call
 
 -- what the limits say of the call of a round
-abbrev CallOf : Option cluster.Round → Option cluster.Call → Type 0
-CallOf none p = Unit {0}
-CallOf (some r) none = ⊥
-CallOf (some r) (some c) = (c .rounds ≤ 4) × WordsSized (c .words)
+abbrev CallOf : Limits → Option cluster.Round → Option cluster.Call → Type 0
+CallOf l none p = Unit {0}
+CallOf l (some r) none = ⊥
+CallOf l (some r) (some c) = (c .rounds ≤ l .rounds) × WordsSized (c .words)
 
-slot-call : {n b : ℕ} {l : Limits} {number last i : ℕ} {o : Option cluster.Round} {p : Option cluster.Call} → SlotWithin n b l number last i o p → CallOf o p
+slot-call : {n b : ℕ} {l : Limits} {number i : ℕ} {o : Option cluster.Round} {p : Option cluster.Call} → SlotWithin n b l 0 number i o p → CallOf l o p
 slot-call idle = tt
 slot-call (busy r c) = (omega (arith, c .rounds), c .sizes)
 
 -- an open call with its words
-pub record OpenCall (c : Call) (words : calls.Words) : Type 0 where
+pub record OpenCall (l : Limits) (c : Call) (words : calls.Words) : Type 0 where
   pub live : among 5 (c .kind) ≡ true
-  pub rounds : c .rounds ≤ 4
+  pub rounds : c .rounds ≤ l .rounds
   pub sizes : WordsSized words
 
-opened : (n : ℕ) (r : Round) (t : List Entry) (c : Call) (words : calls.Words) → CallOf (roundIn n r t) (callIn c words) → among 4 (r .purpose) ≡ true → OpenCall c words
+opened : (l : Limits) (n : ℕ) (r : Round) (t : List Entry) (c : Call) (words : calls.Words) → CallOf l (roundIn n r t) (callIn c words) → among 4 (r .purpose) ≡ true → OpenCall l c words
 unfolding roundIn callIn
-opened n r t c words h e = go (among 5 (c .kind)) refl
+opened l n r t c words h e = go (among 5 (c .kind)) refl
   where
-    go : (z : Bool) → among 5 (c .kind) ≡ z → OpenCall c words
+    go : (z : Bool) → among 5 (c .kind) ≡ z → OpenCall l c words
     go true d = let (k, w) = (rw (roundIn, callIn, e, d) at h) in record { live = d; rounds = k; sizes = w }
     go false d = absurd (rw (roundIn, callIn, e, d) at h)
 
@@ -68,7 +69,7 @@ module _ {m : Memory} {l : List ℕ} {t : lines.Tally} (ready : Ready m l t) (s 
   most = countsAt (m .counts) .buckets
 
   abbrev limits : Limits
-  limits = limitsAfter (countsAt (m .counts) .lines) (countsAt (m .counts) .calls)
+  limits = limitsAfter maxElection (countsAt (m .counts) .lines)
 
   pub server-within : ServerWithin n most limits 0 (serverAt n most m s)
   server-within =
@@ -103,9 +104,9 @@ module _ {m : Memory} {l : List ℕ} {t : lines.Tally} (ready : Ready m l t) (s 
   pub table-fits : Fits (tableAt (m .copies) (slotOf s b))
   table-fits = subst Fits (ap (λ c. c .table) (copy-there n most m s b bucket)) (copy-within .fitting)
 
-  pub call-open : among 4 (roundAt (m .slots) (slotOf s b) .purpose) ≡ true → OpenCall (callAt (m .slots) (slotOf s b)) (callWordsAt m (slotOf s b))
+  pub call-open : among 4 (roundAt (m .slots) (slotOf s b) .purpose) ≡ true → OpenCall limits (callAt (m .slots) (slotOf s b)) (callWordsAt m (slotOf s b))
   call-open =
       let k = slotOf s b in
       let r = roundAt (m .slots) k in
-      opened n r (bestIn r (tableAt (m .works) k)) (callAt (m .slots) k) (callWordsAt m k)
+      opened limits n r (bestIn r (tableAt (m .works) k)) (callAt (m .slots) k) (callWordsAt m k)
       (rw (round-there n most m s b bucket, call-there n most m s b bucket) at (slot-call (server-within .slots b bucket)))

@@ -1,8 +1,9 @@
 // The public calls for callers in other languages, who lend arrays of these sizes, no two of them overlapping, and the tally: a part of a
-// script, and its end.
+// script, and its end. What a call counts is added to the lent tally.
 use feed::entry::feed_value;
 use feed::entry::finish_value;
 use runs::Tally;
+use tally::add;
 ghost use Rattle.feed.specs.Entry.{Feeds, Finishes};
 
 // A part of the input: how many bytes of it were taken. Bytes are left only from a line feed on, where the output has no room for what
@@ -24,7 +25,7 @@ pub extern "C" fn script_feed(
     input: &[u8],
     out: &mut [u8],
 ) -> usize
-    ensures { λ r. ⌜ Feeds (now (counts .entry)) (now (heads .entry)) (now (slots .entry)) (now (copies .entry)) (now (works .entry)) (now (texts .entry)) (now (queue .entry)) (now (loads .entry)) (now (answers .entry)) (now (reader .entry)) (now (line .entry)) (now (tally .entry)) (now (input .entry)) (now (out .entry)) (now (counts .exit)) (now (heads .exit)) (now (slots .exit)) (now (copies .exit)) (now (works .exit)) (now (texts .exit)) (now (queue .exit)) (now (loads .exit)) (now (answers .exit)) (now (reader .exit)) (now (line .exit)) (now (out .exit)) (record { tally = now (tally .exit); taken = r }) ⌝ }
+    ensures { λ r. ⌜ Feeds (now (counts .entry)) (now (heads .entry)) (now (slots .entry)) (now (copies .entry)) (now (works .entry)) (now (texts .entry)) (now (queue .entry)) (now (loads .entry)) (now (answers .entry)) (now (reader .entry)) (now (line .entry)) (now (tally .entry)) (now (input .entry)) (now (out .entry)) (now (counts .exit)) (now (heads .exit)) (now (slots .exit)) (now (copies .exit)) (now (works .exit)) (now (texts .exit)) (now (queue .exit)) (now (loads .exit)) (now (answers .exit)) (now (reader .exit)) (now (line .exit)) (now (tally .exit)) (now (out .exit)) r ⌝ }
 {
     let a = feed_value(
         counts,
@@ -42,7 +43,8 @@ pub extern "C" fn script_feed(
         input,
         out,
     );
-    *tally = a.tally;
+    let change = a.change;
+    add(tally, change);
     a.taken
 }
 
@@ -64,7 +66,7 @@ pub extern "C" fn script_finish(
     tally: &mut Tally,
     out: &mut [u8],
 ) -> usize
-    ensures { λ r. ⌜ Finishes (now (counts .entry)) (now (heads .entry)) (now (slots .entry)) (now (copies .entry)) (now (works .entry)) (now (texts .entry)) (now (queue .entry)) (now (loads .entry)) (now (answers .entry)) (now (reader .entry)) (now (line .entry)) (now (tally .entry)) (now (out .entry)) (now (counts .exit)) (now (heads .exit)) (now (slots .exit)) (now (copies .exit)) (now (works .exit)) (now (texts .exit)) (now (queue .exit)) (now (loads .exit)) (now (answers .exit)) (now (reader .exit)) (now (line .exit)) (now (out .exit)) (record { tally = now (tally .exit); taken = r }) ⌝ }
+    ensures { λ r. ⌜ Finishes (now (counts .entry)) (now (heads .entry)) (now (slots .entry)) (now (copies .entry)) (now (works .entry)) (now (texts .entry)) (now (queue .entry)) (now (loads .entry)) (now (answers .entry)) (now (reader .entry)) (now (line .entry)) (now (tally .entry)) (now (out .entry)) (now (counts .exit)) (now (heads .exit)) (now (slots .exit)) (now (copies .exit)) (now (works .exit)) (now (texts .exit)) (now (queue .exit)) (now (loads .exit)) (now (answers .exit)) (now (reader .exit)) (now (line .exit)) (now (tally .exit)) (now (out .exit)) r ⌝ }
 {
     let a = finish_value(
         counts,
@@ -81,6 +83,7 @@ pub extern "C" fn script_finish(
         *tally,
         out,
     );
-    *tally = a.tally;
+    let change = a.change;
+    add(tally, change);
     a.taken
 }

@@ -6,7 +6,7 @@ use Prim.Native.Nat.{ℕ}
 use lib.Dec.{eqb, ltb, leb}
 use lib.ListN.{length, getD, replicate, take, length-set}
 use Rattle.model.specs.Replica.{mayAccept}
-use Rattle.model.specs.Leader.{closes, fails}
+use Rattle.model.specs.Leader.{acts, closes, fails}
 use Rattle.server.specs.declared.Version.{Version}
 use Rattle.server.specs.declared.Head.{Head}
 use Rattle.server.specs.declared.Round.{Round}
@@ -14,7 +14,7 @@ use Rattle.server.specs.declared.Counted.{Counted}
 use Rattle.server.specs.declared.Message.{Message}
 use Rattle.server.specs.declared.Handling.{Handling}
 use Rattle.server.specs.declared.Handling.the-variants.{Vote, Request, Reply, Other}
-use Rattle.server.specs.Views.{markIn, openIn, roundIn, storedIn}
+use Rattle.server.specs.Views.{markIn, openIn, roundIn, storedIn, roleIn}
 use Rattle.server.specs.Heads.{afterVoteHead, electedHead, onAckVoteHead}
 use Rattle.rounds.specs.Rounds.{isSilent, newRoundOf, countedOf, matching}
 use Rattle.rounds.specs.Kinds.{handlingIn}
@@ -163,7 +163,7 @@ whole-ceasing v w = record { votes = refl; marks = w .marks }
 whole-steppedDown : (v : Move) → WholeMove v → WholeMove (steppedDown v)
 unfolding steppedDown
 whole-steppedDown v w =
-    either WholeMove (eqb (v .local .head .role) 0) _ _ w (either WholeMove (ltb (v .local .head .number) (v .local .head .vote)) _ _ (whole-ceasing v w) w)
+    either WholeMove (acts (roleIn (v .local .head .role))) _ _ (either WholeMove (ltb (v .local .head .number) (v .local .head .vote)) _ _ (whole-ceasing v w) w) w
 
 whole-fetching : (better : Bool) (v : Move) → WholeMove v → WholeMove (fetching better v)
 unfolding fetching

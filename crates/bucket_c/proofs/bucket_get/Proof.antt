@@ -1,6 +1,6 @@
 -- `bucket_get` meets its contract: a value of no bytes is told from none.
 use borrow.Author.Needs.{needs}
-use Rattle.entries.specs.Decoded.{itemIn}
+use Rattle.entries.specs.Decoded.{valueBytes, itemIn}
 use Rattle.bucket.specs.Answers.{outcomeNumber}
 use Rattle.bucket_c.proofs.Exporting.{get-refused, get-absent, get-found}
 use Rattle.bucket_c.proofs.bucket_get.Statement.{statement}
@@ -21,7 +21,7 @@ same-length c = search needs
 returns : tie.Need-returns
 unfolding outcomeNumber itemIn
 returns c =
-    get-found _ _ _ _ _ _ (rw (c .before .before .before .before .before .enum-told .given .1) at (c .before .before .before .before .before .before .before .before .look-up .ensures)) (rw (itemIn, c .before .before .before .before .if1 .taken)) (c .before .before .put-found .ensures)
+    get-found _ _ _ _ (valueBytes (c .before .before .before .before .before .before .before .before .look-up .result .item .value)) _ (rw (c .before .before .before .before .before .enum-told .given .1) at (c .before .before .before .before .before .before .before .before .look-up .ensures .is)) (rw (itemIn, c .before .before .before .before .if1 .taken)) (c .before .before .put-found .ensures)
 
 enum-told-2 : tie.Need-enum-told-2
 enum-told-2 c = search needs
@@ -29,11 +29,11 @@ enum-told-2 c = search needs
 returns-2 : tie.Need-returns-2
 unfolding outcomeNumber itemIn
 returns-2 c =
-    get-absent _ _ _ _ (rw (c .before .enum-told .given .1) at (c .before .before .before .before .look-up .ensures)) (rw (itemIn, c .if1 .left))
+    get-absent _ _ _ _ (rw (c .before .enum-told .given .1) at (c .before .before .before .before .look-up .ensures .is)) (rw (itemIn, c .if1 .left))
 
 returns-3 : tie.Need-returns-3
 unfolding outcomeNumber
-returns-3 c = get-refused _ _ _ _ (rw (c .enum-told2 .given .1) at (c .before .before .before .look-up .ensures))
+returns-3 c = get-refused _ _ _ _ (rw (c .enum-told2 .given .1) at (c .before .before .before .look-up .ensures .is))
 
 pub bucket-get-spec : {M : Type 1} → statement M
 bucket-get-spec =

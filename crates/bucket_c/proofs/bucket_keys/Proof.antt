@@ -1,6 +1,6 @@
 -- `bucket_keys` meets its contract.
 use borrow.Author.Needs.{needs}
-use Rattle.bucket_c.proofs.Exporting.{keys-refused, keys-short, keys-done}
+use Rattle.bucket_c.proofs.Exporting.{out-short, keys-refused, keys-listed}
 use Rattle.bucket.specs.Answers.{outcomeNumber}
 use Rattle.bucket_calls.specs.Answers.{keysIn}
 use Rattle.bucket_c.proofs.bucket_keys.Statement.{statement}
@@ -12,9 +12,12 @@ list-keys-requires c κs = search needs
 enum-told : tie.Need-enum-told
 enum-told c = search needs
 
+keys-room-requires : tie.Need-keys-room-requires
+keys-room-requires c κs = search needs
+
 returns : tie.Need-returns
-unfolding outcomeNumber
-returns c = keys-short _ _ _ (rw (c .before .enum-told .given .1) at (c .before .before .before .list-keys .ensures)) (c .if1 .taken)
+unfolding outcomeNumber keysIn
+returns c = keys-listed _ _ _ _ (rw (c .before .before .enum-told .given .1) at (c .before .before .before .before .list-keys .ensures .is)) (out-short _ _ _ (rw (c .before .keys-room .ensures) at (c .if1 .taken)))
 
 put-keys-requires : tie.Need-put-keys-requires
 put-keys-requires c κs = search needs
@@ -28,11 +31,11 @@ same-length c = search needs
 returns-2 : tie.Need-returns-2
 unfolding outcomeNumber keysIn
 returns-2 c =
-    keys-done _ _ _ _ _ (rw (c .before .before .before .before .before .enum-told .given .1) at (c .before .before .before .before .before .before .before .list-keys .ensures)) (c .before .before .before .before .if1 .left) (c .before .before .put-keys .ensures)
+    keys-listed _ _ _ _ (rw (c .before .before .before .before .before .before .enum-told .given .1) at (c .before .before .before .before .before .before .before .before .list-keys .ensures .is)) (c .before .before .put-keys .ensures)
 
 returns-3 : tie.Need-returns-3
 unfolding outcomeNumber
-returns-3 c = keys-refused _ _ _ (rw (c .enum-told2 .given .1) at (c .before .before .list-keys .ensures))
+returns-3 c = keys-refused _ _ _ (rw (c .enum-told2 .given .1) at (c .before .before .list-keys .ensures .is))
 
 pub bucket-keys-spec : {M : Type 1} → statement M
 bucket-keys-spec =
@@ -40,6 +43,7 @@ bucket-keys-spec =
     (tie.spec
     list-keys-requires
     enum-told
+    keys-room-requires
     returns
     put-keys-requires
     enum-told-2

@@ -1,6 +1,6 @@
 -- `put_found` meets its contract: the value, where there is room for it.
 use borrow.Author.Needs.{needs}
-use Rattle.bucket_c.proofs.Exporting.{value-short, value-done}
+use Rattle.bucket_c.proofs.Exporting.{out-short, out-done}
 use Rattle.bucket_c.proofs.put_found.Statement.{statement}
 use Rattle.bucket_c.proofs.put_found.Tie as tie
 
@@ -8,7 +8,7 @@ value-length-requires : tie.Need-value-length-requires
 value-length-requires c κs = search needs
 
 returns : tie.Need-returns
-returns c = value-short _ _ _ (c .before .value-length .ensures .is) (c .if1 .taken)
+returns c = out-short _ _ _ (rw (c .before .value-length .ensures .is) at (c .if1 .taken))
 
 put-value-requires : tie.Need-put-value-requires
 put-value-requires c κs = search needs
@@ -20,7 +20,9 @@ same-length : tie.Need-same-length
 same-length c = search needs
 
 returns-2 : tie.Need-returns-2
-returns-2 c = value-done _ _ _ _ (c .before .before .before .before .before .value-length .ensures .is) (c .before .before .before .before .if1 .left) (c .before .before .put-value .ensures)
+returns-2 c =
+    let e = c .before .before .before .before .before .value-length .ensures .is in
+    rw e (out-done _ _ _ _ (rw e at (c .before .before .before .before .if1 .left)) (c .before .before .put-value .ensures))
 
 pub put-found-spec : {M : Type 1} → statement M
 put-found-spec =

@@ -2,8 +2,9 @@
 use native.Mathlib.Omega.{arith}
 use Prim.Native.Nat.{_-_}
 use borrow.Author.Needs.{needs}
-use Rattle.bucket_c.proofs.Exporting.{KeysPutting, listing-whole, keys-starts, keys-goes-on, keys-ends}
 use lib.ListN.{length-map, length-set}
+use Rattle.bucket_calls.specs.Answers.{keysIn}
+use Rattle.bucket_c.proofs.Exporting.{KeysPutting, putting-starts, putting-within, putting-goes-on, putting-ends}
 use Rattle.bucket_c.proofs.put_keys.Statement.{statement}
 use Rattle.bucket_c.proofs.put_keys.Tie as tie
 
@@ -13,11 +14,9 @@ Inv-loop out₀ n keys at₀ i₀ out at i = KeysPutting out₀ n keys out at i
 abbrev μ-loop : tie.MeasureT-loop
 μ-loop out₀ n keys at₀ i₀ out at i = n - i
 
-at-most-requires : tie.Need-at-most-requires Inv-loop μ-loop
-at-most-requires c κs = search needs
-
 loop-holds : tie.Need-loop-holds Inv-loop μ-loop
-loop-holds c = keys-starts _ _ _ (search needs) (simp length-map at (c .before .before .before .good .1 .0 .1 .1 .1 .1 .0 .1 .0 .1)) (c .before .before .before .pre)
+unfolding keysIn
+loop-holds c = putting-starts (c .before .before .pre .0) (simp length-map at (c .before .before .good .1 .0 .1 .1 .1 .1 .0 .1 .0 .1)) (c .before .before .pre .1)
 
 mul-k : tie.Need-mul-k Inv-loop μ-loop
 mul-k c = search needs
@@ -32,13 +31,13 @@ cast-out : tie.Need-cast-out Inv-loop μ-loop
 cast-out c = search needs
 
 slice-write-out : tie.Need-slice-write-out Inv-loop μ-loop
-slice-write-out c = search needs
+slice-write-out c = omega (arith, putting-within (c .before .before .before .loop .inv) (c .before .before .loop-test .taken) (c .key-length .ensures .is))
 
 add-put-key : tie.Need-add-put-key Inv-loop μ-loop
 add-put-key c = search needs
 
 put-key-requires : tie.Need-put-key-requires Inv-loop μ-loop
-put-key-requires c κs = simp length-set (omega (arith, c .before .key-length .ensures .is, c .before .key-length .ensures .low))
+put-key-requires c κs = simp length-set (omega (arith, c .before .key-length .ensures .is, putting-within (c .before .before .before .before .loop .inv) (c .before .before .before .loop-test .taken) (c .before .key-length .ensures .is)))
 
 add-at : tie.Need-add-at Inv-loop μ-loop
 add-at c = search needs
@@ -55,7 +54,7 @@ loop-less c = search needs
 loop-again : tie.Need-loop-again Inv-loop μ-loop
 loop-again c =
     let k = c .before .before .before .before .key-length .ensures in
-    keys-goes-on (c .before .before .before .before .before .before .before .loop .inv) (c .before .before .put-key .last .0) (c .before .before .before .before .before .before .loop-test .taken) (k .low) (k .is) (c .before .before .put-key .ensures)
+    putting-goes-on (c .before .before .before .before .before .before .before .loop .inv) (c .before .before .before .before .before .before .loop-test .taken) (k .is) (c .before .before .put-key .last .0) (k .low) (c .before .before .put-key .ensures)
 
 cast-result : tie.Need-cast-result Inv-loop μ-loop
 cast-result c = search needs
@@ -64,9 +63,8 @@ same-length : tie.Need-same-length Inv-loop μ-loop
 same-length c = search needs
 
 returns : tie.Need-returns Inv-loop μ-loop
-returns c =
-    rw (listing-whole (c .before .before .before .before .before .args .l) (c .before .loop .inv .four) (c .before .before .before .at-most .result) (c .before .before .before .at-most .ensures)) at
-    (keys-ends (c .before .loop .inv) (c .loop-test .left))
+unfolding keysIn
+returns c = putting-ends (c .before .loop .inv) (c .loop-test .left)
 
 pub put-keys-spec : {M : Type 1} → statement M
 put-keys-spec =
@@ -74,7 +72,6 @@ put-keys-spec =
     (tie.spec
     Inv-loop
     μ-loop
-    at-most-requires
     loop-holds
     mul-k
     array-copy-out-k

@@ -19,8 +19,13 @@ keys-of-requires c κs = search needs
 returns : tie.Need-returns
 unfolding keysIn
 returns c =
-    list-done _ _ _ (c .before .before .before .read .ensures .number)
-    (rw (c .keys-of .ensures) (keys-in-use (c .before .before .before .read .result .table) (c .before .count-of .result) (c .before .count-of .ensures)) ∙ ap keysOf (c .before .before .before .read .ensures .table))
+    record {
+      is =
+          list-done _ _ _ (c .before .before .before .read .ensures .number)
+          (rw (c .keys-of .ensures .is) (keys-in-use (c .before .before .before .read .result .table) (c .before .count-of .result) (c .before .count-of .ensures)) ∙ ap keysOf (c .before .before .before .read .ensures .table));
+      count = c .before .count-of .ensures .low;
+      lengths = c .keys-of .ensures .lengths;
+    }
 
 pub list-keys-spec : {M : Type 1} → statement M
 list-keys-spec = tie.close (tie.spec read-requires count-of-requires keys-of-requires returns)

@@ -1,5 +1,6 @@
 -- `look_up` meets its contract: a key that is too long is absent.
 use mathlib.Core.Path.{ap, ap₂, _∙_}
+use native.Mathlib.Omega.{arith}
 use lib.Seq.{take-all}
 use borrow.Author.Needs.{needs}
 use Rattle.entries.specs.Entries.{valueOf}
@@ -16,7 +17,11 @@ absent-requires : tie.Need-absent-requires
 absent-requires c κs = search needs
 
 returns : tie.Need-returns
-returns c = look-long _ _ _ _ (c .before .before .before .read .ensures .number) (ap itemIn (c .absent .ensures) ∙ absent-none) (c .before .if1 .taken)
+returns c =
+    record {
+      is = look-long _ _ _ _ (c .before .before .before .read .ensures .number) (ap itemIn (c .absent .ensures) ∙ absent-none) (c .before .if1 .taken);
+      within = rw (c .absent .ensures) (omega arith);
+    }
 
 key-of-requires : tie.Need-key-of-requires
 key-of-requires c κs = search needs
@@ -24,12 +29,27 @@ key-of-requires c κs = search needs
 find-requires : tie.Need-find-requires
 find-requires c κs = search needs
 
+trimmed-item-requires : tie.Need-trimmed-item-requires
+trimmed-item-requires c κs = search needs
+
 returns-2 : tie.Need-returns-2
 returns-2 c =
-    look-found _ _ _ _ (c .before .before .before .before .read .ensures .number)
-    (c .find .ensures ∙ ap₂ valueOf (c .before .key-of .ensures ∙ take-all 8 _ (c .before .before .if1 .left)) (c .before .before .before .before .read .ensures .table))
+    let r = c .before .before .before .before .before .read .ensures in
+    record {
+      is =
+          look-found _ _ _ _ (r .number)
+          (c .trimmed-item .ensures .is ∙ c .before .find .ensures ∙ ap₂ valueOf (c .before .before .key-of .ensures ∙ take-all 8 _ (c .before .before .before .if1 .left)) (r .table));
+      within = c .trimmed-item .ensures .within;
+    }
 
 pub look-up-spec : {M : Type 1} → statement M
 look-up-spec =
     tie.close
-    (tie.spec read-requires absent-requires returns key-of-requires find-requires returns-2)
+    (tie.spec
+    read-requires
+    absent-requires
+    returns
+    key-of-requires
+    find-requires
+    trimmed-item-requires
+    returns-2)

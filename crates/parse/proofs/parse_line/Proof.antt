@@ -1,8 +1,8 @@
 -- `parse_line` meets its contract: by its length, and where its first word ends.
 use borrow.Author.Needs.{needs}
-use mathlib.Core.Path.{sym, _∙_}
+use mathlib.Core.Path.{sym, ap, _∙_}
 use lib.Seq.{length-take-le}
-use Rattle.parse.proofs.Forms.{no-line}
+use Rattle.parse.specs.Meaning.{parsed}
 use Rattle.parse.proofs.Splitting.{words-cut, words-whole, parse-short, parse-long, one-word}
 use Rattle.parse.proofs.parse_line.Statement.{statement}
 use Rattle.parse.proofs.parse_line.Tie as tie
@@ -11,7 +11,7 @@ malformed-requires : tie.Need-malformed-requires
 malformed-requires c κs = search needs
 
 returns : tie.Need-returns
-returns c = c .malformed .ensures ∙ sym (no-line (parse-long _ (c .before .if1 .taken)))
+returns c = c .malformed .ensures ∙ sym (ap parsed (parse-long _ (c .before .if1 .taken)))
 
 word-end-requires : tie.Need-word-end-requires
 word-end-requires c κs = search needs
@@ -41,7 +41,7 @@ malformed-requires-2 : tie.Need-malformed-requires-2
 malformed-requires-2 c κs = search needs
 
 returns-3 : tie.Need-returns-3
-returns-3 c = c .malformed2 .ensures ∙ sym (no-line (parse-short _ (c .before .before .before .if1 .left) ∙ rw (← words-whole _ (c .before .before .word-end .ensures) (c .before .if2 .left)) (one-word _)))
+returns-3 c = c .malformed2 .ensures ∙ sym (ap parsed (parse-short _ (c .before .before .before .if1 .left) ∙ rw (← words-whole _ (c .before .before .word-end .ensures) (c .before .if2 .left)) (one-word _)))
 
 pub parse-line-spec : {M : Type 1} → statement M
 parse-line-spec =

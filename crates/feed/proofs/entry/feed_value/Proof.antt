@@ -19,11 +19,14 @@ feed-part-requires c κs = search needs
 put-reader-requires : tie.Need-put-reader-requires
 put-reader-requires c κs = search needs
 
+change-requires : tie.Need-change-requires
+change-requires c κs = search needs
+
 same-length : tie.Need-same-length
 same-length c = search needs
 
 returns : tie.Need-returns
-returns c = part-fed _ _ (c .before .before .before .before .before .before .before .before .before .before .before .before .before .before .before .before .before .before .before .before .before .before .before .before .before .before .args .reader .now) _ _ _ _ _ _ _ _ (c .before .before .before .before .before .feed-part .result) _ (c .before .before .before .before .before .before .before .before .before .before .before .before .before .before .before .before .before .before .before .sizes .ensures .0) (c .before .before .before .before .before .before .before .before .before .before .before .before .before .before .before .before .before .before .before .sizes .ensures .1) (c .before .before .before .before .before .feed-part .ensures) (c .before .put-reader .ensures)
+returns c = rw (c .change .ensures) (part-fed _ _ (c .before .before .before .before .before .before .before .before .before .before .before .before .before .before .before .before .before .before .before .before .before .before .before .before .before .before .before .args .reader .now) _ _ _ _ _ _ _ _ (c .before .before .before .before .before .before .feed-part .result) _ (c .before .before .before .before .before .before .before .before .before .before .before .before .before .before .before .before .before .before .before .before .sizes .ensures .0) (c .before .before .before .before .before .before .before .before .before .before .before .before .before .before .before .before .before .before .before .before .sizes .ensures .1) (c .before .before .before .before .before .before .feed-part .ensures) (c .before .before .put-reader .ensures))
 
 pub feed-value-spec : {M : Type 1} → statement M
 feed-value-spec =
@@ -34,5 +37,6 @@ feed-value-spec =
     element-copy-out-count
     feed-part-requires
     put-reader-requires
+    change-requires
     same-length
     returns)

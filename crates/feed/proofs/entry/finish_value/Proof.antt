@@ -10,8 +10,11 @@ use Rattle.feed.proofs.entry.finish_value.Tie as tie
 sizes-requires : tie.Need-sizes-requires
 sizes-requires c κs = search needs
 
+change-requires : tie.Need-change-requires
+change-requires c κs = search needs
+
 returns : tie.Need-returns
-returns c = end-waits _ _ _ _ _ _ _ _ _ _ _ _ _ (c .if1 .taken)
+returns c = rw (c .change .ensures) (end-waits _ _ _ _ _ _ _ _ _ _ _ _ _ (c .before .if1 .taken))
 
 element-copy-out-lines : tie.Need-element-copy-out-lines
 element-copy-out-lines c = search needs
@@ -43,21 +46,25 @@ put-end-requires c κs = tally-fits _ _ (c .before .before .before .before .befo
 put-reader-requires : tie.Need-put-reader-requires
 put-reader-requires c κs = search needs
 
+change-requires-2 : tie.Need-change-requires-2
+change-requires-2 c κs = search needs
+
 same-length : tie.Need-same-length
 same-length c = search needs
 
 returns-2 : tie.Need-returns-2
 returns-2 c =
-    let a = c .before .before .before .before .before .before .before .before .before .before .before .before .before .before .before .before .before .before .before .before .before .before .before .before .before .before .before .before .before .before .before .before .args in
-    let sizes = c .before .before .before .before .before .before .before .before .before .before .before .before .before .before .before .before .before .before .before .before .before .before .before .before .before .before .sizes .ensures in
-    let fed = c .before .before .before .before .before .before .before .before .before .feed-part in
-    end-finished _ _ _ _ _ _ _ _ _ (a .reader .now) _ _ (a .out .now) _ _ _ _ _ _ _ _ _ _ _ _ _ (fed .result) _ _ (sizes .0) (sizes .1) (c .before .before .before .before .before .before .before .before .before .before .before .before .before .before .before .before .before .before .before .before .before .before .before .before .before .if1 .left) (fed .ensures) (c .before .before .before .before .before .before .before .before .before .before .before .before .before .before .before .before .before .before .before .before .before .before .line-feeds .ensures .0) (c .before .before .before .before .before .before .before .before .out .given .0) (c .before .before .before .before .put-end .ensures .0) (c .put-reader .ensures)
+    let a = c .before .before .before .before .before .before .before .before .before .before .before .before .before .before .before .before .before .before .before .before .before .before .before .before .before .before .before .before .before .before .before .before .before .args in
+    let sizes = c .before .before .before .before .before .before .before .before .before .before .before .before .before .before .before .before .before .before .before .before .before .before .before .before .before .before .before .sizes .ensures in
+    let fed = c .before .before .before .before .before .before .before .before .before .before .feed-part in
+    rw (c .change2 .ensures) (end-finished _ _ _ _ _ _ _ _ _ (a .reader .now) _ _ (a .out .now) _ _ _ _ _ _ _ _ _ _ _ _ _ (fed .result) _ _ (sizes .0) (sizes .1) (c .before .before .before .before .before .before .before .before .before .before .before .before .before .before .before .before .before .before .before .before .before .before .before .before .before .before .if1 .left) (fed .ensures) (c .before .before .before .before .before .before .before .before .before .before .before .before .before .before .before .before .before .before .before .before .before .before .before .line-feeds .ensures .0) (c .before .before .before .before .before .before .before .before .before .out .given .0) (c .before .before .before .before .before .put-end .ensures .0) (c .before .put-reader .ensures))
 
 pub finish-value-spec : {M : Type 1} → statement M
 finish-value-spec =
     tie.close
     (tie.spec
     sizes-requires
+    change-requires
     returns
     element-copy-out-lines
     element-copy-out-count
@@ -69,5 +76,6 @@ finish-value-spec =
     feed-part-requires
     put-end-requires
     put-reader-requires
+    change-requires-2
     same-length
     returns-2)

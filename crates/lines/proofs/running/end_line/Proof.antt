@@ -33,7 +33,7 @@ returns c =
       ends =
           record {
             told = ran .result;
-            runs = record { line = read .result; reads = read .ensures; performs = ran .ensures };
+            runs = record { performs = rw (← read .ensures) (ran .ensures) };
             counted = refl;
             next = refl;
             clear = refl;

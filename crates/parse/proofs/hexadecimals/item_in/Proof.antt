@@ -1,8 +1,8 @@
--- `hexadecimals::item_in` meets its contract: none for `-`.
+-- `hexadecimals::item_in` meets its contract: absent for `-`.
 use borrow.Author.Needs.{needs}
 use mathlib.Core.Path.{sym, _∙_}
 use Rattle.model.specs.Text.{bytes}
-use Rattle.parse.proofs.Pairs.{given-there, given-none}
+use Rattle.parse.proofs.Pairs.{item-there, item-absent}
 use Rattle.parse.proofs.hexadecimals.item_in.Statement.{statement}
 use Rattle.parse.proofs.hexadecimals.item_in.Tie as tie
 
@@ -17,11 +17,11 @@ same-word-requires c κs = search needs
 
 returns : tie.Need-returns
 unfolding bytes
-returns c = given-none _ _ (sym (c .before .same-word .ensures) ∙ c .if1 .taken)
+returns c = item-absent _ _ (sym (c .before .same-word .ensures) ∙ c .if1 .taken) (c .before .before .before .value-in .ensures)
 
 returns-2 : tie.Need-returns-2
 unfolding bytes
-returns-2 c = given-there _ _ (sym (c .before .same-word .ensures) ∙ c .if1 .left) (c .before .before .before .value-in .ensures)
+returns-2 c = item-there _ _ (sym (c .before .same-word .ensures) ∙ c .if1 .left) (c .before .before .before .value-in .ensures)
 
 pub item-in-spec : {M : Type 1} → statement M
 item-in-spec =

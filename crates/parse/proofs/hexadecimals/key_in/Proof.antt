@@ -3,14 +3,15 @@ use borrow.Author.Needs.{needs}
 use mathlib.Core.Path.{sym}
 use Prim.Native.Nat.{_-_}
 use native.Mathlib.Omega.{arith}
-use Rattle.entries.proofs.Lists.{Copying, copying-starts, copying-goes-on}
 use Rattle.parse.specs.Digits.{pairBytes}
-use Rattle.parse.proofs.Pairs.{length-pairs, key-kept}
+use Rattle.parse.specs.Kept.{padded}
+use Rattle.parse.proofs.Padding.{Padding, padding-starts, padding-goes-on}
+use Rattle.parse.proofs.Pairs.{length-pairs, key-padded}
 use Rattle.parse.proofs.hexadecimals.key_in.Statement.{statement}
 use Rattle.parse.proofs.hexadecimals.key_in.Tie as tie
 
 abbrev Inv-loop : tie.InvT-loop
-Inv-loop word len n bytes₀ i₀ bytes i = Copying 8 (pairBytes word) n bytes i
+Inv-loop word len n bytes₀ i₀ bytes i = Padding 8 (pairBytes word) n bytes i
 
 abbrev μ-loop : tie.MeasureT-loop
 μ-loop word len n bytes₀ i₀ bytes i = n - i
@@ -19,7 +20,8 @@ at-most-requires : tie.Need-at-most-requires Inv-loop μ-loop
 at-most-requires c κs = search needs
 
 loop-holds : tie.Need-loop-holds Inv-loop μ-loop
-loop-holds c = copying-starts 8 (pairBytes (c .before .before .args .word .now)) _ _ (rw (length-pairs (c .before .before .args .word .now)) (c .at-most .ensures)) (search needs)
+unfolding padded
+loop-holds c = padding-starts 8 (pairBytes (c .before .before .args .word .now)) _ _ (rw (length-pairs (c .before .before .args .word .now)) (c .at-most .ensures)) (search needs)
 
 pair-at-requires : tie.Need-pair-at-requires Inv-loop μ-loop
 pair-at-requires c κs = omega (arith, c .before .loop .inv .count, length-pairs (c .before .before .before .before .args .word .now))
@@ -34,10 +36,10 @@ loop-less : tie.Need-loop-less Inv-loop μ-loop
 loop-less c = search needs
 
 loop-again : tie.Need-loop-again Inv-loop μ-loop
-loop-again c = rw (← c .pair-at .ensures) at (copying-goes-on (c .before .before .loop .inv) (c .before .loop-test .taken))
+loop-again c = rw (← c .pair-at .ensures) at (padding-goes-on (c .before .before .loop .inv) (c .before .loop-test .taken))
 
 returns : tie.Need-returns Inv-loop μ-loop
-returns c = key-kept (pairBytes (c .before .before .before .before .args .word .now)) _ (c .before .loop .inv) (c .loop-test .left) (sym (length-pairs (c .before .before .before .before .args .word .now)))
+returns c = key-padded (pairBytes (c .before .before .before .before .args .word .now)) (c .before .loop .inv) (c .loop-test .left) (sym (length-pairs (c .before .before .before .before .args .word .now)))
 
 pub key-in-spec : {M : Type 1} → statement M
 key-in-spec =

@@ -1,12 +1,11 @@
 -- `lines::blank_key` meets its contract.
 use mathlib.Core.Path.{refl}
-use Rattle.entries.specs.Decoded.{keyBytes}
-use Rattle.parse.specs.Kept.{keyIn}
+use Rattle.parse.specs.Kept.{padded, keyFor}
 use Rattle.parse.proofs.lines.blank_key.Statement.{statement}
 use Rattle.parse.proofs.lines.blank_key.Tie as tie
 
 returns : tie.Need-returns
-unfolding keyIn keyBytes
+unfolding keyFor padded
 returns c = refl
 
 pub blank-key-spec : {M : Type 1} → statement M

@@ -1,9 +1,10 @@
 -- `lines::line_of_3` meets its contract: by the first word.
 use borrow.Author.Needs.{needs}
-use mathlib.Core.Path.{sym, _∙_}
+use mathlib.Core.Path.{sym, ap, _∙_}
 use Rattle.model.specs.Text.{bytes}
 use Rattle.model.specs.Parse.{lineOf3}
-use Rattle.parse.proofs.Forms.{no-line, set-line}
+use Rattle.parse.specs.Meaning.{parsed}
+use Rattle.parse.proofs.Forms.{set-line}
 use Rattle.parse.proofs.lines.line_of_3.Statement.{statement}
 use Rattle.parse.proofs.lines.line_of_3.Tie as tie
 
@@ -28,7 +29,7 @@ malformed-requires c κs = search needs
 
 returns-2 : tie.Need-returns-2
 unfolding lineOf3 bytes
-returns-2 c = c .malformed .ensures ∙ sym (no-line (rw (lineOf3, sym (c .before .before .same-word .ensures) ∙ c .before .if1 .left)))
+returns-2 c = c .malformed .ensures ∙ sym (ap parsed (rw (lineOf3, sym (c .before .before .same-word .ensures) ∙ c .before .if1 .left)))
 
 pub line-of-3-spec : {M : Type 1} → statement M
 line-of-3-spec =

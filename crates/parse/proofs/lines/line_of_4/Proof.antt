@@ -1,9 +1,10 @@
 -- `lines::line_of_4` meets its contract: by the first word.
 use borrow.Author.Needs.{needs}
-use mathlib.Core.Path.{sym, _∙_}
+use mathlib.Core.Path.{sym, ap, _∙_}
 use Rattle.model.specs.Text.{bytes}
 use Rattle.model.specs.Parse.{lineOf4}
-use Rattle.parse.proofs.Forms.{no-line, setif-line}
+use Rattle.parse.specs.Meaning.{parsed}
+use Rattle.parse.proofs.Forms.{setif-line}
 use Rattle.parse.proofs.lines.line_of_4.Statement.{statement}
 use Rattle.parse.proofs.lines.line_of_4.Tie as tie
 
@@ -25,7 +26,7 @@ malformed-requires c κs = search needs
 
 returns-2 : tie.Need-returns-2
 unfolding lineOf4 bytes
-returns-2 c = c .malformed .ensures ∙ sym (no-line (rw (lineOf4, sym (c .before .before .same-word .ensures) ∙ c .before .if1 .left)))
+returns-2 c = c .malformed .ensures ∙ sym (ap parsed (rw (lineOf4, sym (c .before .before .same-word .ensures) ∙ c .before .if1 .left)))
 
 pub line-of-4-spec : {M : Type 1} → statement M
 line-of-4-spec =

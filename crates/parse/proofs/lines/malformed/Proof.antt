@@ -1,6 +1,6 @@
 -- `lines::malformed` meets its contract.
 use borrow.Author.Needs.{needs}
-use Rattle.parse.specs.Meaning.{lineFor}
+use Rattle.parse.specs.Meaning.{parsed}
 use Rattle.parse.proofs.lines.malformed.Statement.{statement}
 use Rattle.parse.proofs.lines.malformed.Tie as tie
 
@@ -8,7 +8,7 @@ of-numbers-requires : tie.Need-of-numbers-requires
 of-numbers-requires c κs = search needs
 
 returns : tie.Need-returns
-unfolding lineFor
+unfolding parsed
 returns c = c .of-numbers .ensures
 
 pub malformed-spec : {M : Type 1} → statement M

@@ -1,7 +1,7 @@
 -- `lines::of_numbers` meets its contract.
 use borrow.Author.Needs.{needs}
 use mathlib.Core.Path.{_∙_}
-use Rattle.parse.specs.Kept.{givenIn}
+use Rattle.parse.specs.Kept.{itemFor}
 use Rattle.parse.proofs.lines.of_numbers.Statement.{statement}
 use Rattle.parse.proofs.lines.of_numbers.Tie as tie
 
@@ -18,7 +18,7 @@ of-words-requires : tie.Need-of-words-requires
 of-words-requires c κs = search needs
 
 returns : tie.Need-returns
-unfolding givenIn
+unfolding itemFor
 returns c = c .of-words .ensures ∙ rw (c .before .before .before .blank-key .ensures, c .before .before .absent .ensures, c .before .absent2 .ensures)
 
 pub of-numbers-spec : {M : Type 1} → statement M

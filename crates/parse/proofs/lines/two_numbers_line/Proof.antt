@@ -1,8 +1,8 @@
 -- `lines::two_numbers_line` meets its contract: by the first word.
-use mathlib.Core.Path.{sym, _∙_}
+use mathlib.Core.Path.{sym, ap, _∙_}
 use Rattle.model.specs.Text.{bytes}
-use Rattle.parse.specs.Meaning.{twoNumbersLine}
-use Rattle.parse.proofs.Forms.{no-line, keys-line, timeout-line, cut-line}
+use Rattle.parse.specs.Meaning.{twoNumbersLine, parsed}
+use Rattle.parse.proofs.Forms.{keys-line, timeout-line, cut-line}
 use borrow.Author.Needs.{needs}
 use Rattle.parse.proofs.lines.two_numbers_line.Statement.{statement}
 use Rattle.parse.proofs.lines.two_numbers_line.Tie as tie
@@ -51,7 +51,7 @@ malformed-requires c κs = search needs
 
 returns-4 : tie.Need-returns-4
 unfolding twoNumbersLine bytes
-returns-4 c = c .malformed .ensures ∙ sym (no-line (rw (twoNumbersLine, sym (c .before .before .before .before .before .before .before .before .same-word .ensures) ∙ c .before .before .before .before .before .before .before .if1 .left, sym (c .before .before .before .before .before .same-word2 .ensures) ∙ c .before .before .before .before .if2 .left, sym (c .before .before .same-word3 .ensures) ∙ c .before .if3 .left)))
+returns-4 c = c .malformed .ensures ∙ sym (ap parsed (rw (twoNumbersLine, sym (c .before .before .before .before .before .before .before .before .same-word .ensures) ∙ c .before .before .before .before .before .before .before .if1 .left, sym (c .before .before .before .before .before .same-word2 .ensures) ∙ c .before .before .before .before .if2 .left, sym (c .before .before .same-word3 .ensures) ∙ c .before .if3 .left)))
 
 pub two-numbers-line-spec : {M : Type 1} → statement M
 two-numbers-line-spec =

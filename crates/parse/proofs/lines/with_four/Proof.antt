@@ -1,8 +1,8 @@
 -- `lines::with_four` meets its contract: where the next word ends.
 use borrow.Author.Needs.{needs}
-use mathlib.Core.Path.{sym, _∙_}
+use mathlib.Core.Path.{sym, ap, _∙_}
 use Rattle.model.specs.Parse.{lineOf}
-use Rattle.parse.proofs.Forms.{no-line}
+use Rattle.parse.specs.Meaning.{parsed}
 use Rattle.parse.proofs.Splitting.{words-cut, words-whole, too-many}
 use Rattle.parse.proofs.lines.with_four.Statement.{statement}
 use Rattle.parse.proofs.lines.with_four.Tie as tie
@@ -14,7 +14,7 @@ malformed-requires : tie.Need-malformed-requires
 malformed-requires c κs = search needs
 
 returns : tie.Need-returns
-returns c = c .malformed .ensures ∙ sym (no-line (rw (← words-cut _ (c .before .before .word-end .ensures) (c .before .if1 .taken)) (too-many _ _ _ _ _ _)))
+returns c = c .malformed .ensures ∙ sym (ap parsed (rw (← words-cut _ (c .before .before .word-end .ensures) (c .before .if1 .taken)) (too-many _ _ _ _ _ _)))
 
 line-of-4-requires : tie.Need-line-of-4-requires
 line-of-4-requires c κs = search needs

@@ -14,8 +14,8 @@ returns c = rw (gone, le-leb _ _ (c .if1 .taken))
 returns-2 : tie.Need-returns-2
 unfolding gone flagIn
 returns-2 c =
-    let a = c .before .before .before .before .before .args in
-    let here : a .x .server < a .c .servers = omega (arith, c .before .before .if1 .left) in
+    let a = c .before .before .before .before .before .before .args in
+    let here : a .x .asked .receiver < a .c .servers = omega (arith, c .before .before .if1 .left) in
     rw (gone, flagIn, lt-leb _ _ here)
 
 pub is-gone-spec : {M : Type 1} → statement M

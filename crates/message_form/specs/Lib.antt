@@ -1,0 +1,3 @@
+-- Messages in flight as datagrams.
+pub mod Statement
+pub mod Example

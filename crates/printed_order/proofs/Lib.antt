@@ -1,0 +1,2 @@
+-- Why what is written is in one order.
+pub mod Theorem

@@ -1,0 +1,2 @@
+-- What the contracts of `tally` cite.
+pub mod Sums

@@ -1,0 +1,6 @@
+//! Names that documents give in backquotes, looked up in the repository: files,
+//! must-fail edits, crates, and what their text defines.
+
+pub mod definitions;
+pub mod documents;
+pub mod repository;
