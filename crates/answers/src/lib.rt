@@ -1,11 +1,16 @@
-// The answers of a step in 32 lent words, in blocks of four: the call's number, its result and its rounds.
+// The answers of a step in lent words, in blocks of four: the call's number, its result and its rounds.
+use memory::ANSWER;
 use moves::Move;
 use open_calls::ended;
 use records::slots::load_call;
 use server::Answer;
 use server::Call;
+use server::codes::GET;
+use server::codes::KEYS;
+use server::codes::NO_RESULT;
 ghost use mathlib.Core.Path.{_≡_};
 ghost use Prim.Native.Nat.{_<_, _≤_};
+ghost use Rattle.model.specs.Measures.{maxBuckets, mostAnswers};
 ghost use Rattle.memory.specs.Layout.{serverRoom, slotRoom};
 ghost use Rattle.server.specs.Views.{among};
 ghost use Rattle.views.specs.Changes.{putAnswer, endedCalls, answered};
@@ -13,10 +18,10 @@ ghost use Rattle.answers.specs.Answers.{EndedCall, Listed};
 
 // Answer i.
 fn put_answer(answers: &mut [u32; 32], i: usize, a: Answer)
-    requires { ⌜ i < 8 ⌝ }
+    requires { ⌜ i < mostAnswers ⌝ }
     ensures { λ _. ⌜ now (answers .exit) ≡ putAnswer (now (answers .entry)) i a ⌝ }
 {
-    let p = i * 4;
+    let p = i * ANSWER;
     answers[p + 0] = a.call;
     answers[p + 1] = a.result;
     answers[p + 2] = a.rounds;
@@ -25,15 +30,15 @@ fn put_answer(answers: &mut [u32; 32], i: usize, a: Answer)
 fn is_taken(c: Call) -> bool
     ensures { λ r. ⌜ r ≡ among 5 (c .kind) ⌝ }
 {
-    if c.kind < 1 {
+    if c.kind < GET {
         return false;
     }
-    c.kind <= 5
+    c.kind <= KEYS
 }
 
 // The call of slot k ends, where one is open; `count` answers were written before.
 fn end_call(answers: &mut [u32; 32], slots: &[u32; 1792], k: usize, count: usize) -> usize
-    requires { ⌜ (k < slotRoom) × (count < 8) ⌝ }
+    requires { ⌜ (k < slotRoom) × (count < mostAnswers) ⌝ }
     ensures { λ r. ⌜ EndedCall (now (slots .entry)) k (now (answers .entry)) count (now (answers .exit)) r ⌝ }
 {
     let c = load_call(slots, k);
@@ -46,7 +51,7 @@ fn end_call(answers: &mut [u32; 32], slots: &[u32; 1792], k: usize, count: usize
 
 // The open calls of server s end, in bucket order.
 fn end_calls(answers: &mut [u32; 32], slots: &[u32; 1792], s: usize, most: usize) -> u32
-    requires { ⌜ (s < serverRoom) × (most ≤ 8) ⌝ }
+    requires { ⌜ (s < serverRoom) × (most ≤ maxBuckets) ⌝ }
     ensures { λ r. ⌜ Listed (endedCalls (now (slots .entry)) s most (now (answers .entry))) (now (answers .exit)) r ⌝ }
 {
     let mut count = 0;
@@ -61,7 +66,7 @@ fn end_calls(answers: &mut [u32; 32], slots: &[u32; 1792], s: usize, most: usize
 // What a move answers: the call of its slot, or all open calls where leading ends, unless they are forgotten. The slots are those before
 // the move.
 pub fn answer(answers: &mut [u32; 32], slots: &[u32; 1792], s: usize, most: usize, v: Move) -> u32
-    requires { ⌜ (s < serverRoom) × (most ≤ 8) ⌝ }
+    requires { ⌜ (s < serverRoom) × (most ≤ maxBuckets) ⌝ }
     ensures { λ r. ⌜ Listed (answered (now (slots .entry)) most s v (now (answers .entry))) (now (answers .exit)) r ⌝ }
 {
     let a = v.answer;
@@ -71,7 +76,7 @@ pub fn answer(answers: &mut [u32; 32], slots: &[u32; 1792], s: usize, most: usiz
         }
         return end_calls(answers, slots, s, most);
     }
-    if a.result == 0 {
+    if a.result == NO_RESULT {
         return 0;
     }
     put_answer(answers, 0, a);

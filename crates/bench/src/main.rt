@@ -10,6 +10,7 @@ use runs::Tally;
 use tally::sum;
 ghost use Prim.Native.Nat.{_<_, _≤_};
 ghost use mathlib.Core.Path.{_≡_};
+ghost use Rattle.tally.specs.Sums.{tallySum};
 
 // Where the run stands: the tally, where the block ends and how many of its bytes are left, how many turns may follow (none where it
 // stops), and whether the input is at its end.
@@ -78,7 +79,9 @@ fn write_out(out: &[u8], n: usize) -> bool {
 }
 
 // The tally with what a part adds to it.
-fn tally_with(s: Place, a: Answer) -> Tally {
+fn tally_with(s: Place, a: Answer) -> Tally
+    ensures { λ r. ⌜ r ≡ tallySum (s .tally) (a .change) ⌝ }
+{
     let tally = s.tally;
     let change = a.change;
     sum(tally, change)

@@ -19,7 +19,7 @@ use Rattle.bucket.specs.declared.Reading.{Reading}
 
 -- ---- the numbers of the answers
 
--- document 01's refusal; 0 where nothing is refused
+-- the refusal (RULES, Refusals 3); 0 where nothing is refused
 unfoldable pub outcomeNumber : Outcome → ℕ
 outcomeNumber Accepted = 0
 outcomeNumber Malformed = 13

@@ -9,13 +9,13 @@ ghost use lib.ListN.{length, take};
 ghost use Rattle.table.specs.Form.{sameBytes};
 ghost use Rattle.bucket.specs.Answers.{answer, writtenNumber, Empty, Read, Refused, writeOf};
 
-// Whether bucket bytes are taken. Document 01's number for each case is `outcomeNumber`.
+// Whether bucket bytes are taken (RULES, Bucket bytes 4). The refusal of each case is `outcomeNumber`.
 pub enum Outcome {
     Accepted,
     Malformed,
 }
 
-// Whether a table was written. Document 01's number for each case is `writtenNumber`.
+// Whether a table was written. The refusal of each case is `writtenNumber`.
 pub enum Written {
     Accepted,
     Malformed,

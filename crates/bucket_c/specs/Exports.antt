@@ -39,7 +39,7 @@ tableFrom n h l = record { count = n; slots = slotFrom h l 0 ∷ (slotFrom h l 1
 unfoldable pub writtenOut : ℕ → List ℕ → List ℕ → Answer
 writtenOut n w out = elim (leb (length w) (length out)) [ false ↦ answer 115 out | true ↦ answer n (w ++ drop (length w) out) ]
 
--- an absent key is no refusal: its number is above those of documents 01 and 02, and no length of a value
+-- an absent key is no refusal: its number is above those of all refusals, and no length of a value
 abbrev pub absentNumber : ℕ
 absentNumber = 254
 

@@ -26,7 +26,7 @@ ghost use Rattle.bucket.specs.Answers.{answer, outcomeNumber, writtenNumber, wr
 ghost use Rattle.bucket_calls.specs.Answers.{changeNumber, putOf, removeOf, keysIn};
 ghost use Rattle.bucket_c.specs.Exports.{keyFrom, valueFrom, slotFrom, tableFrom, writtenOut, getOf, keysBytes, keysOut};
 
-// `full` and an absent key are no refusals: their numbers are above those of documents 01 and 02.
+// `full` and an absent key are no refusals: their numbers are above those of all refusals.
 const FULL: u32 = 255;
 
 const ABSENT: u32 = 254;

@@ -44,11 +44,11 @@ pub record TrimmedItem (i r : Item) : Type 0 where
 
 -- ---- changing
 
--- `full` is no refusal: its number is above those of documents 01 and 02, which end at 20
+-- `full` is no refusal: its number is above those of all refusals
 abbrev pub fullNumber : ℕ
 fullNumber = 255
 
--- 0 for `done`, and document 01's refusal 13
+-- 0 for `done`, and refusal 13
 unfoldable pub changeNumber : Change → ℕ
 changeNumber Done = 0
 changeNumber Full = fullNumber

@@ -56,17 +56,17 @@ module _ (n : ℕ) (log : Log) (p : ℕ) where
   role-open st w leading h b c e = open-bucket (st .number) b (copyAt st b) (roundAt w b) c (rw e at (h .4 b))
 
   -- a follower is idle, whatever its vote
-  role-rests : (st : Stored) (w : Volatile) (r : Role) → RoleOk n log p st w r → acts r ≡ false → Idle w
+  idle-unless-acting : (st : Stored) (w : Volatile) (r : Role) → RoleOk n log p st w r → acts r ≡ false → Idle w
   unfolding acts
-  role-rests st w follower h e = h
-  role-rests st w candidate h e = h .0
-  role-rests st w leading h e = let z : _≡_ {A = ℕ} 0 1 = cc in absurd (omega arith)
+  idle-unless-acting st w follower h e = h
+  idle-unless-acting st w candidate h e = h .0
+  idle-unless-acting st w leading h e = let z : _≡_ {A = ℕ} 0 1 = cc in absurd (omega arith)
 
-  rests-role : (st : Stored) (w : Volatile) (r : Role) → Idle w → acts r ≡ false → RoleOk n log p st w r
+  role-of-the-idle : (st : Stored) (w : Volatile) (r : Role) → Idle w → acts r ≡ false → RoleOk n log p st w r
   unfolding acts
-  rests-role st w follower h e = h
-  rests-role st w candidate h e = let z : _≡_ {A = ℕ} 0 1 = cc in absurd (omega arith)
-  rests-role st w leading h e = let z : _≡_ {A = ℕ} 0 1 = cc in absurd (omega arith)
+  role-of-the-idle st w follower h e = h
+  role-of-the-idle st w candidate h e = let z : _≡_ {A = ℕ} 0 1 = cc in absurd (omega arith)
+  role-of-the-idle st w leading h e = let z : _≡_ {A = ℕ} 0 1 = cc in absurd (omega arith)
 
 -- a server that agrees with the log, seen so
 pub as-unsettled : {n buckets : ℕ} {log : Log} {p : ℕ} {s : Server} → ServerOk n buckets log p s → Unsettled n buckets log p s
@@ -76,7 +76,7 @@ as-unsettled {n} {log = log} {p} {s} h =
       stored = h .stored;
       calls = role-open n log p (s .stored) (s .volatile) (s .volatile .role) (h .role);
       role = λ l. h .role;
-      resting = role-rests n log p (s .stored) (s .volatile) (s .volatile .role) (h .role);
+      resting = idle-unless-acting n log p (s .stored) (s .volatile) (s .volatile .role) (h .role);
     }
 
 -- ---- the log with the ends of a list of calls
@@ -204,7 +204,7 @@ module _ (n buckets now taken p : ℕ) (log : Log) (ok : LogOk n now taken log) 
   pub step-down-kept : Kept n buckets now taken p log (stepDown s)
   step-down-kept =
       step-down-cases s (Kept n buckets now taken p log) (λ e f. cease-kept) (λ f. stays (agrees .role (ltb-false _ _ f)))
-      (λ e. stays (rests-role n log p (s .stored) (s .volatile) (s .volatile .role) (agrees .resting e) e))
+      (λ e. stays (role-of-the-idle n log p (s .stored) (s .volatile) (s .volatile .role) (agrees .resting e) e))
     where
       stays : RoleOk n log p (s .stored) (s .volatile) (s .volatile .role) → Kept n buckets now taken p log (noReaction s)
       stays h = unmoved ok (record { shape = agrees .shape; stored = agrees .stored; role = h }) [] (λ m k. none-in k)

@@ -11,7 +11,6 @@ use native.Mathlib.Numerals.{add-one}
 use native.Mathlib.Decide.{ℕ-discrete}
 use borrow.Author.Tests.{eqb-true, eqb-false}
 use Rattle.entries.specs.Entries.{Entry}
-use Rattle.model.specs.Measures.{majority}
 use Rattle.model.specs.Calls.{Result, done, Effect, answers, writes, effect}
 use Rattle.model.specs.Cluster.{Version, version, above, Copy, copyAt, Purpose, recoveryRead, recoveryWrite, check, ownWrite, Round, Call, roundAt, callAt, Server}
 use Rattle.model.specs.Replica.{reading, writing, requestBody, accepting}
@@ -19,7 +18,7 @@ use Rattle.model.specs.Leader.{Reaction, isOwn, reportTo, newRound, closes, ope
 use Rattle.model.proofs.FirstRound.{first-round}
 use Rattle.history.specs.Members.{_∈_, first-in, none-in, each-cons}
 use Rattle.history.specs.Version.{_≼_, _≺_, lt-of-le-lt}
-use Rattle.history.specs.Quorum.{Majority}
+use Rattle.consistency.specs.Majorities.{MajorityOf}
 use Rattle.consistency.specs.Log.{Write, Opened, Check, Log}
 use Rattle.consistency.specs.Claims.{Holds, first, later, Chosen, Reported, MessageOk}
 use Rattle.consistency.specs.Claims
@@ -187,7 +186,7 @@ module _ (n buckets now taken p b : ℕ) where
     pub at : opened .at ≡ x
     pub after : line ≤ opened .line
     pub members : List ℕ
-    pub most : Majority n (majority n) members
+    pub most : MajorityOf n members
     pub confirmed : (q : ℕ) → q ∈ members → (r : Version) × Reported log q b (opened .election) (opened .number) r
 
   module _ {log : Log} (ok : LogOk n now taken log) {c : Call} {s : Server} (h : Settled log c s) (k : Checked log c (copyAt (s .stored) b .version)) where
@@ -315,7 +314,7 @@ module _ (n buckets now taken p b : ℕ) where
     pub below : u .election ≤ s .stored .number
     pub round : ℕ
     pub members : List ℕ
-    pub most : Majority n (majority n) members
+    pub most : MajorityOf n members
     pub reported : (q : ℕ) → q ∈ members → (r : Version) × Reported log q b (s .stored .number) round r × (r ≼ u)
 
   -- a call on a bucket that is not recovered

@@ -6,10 +6,9 @@ use mathlib.Core.List.{List, []}
 use mathlib.Core.Bool.{Bool, true, false}
 use Prim.Native.Nat.{ℕ, _≤_, _<_}
 use Rattle.entries.specs.Entries.{Entry}
-use Rattle.model.specs.Measures.{majority}
 use Rattle.model.specs.Cluster.{Version, version, Purpose, recoveryRead, recoveryWrite, check, ownWrite, Body, pleaseVote, ackVote, nackVote, replicaWrite, ackWrite, nackWrite, replicaRead, ackRead, nackRead, Message}
 use Rattle.history.specs.Members.{_∈_}
-use Rattle.history.specs.Quorum.{Majority}
+use Rattle.consistency.specs.Majorities.{MajorityOf}
 use Rattle.consistency.specs.Log.{Win, Write, Opened, Log}
 
 -- p won the election e
@@ -28,7 +27,7 @@ pub data Holds (log : Log) (b : ℕ) (x : Version) (t : List Entry) : Type 0 whe
 pub data Chosen (n : ℕ) (log : Log) (b : ℕ) (x : Version) : Type 0 where
   first : x ≡ version 0 0 → Chosen n log b x
   quorum :
-      (l : List ℕ) → Majority n (majority n) l →
+      (l : List ℕ) → MajorityOf n l →
       ((q : ℕ) → q ∈ l → record { server = q; bucket = b; at = x } ∈ log .accepts) →
       Chosen n log b x
 

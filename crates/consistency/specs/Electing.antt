@@ -16,7 +16,8 @@ use Rattle.model.specs.Replica.{voting}
 use Rattle.model.specs.Leader.{noReaction, withStored, withVolatile, broadcast, ceased, cease, votesFor, standing, nextNumber, raisedTo, elect, onAckVote}
 use Rattle.model.proofs.Elections.{above-the-number, above-the-vote, stood, always-stands}
 use Rattle.history.specs.Members.{_∈_, first-in, none-in, each-cons}
-use Rattle.history.specs.Quorum.{count, marked, quorum-of, quorum-marked}
+use Rattle.history.specs.Quorum.{count}
+use Rattle.consistency.specs.Majorities.{passing, passing-majority, passing-passes}
 use Rattle.consistency.specs.Log.{Win, Write, Log}
 use Rattle.consistency.specs.Claims.{Won, Holds, later, Chosen, BodyOk, MessageOk}
 use Rattle.consistency.specs.Claims
@@ -61,13 +62,13 @@ pub record MayStand (n buckets : ℕ) (log : Log) (p : ℕ) (s : Server) (votes 
 
 module _ (n buckets now taken p : ℕ) (log : Log) (ok : LogOk n now taken log) (s : Server) (votes : List Bool) (h : MayStand n buckets log p s votes) where
   abbrev theWin : Win
-  theWin = record { election = s .stored .number; leader = p; members = marked (λ x. x) votes; line = now }
+  theWin = record { election = s .stored .number; leader = p; members = passing (λ x. x) votes; line = now }
 
   win-fact : majority n ≤ votesFor votes → LogOk n now taken (addWin theWin log)
   win-fact most =
       win-added ok theWin refl
-      (quorum-of (λ x. x) n (majority n) votes (omega (arith, h .each)) (omega (arith, votes-counted votes)))
-      (λ q m. h .had q (quorum-marked (λ x. x) votes q m false))
+      (passing-majority (λ x. x) n votes (omega (arith, h .each)) (omega (arith, votes-counted votes)))
+      (λ q m. h .had q (passing-passes (λ x. x) votes q m false))
 
   win-stored : StoredOk (addWin theWin log) p (s .stored)
   win-stored =

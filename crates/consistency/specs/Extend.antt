@@ -6,11 +6,10 @@ use mathlib.Core.Option.{some}
 use Prim.Native.Nat.{ℕ, suc, _≤_, _<_}
 use native.Mathlib.Omega.{arith}
 use Rattle.entries.specs.Entries.{Entry}
-use Rattle.model.specs.Measures.{majority}
 use Rattle.model.specs.Cluster.{Version, check}
 use Rattle.history.specs.Members.{_∈_, each-cons}
 use Rattle.history.specs.Version.{_≼_}
-use Rattle.history.specs.Quorum.{Majority}
+use Rattle.consistency.specs.Majorities.{MajorityOf}
 use Rattle.consistency.specs.Log.{Vote, Win, Write, Accept, Report, Opened, Check, Begun, Ended, Log}
 use Rattle.consistency.specs.Claims.{Won, Holds, later, Reported}
 use Rattle.consistency.specs.Claims
@@ -124,7 +123,7 @@ module _ {n now taken : ℕ} {log : Log} (ok : LogOk n now taken log) where
         time = time-stays same same same same same (ok .time);
       }
 
-  pub win-added : (x : Win) → x .line ≡ now → Majority n (majority n) (x .members)
+  pub win-added : (x : Win) → x .line ≡ now → MajorityOf n (x .members)
       → ((q : ℕ) → q ∈ x .members → record { server = q; election = x .election; leader = x .leader } ∈ log .votes)
       → LogOk n now taken (addWin x log)
   win-added x line most votes =
@@ -372,7 +371,7 @@ module _ {n now taken : ℕ} {log : Log} (ok : LogOk n now taken log) where
       }
 
   -- a check that a majority confirmed
-  pub check-added : (x : Check) → Majority n (majority n) (x .members)
+  pub check-added : (x : Check) → MajorityOf n (x .members)
       → (o : Opened) → o ∈ log .rounds → o .purpose ≡ check → o .bucket ≡ x .bucket → o .at ≡ x .at → o .line ≡ x .line
       → ((q : ℕ) → q ∈ x .members → (r : Version) × Reported log q (x .bucket) (o .election) (o .number) r)
       → LogOk n now taken (addCheck x log)

@@ -1,4 +1,4 @@
--- Calls that are never answered (document 02, Change 8): a call that is open at a stopped server is answered neither before nor later.
+-- Calls that are never answered (RULES, Restarts 4): a call that is open at a stopped server is answered neither before nor later.
 -- Such are the calls that a server has open when it is started: the start empties their slots and prints nothing.
 use mathlib.Core.Path.{_≡_, refl, sym, _∙_, ap, subst, subst⁻¹}
 use mathlib.Core.Logic.{_⊎_, inl, inr, _≢_}

@@ -8,17 +8,15 @@ use native.Mathlib.Omega.{arith}
 use native.Mathlib.Decide.{decLe}
 use lib.ListN.{length, take}
 use Rattle.entries.specs.Entries.{Entry}
-use Rattle.model.specs.Measures.{majority}
 use Rattle.model.specs.Calls.{done, notdone, unknown, answers, effect}
 use Rattle.model.specs.Cluster.{Version, copyAt, Cluster}
 use Rattle.model.specs.Lines.{initialState}
 use Rattle.model.specs.Run.{stateAfter}
 use Rattle.history.specs.Members.{_∈_, none-in, clash}
 use Rattle.history.specs.Version.{_≼_}
-use Rattle.history.specs.Quorum.{Majority}
 use Rattle.history.specs.Freshness.{fresh}
+use Rattle.consistency.specs.Majorities.{MajorityOf, quorums}
 use Rattle.consistency.specs.Statement.{Begin, End, begins, ends, OneOrder}
-use Rattle.consistency.specs.Majorities.{quorums}
 use Rattle.consistency.specs.Log.{Win, Write, Check, Ended, Log}
 use Rattle.consistency.specs.Claims.{Holds, first, later}
 use Rattle.consistency.specs.Invariant.{Unwritten, EndOk, undone, unsure, by-write, by-check}
@@ -45,7 +43,7 @@ pub record Fresh (n : ℕ) (log : Log) (bs : List Begin) (y : End) : Type 0 wher
   pub bucket : check .bucket ≡ call .bucket
   pub after : call .line ≤ check .line
   pub before : check .line ≤ y .line
-  pub confirmed : Majority n (majority n) (check .members)
+  pub confirmed : MajorityOf n (check .members)
   pub unbeaten : (x : Win) → x ∈ log .wins → check .at .election < x .election → check .line ≤ x .line
   pub newest : (w : Write) → w ∈ log .writes → w .bucket ≡ call .bucket → w .line < check .line → w .at ≼ check .at
   pub table : List Entry

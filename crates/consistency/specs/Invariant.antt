@@ -9,12 +9,11 @@ use Prim.Native.Nat.{ℕ, suc, _≤_, _<_}
 use native.Mathlib.Omega.{arith}
 use lib.ListN.{length, getD}
 use Rattle.entries.specs.Entries.{Entry}
-use Rattle.model.specs.Measures.{majority}
 use Rattle.model.specs.Calls.{done, notdone, unknown, answers, writes, effect}
 use Rattle.model.specs.Cluster.{Version, version, Copy, Stored, copyAt, Role, follower, candidate, leading, Purpose, recoveryRead, recoveryWrite, check, ownWrite, Mark, silent, acknowledged, Round, Call, Volatile, roundAt, callAt, Server}
 use Rattle.history.specs.Members.{_∈_}
 use Rattle.history.specs.Version.{_≼_}
-use Rattle.history.specs.Quorum.{Majority}
+use Rattle.consistency.specs.Majorities.{MajorityOf}
 use Rattle.consistency.specs.Log.{Vote, Win, Write, Accept, Report, Opened, Check, Begun, Ended, Log}
 use Rattle.consistency.specs.Claims.{Won, Holds, Chosen, Reported, Accepted}
 
@@ -30,7 +29,7 @@ Unended log i = (x : Ended) → x ∈ log .ends → x .number ≡ i → ⊥
 pub record VoteFacts (n : ℕ) (log : Log) : Type 0 where
   -- one vote for each server and number
   pub one-vote : (x y : Vote) → x ∈ log .votes → y ∈ log .votes → x .server ≡ y .server → x .election ≡ y .election → x .leader ≡ y .leader
-  pub quorate : (x : Win) → x ∈ log .wins → Majority n (majority n) (x .members)
+  pub quorate : (x : Win) → x ∈ log .wins → MajorityOf n (x .members)
   pub voted : (x : Win) → x ∈ log .wins → (q : ℕ) → q ∈ x .members → record { server = q; election = x .election; leader = x .leader } ∈ log .votes
 
 -- what a write makes of the table it comes from
@@ -50,7 +49,7 @@ pub record Origin (log : Log) (w : Write) : Type 0 where
 pub data Succeeds (n : ℕ) (log : Log) (w : Write) : Type 0 where
   recovers :
       w .at .counter ≡ 1 → w .parent .election < w .at .election →
-      (l : List ℕ) → Majority n (majority n) l → (k : ℕ) →
+      (l : List ℕ) → MajorityOf n l → (k : ℕ) →
       ((q : ℕ) → q ∈ l → (r : Version) × Reported log q (w .bucket) (w .at .election) k r × (r ≼ w .parent)) →
       Succeeds n log w
   follows : w .parent .election ≡ w .at .election → w .at .counter ≡ suc (w .parent .counter) → 1 ≤ w .parent .counter → Succeeds n log w
@@ -102,7 +101,7 @@ pub record CallFacts (n : ℕ) (log : Log) : Type 0 where
   -- a check that answered a call is a checking round, confirmed by a majority
   pub confirmed :
       (c : Check) → c ∈ log .checks →
-      Majority n (majority n) (c .members)
+      MajorityOf n (c .members)
       × (o : Opened) × (o ∈ log .rounds) × (o .purpose ≡ check) × (o .bucket ≡ c .bucket) × (o .at ≡ c .at) × (o .line ≡ c .line)
       × ((q : ℕ) → q ∈ c .members → (r : Version) × Reported log q (c .bucket) (o .election) (o .number) r)
 

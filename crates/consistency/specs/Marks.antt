@@ -6,11 +6,11 @@ use Prim.Native.Nat.{ℕ}
 use native.Mathlib.Omega.{arith}
 use lib.ListN.{length, getD}
 use borrow.Author.Tests.{leb-true}
-use Rattle.model.specs.Measures.{majority}
 use Rattle.model.specs.Cluster.{Version, Mark, silent, acknowledged, refused, Round}
 use Rattle.model.specs.Leader.{acknowledgements, closes}
 use Rattle.history.specs.Members.{_∈_}
-use Rattle.history.specs.Quorum.{Majority, count, marked, quorum-of, quorum-marked}
+use Rattle.history.specs.Quorum.{count}
+use Rattle.consistency.specs.Majorities.{MajorityOf, passing, passing-majority, passing-passes}
 use Rattle.consistency.specs.Log.{Log}
 use Rattle.consistency.specs.Claims.{Chosen, quorum}
 use Rattle.consistency.specs.Invariant.{MarksAccepted}
@@ -34,16 +34,16 @@ is-acknowledged refused e = cc
 
 -- who acknowledged
 pub acknowledgers : Round → List ℕ
-acknowledgers r = marked isAck (r .marks)
+acknowledgers r = passing isAck (r .marks)
 
 module _ (n : ℕ) (r : Round) (size : length (r .marks) ≡ n) (shut : closes n r ≡ true) where
-  pub closed-majority : Majority n (majority n) (acknowledgers r)
+  pub closed-majority : MajorityOf n (acknowledgers r)
   unfolding acknowledgers closes
-  closed-majority = quorum-of isAck n (majority n) (r .marks) (omega arith) (rw (← acknowledged-count (r .marks)) (leb-true _ _ shut))
+  closed-majority = passing-majority isAck n (r .marks) (omega arith) (rw (← acknowledged-count (r .marks)) (leb-true _ _ shut))
 
   pub closed-marked : (q : ℕ) → q ∈ acknowledgers r → getD (r .marks) q silent ≡ acknowledged
   unfolding acknowledgers
-  closed-marked q m = is-acknowledged _ (quorum-marked isAck (r .marks) q m silent)
+  closed-marked q m = is-acknowledged _ (passing-passes isAck (r .marks) q m silent)
 
   -- a writing round that closes leaves its version chosen
   pub closed-chosen : {log : Log} (b : ℕ) (x : Version) → MarksAccepted log b x (r .marks) → Chosen n log b x

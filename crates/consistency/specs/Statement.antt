@@ -23,7 +23,7 @@ infix 4 _∈_
 abbrev pub _∈_ : {A : Type 0} → A → List A → Type 0
 a ∈ l = List·Memᴰ a l
 
--- ---- the plain table (document 01, 'The plain table of demand 3', with document 02's Change 2): entries in any order, one for each
+-- ---- the plain table (RULES, Plain table): entries in any order, one for each
 -- key, at first none
 
 -- whether two lists have the same bytes

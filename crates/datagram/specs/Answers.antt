@@ -15,7 +15,7 @@ use Rattle.datagram.specs.declared.Written.{Written}
 use Rattle.datagram.specs.declared.Written.the-variants as written
 use Rattle.fields.specs.Form.{Datagram, version, Parsed, taken, refused, carries, writeDatagram}
 
--- ---- the numbers of the answers: document 01's refusal, 0 where nothing is refused
+-- ---- the numbers of the answers: the refusal (RULES, Refusals 3), 0 where nothing is refused
 
 unfoldable pub outcomeNumber : Outcome → ℕ
 outcomeNumber Accepted = 0

@@ -21,14 +21,14 @@ ghost use Rattle.bucket.specs.Answers.{answer};
 ghost use Rattle.fields.specs.Form.{version, carries, wellFormed, fullBytes, headed, versionIn, checked, readDatagram};
 ghost use Rattle.datagram.specs.Answers.{writtenNumber, meant, StandsFor, Refused, Made, writeOf};
 
-// Whether bytes are taken. Document 01's number for each case is `outcomeNumber`.
+// Whether bytes are taken (RULES, Datagrams 7). The refusal of each case is `outcomeNumber`.
 pub enum Outcome {
     Accepted,
     BadBucket,
     BadDatagram,
 }
 
-// Whether a datagram was written. Document 01's number for each case is `writtenNumber`.
+// Whether a datagram was written (RULES, Datagrams 8). The refusal of each case is `writtenNumber`.
 pub enum Written {
     Accepted,
     BadBucket,

@@ -10,6 +10,12 @@ use entries::slots::find;
 use entries::slots::store;
 use server::Effect;
 use server::Words;
+use server::codes::ABSENT;
+use server::codes::FULL;
+use server::codes::LISTED;
+use server::codes::MISMATCH;
+use server::codes::NO_RESULT;
+use server::codes::VALUE;
 ghost use mathlib.Core.Path.{_≡_};
 ghost use Prim.Native.Nat.{ℕ};
 ghost use Rattle.entries.specs.Decoded.{keyBytes, valueBytes, itemIn, tableIn};
@@ -63,13 +69,13 @@ fn getting(k: Key, t: Decoded) -> Effect
     let value = found.value;
     if found.there {
         return Effect {
-            result: 1,
+            result: VALUE,
             value,
             table: t,
         };
     }
     Effect {
-        result: 8,
+        result: ABSENT,
         value,
         table: t,
     }
@@ -81,7 +87,7 @@ fn listing(t: Decoded) -> Effect
 {
     let value = empty_value();
     Effect {
-        result: 2,
+        result: LISTED,
         value,
         table: t,
     }
@@ -96,13 +102,13 @@ pub fn setting(k: Key, v: Item, t: Decoded) -> Effect
     let table = s.table;
     if s.full {
         return Effect {
-            result: 5,
+            result: FULL,
             value,
             table,
         };
     }
     Effect {
-        result: 0,
+        result: NO_RESULT,
         value,
         table,
     }
@@ -118,7 +124,7 @@ fn setting_if(k: Key, e: Item, v: Item, t: Decoded) -> Effect
     }
     let value = empty_value();
     Effect {
-        result: 4,
+        result: MISMATCH,
         value,
         table: t,
     }

@@ -1,5 +1,5 @@
 -- A table: keys with their values, in rising order of key bytes. Keys and values are lists of bytes.
--- A value may have no bytes (document 02, Change 2): `none` means that the key is absent.
+-- A value may have no bytes (RULES, Keys 4): `none` means that the key is absent.
 use mathlib.Core.List.{List, [], _∷_, map}
 use mathlib.Core.Bool.{Bool, true, false}
 use mathlib.Core.Option.{Option, none, some}

@@ -14,12 +14,13 @@ use Rattle.runs.specs.Meaning.{tallyIn}
 use Rattle.input.specs.Reading.{fed, fedText, lastRead, lastText, finished, finishedText}
 use Rattle.input.proofs.Whole.{last-is-fed}
 use Rattle.progress.specs.declared.Progress.{Progress}
-use Rattle.progress.specs.Progress.{lineRoom, lastFeed}
+use Rattle.print.specs.Room.{lineRoom, tallyRoom}
+use Rattle.progress.specs.Progress.{lastFeed}
 use Rattle.progress.proofs.Feeds.{feeds-none, feeds-one}
 use Rattle.lines.specs.Sessions.{Held, held, Session, session, presentLine, readingIn}
 use Rattle.lines.specs.Feeding.{Fed, PartFed}
 use Rattle.lines.proofs.Advancing.{written-on}
-use Rattle.feed.specs.Entry.{sessionIn, MeasuredIn, SessionFed, Finished, Finishes}
+use Rattle.feed.specs.Entry.{sessionIn, MeasuredIn, SessionFed, finishRoom, Finished, Finishes}
 use Rattle.feed.proofs.Feeding.{Ready, fed-means, part-takes}
 
 -- ---- the three words of a reader
@@ -118,23 +119,23 @@ few-written : (w : Session) (input out : List ℕ) (v : Session) (part : List �
 few-written w input out v part taken written k z = omega (arith, k .count, simp length-append at (ap length (k .wrote)))
 
 -- behind what a line prints there is room for the tally
-pub tally-fits : (w : Session) (input out : List ℕ) (v : Session) (part : List ℕ) (taken written : ℕ) → 1088 ≤ length out → PartFed w input (take 1024 out) v part taken written → length part ≡ length (take 1024 out) → written + 64 ≤ length (part ++ drop 1024 out)
+pub tally-fits : (w : Session) (input out : List ℕ) (v : Session) (part : List ℕ) (taken written : ℕ) → finishRoom ≤ length out → PartFed w input (take lineRoom out) v part taken written → length part ≡ length (take lineRoom out) → written + tallyRoom ≤ length (part ++ drop lineRoom out)
 tally-fits w input out v part taken written h k z =
-    rw (length-front out part 1024 z) (omega (arith, few-written w input (take 1024 out) v part taken written k z, length-take-le 1024 out (omega arith)))
+    rw (length-front out part lineRoom z) (omega (arith, few-written w input (take lineRoom out) v part taken written k z, length-take-le lineRoom out (omega arith)))
 
-finished-told : (w : Session) (out : List ℕ) (v : Session) (part : List ℕ) (taken written : ℕ) (out′ : List ℕ) (r : ℕ) → length (w .held .bytes) ≡ 121 → 1088 ≤ length out
-    → PartFed w (lastFeed (w .held .count)) (take 1024 out) v part taken written → length part ≡ length (take 1024 out)
-    → Printed (tallyText (tallyIn (v .tally))) (part ++ drop 1024 out) written out′ r → Finished w out v out′ r
+finished-told : (w : Session) (out : List ℕ) (v : Session) (part : List ℕ) (taken written : ℕ) (out′ : List ℕ) (r : ℕ) → length (w .held .bytes) ≡ 121 → finishRoom ≤ length out
+    → PartFed w (lastFeed (w .held .count)) (take lineRoom out) v part taken written → length part ≡ length (take lineRoom out)
+    → Printed (tallyText (tallyIn (v .tally))) (part ++ drop lineRoom out) written out′ r → Finished w out v out′ r
 unfolding finishedText
 finished-told w out v part taken written out′ r s h k z p =
     let x = k .text in
-    let mid = part ++ drop 1024 out in
+    let mid = part ++ drop lineRoom out in
     let y = tallyText (tallyIn (v .tally)) in
-    let room : length (take 1024 out) ≡ 1024 = length-take-le 1024 out (omega arith) in
-    let few : length x ≤ 1024 = omega (arith, k .count, few-written w (lastFeed (w .held .count)) (take 1024 out) v part taken written k z) in
+    let room : length (take lineRoom out) ≡ lineRoom = length-take-le lineRoom out (omega arith) in
+    let few : length x ≤ lineRoom = omega (arith, k .count, few-written w (lastFeed (w .held .count)) (take lineRoom out) v part taken written k z) in
     let fits : Fed w lineRoom (lastFeed (w .held .count)) x v =
-    subst (λ (l : List ℕ). Fed w lineRoom l x v) (all-taken w (w .held .count) (take 1024 out) v part taken written (omega arith) k) (subst (λ (n : ℕ). Fed w n (take taken (lastFeed (w .held .count))) x v) room (k .feeds)) in
-    let a : part ++ drop 1024 out ≡ x ++ drop (length x) out = rw (k .wrote, append-assoc x (drop (length x) (take 1024 out)) (drop 1024 out), rest-of (length x) 1024 out few) in
+    subst (λ (l : List ℕ). Fed w lineRoom l x v) (all-taken w (w .held .count) (take lineRoom out) v part taken written (omega arith) k) (subst (λ (n : ℕ). Fed w n (take taken (lastFeed (w .held .count))) x v) room (k .feeds)) in
+    let a : part ++ drop lineRoom out ≡ x ++ drop (length x) out = rw (k .wrote, append-assoc x (drop (length x) (take lineRoom out)) (drop lineRoom out), rest-of (length x) lineRoom out few) in
     let b : out′ ≡ take (length x) mid ++ y ++ drop (length x + length y) mid = subst (λ (i : ℕ). out′ ≡ take i mid ++ y ++ drop (i + length y) mid) (k .count) (p .is) in
     let wrote : out′ ≡ (x ++ y) ++ drop (length (x ++ y)) out = written-on x y out mid out′ a b in
     let count : r ≡ length (x ++ y) = p .ends ∙ rw (k .count, length-append x y) in
@@ -147,20 +148,20 @@ finished-told w out v part taken written out′ r s h k z p =
           record { reads = m .reads; wrote = rw t wrote; count = rw t count; measured = m .measured };
     }
 
-finished-waits : (w : Session) (out : List ℕ) → length out < 1088 → Finished w out w out 0
+finished-waits : (w : Session) (out : List ℕ) → length out < finishRoom → Finished w out w out 0
 finished-waits w out h =
     record { waits = λ g. record { same = refl; kept = refl; zero = refl }; leaves = λ g. absurd (omega arith); means = λ g. absurd (omega arith) }
 
 module _ (counts heads slots copies works texts queue loads answers reader line : List ℕ) (t : Tally) (out : List ℕ) where
-  pub end-waits : length out < 1088
+  pub end-waits : length out < finishRoom
       → Finishes counts heads slots copies works texts queue loads answers reader line t out counts heads slots copies works texts queue loads answers reader line t out 0
   end-waits h = record { does = finished-waits _ out h; rests = λ g. refl; wrote = λ g. absurd (omega arith) }
 
   pub end-finished : (counts′ heads′ slots′ copies′ works′ texts′ queue′ loads′ answers′ reader′ line′ feed part : List ℕ) (p : Progress) (out′ : List ℕ) (r : ℕ)
-      → length reader ≡ 3 → length line ≡ 121 → 1088 ≤ length out
-      → PartFed (session (memory counts heads slots copies works texts queue loads) answers t (getD reader 0 0) (held line (getD reader 1 0))) feed (take 1024 out) (session (memory counts′ heads′ slots′ copies′ works′ texts′ queue′ loads′) answers′ (p .tally) (p .lines) (held line′ (p .held))) part (p .taken) (p .written)
-      → feed ≡ lastFeed (getD reader 1 0) → length part ≡ length (take 1024 out)
-      → Printed (tallyText (tallyIn (p .tally))) (part ++ drop 1024 out) (p .written) out′ r
+      → length reader ≡ 3 → length line ≡ 121 → finishRoom ≤ length out
+      → PartFed (session (memory counts heads slots copies works texts queue loads) answers t (getD reader 0 0) (held line (getD reader 1 0))) feed (take lineRoom out) (session (memory counts′ heads′ slots′ copies′ works′ texts′ queue′ loads′) answers′ (p .tally) (p .lines) (held line′ (p .held))) part (p .taken) (p .written)
+      → feed ≡ lastFeed (getD reader 1 0) → length part ≡ length (take lineRoom out)
+      → Printed (tallyText (tallyIn (p .tally))) (part ++ drop lineRoom out) (p .written) out′ r
       → reader′ ≡ set (set (set reader 0 (p .lines)) 1 (p .held)) 2 r
       → Finishes counts heads slots copies works texts queue loads answers reader line t out counts′ heads′ slots′ copies′ works′ texts′ queue′ loads′ answers′ reader′ line′ (p .tally) out′ r
   end-finished counts′ heads′ slots′ copies′ works′ texts′ queue′ loads′ answers′ reader′ line′ feed part p out′ r q s h k f z g e =

@@ -14,7 +14,7 @@ use Rattle.input.proofs.Parts.{fed-append, fedText-append, line-kept, line-sile
 use Rattle.lines.specs.Sessions.{held, Session, presentLine, readingIn}
 use Rattle.lines.specs.Lines.{LineEnded}
 use Rattle.lines.proofs.Holding.{putAll-means, putAll-size}
-use Rattle.progress.specs.Progress.{lineRoom}
+use Rattle.print.specs.Room.{lineRoom}
 use Rattle.lines.specs.Feeding.{Fed, nothing, bytes, line, past, PartFed}
 use Rattle.feed.specs.Entry.{MeasuredIn}
 
@@ -37,7 +37,7 @@ part-takes w input out u out′ taken n r i f = go (decLe 1 taken)
         let k = fed-nothing w (length out) (f .feeds) e in
         absurd (omega (arith, k, f .count, f .stops (omega arith) .short))
 
--- within the measures of document 01, with the array of the present line in its size
+-- within the measures, with the array of the present line in its size
 pub record Ready (w : Session) : Type 0 where
   pub measured : MeasuredIn w
   pub size : length (w .held .bytes) ≡ 121

@@ -7,7 +7,7 @@ use lib.Seq.{take-append-seam}
 use Rattle.input.specs.Reading.{Reading, start, fed, fedText, finished, finishedText}
 use Rattle.input.proofs.Parts.{fed-append, fedText-append}
 use Rattle.input.proofs.Whole.{printed-whole, state-whole}
-use Rattle.progress.specs.Progress.{lineRoom}
+use Rattle.print.specs.Room.{lineRoom}
 use Rattle.lines.specs.Sessions.{Session, readingIn}
 use Rattle.feed.specs.Whole.{zeros, Calls, begins, feeds, Whole}
 use Rattle.feed.specs.Entry.{MeasuredIn, SessionFed, finishRoom, Finished}

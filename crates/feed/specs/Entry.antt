@@ -3,7 +3,7 @@
 -- proofs/Starting.antt).
 use mathlib.Core.Path.{_≡_}
 use mathlib.Core.List.{List, _++_}
-use Prim.Native.Nat.{ℕ, _≤_, _<_}
+use Prim.Native.Nat.{ℕ, _+_, _≤_, _<_}
 use lib.ListN.{length, take, drop, getD}
 use Rattle.model.specs.Print.{tallyText}
 use Rattle.limits.specs.Always.{Measured}
@@ -11,14 +11,15 @@ use Rattle.views.specs.Memory.{Memory, memory, clusterIn}
 use Rattle.runs.specs.declared.Tally.{Tally}
 use Rattle.runs.specs.Meaning.{tallyIn}
 use Rattle.input.specs.Reading.{fed, fedText, finished, finishedText}
-use Rattle.progress.specs.Progress.{lineRoom, lastFeed}
+use Rattle.print.specs.Room.{lineRoom, tallyRoom}
+use Rattle.progress.specs.Progress.{lastFeed}
 use Rattle.lines.specs.Sessions.{held, Session, session, readingIn}
 use Rattle.lines.specs.Feeding.{Fed, PartFed}
 
 abbrev pub sessionIn : Memory → (answers reader line : List ℕ) → Tally → Session
 sessionIn m answers reader line t = session m answers t (getD reader 0 0) (held line (getD reader 1 0))
 
--- within the measures of document 01
+-- within the measures
 abbrev pub MeasuredIn : Session → Type 0
 MeasuredIn w = Measured (clusterIn (w .memory)) (tallyIn (w .tally))
 
@@ -50,7 +51,7 @@ Feeds counts heads slots copies works texts queue loads answers reader line t in
 
 -- room for what a line and the tally can print
 abbrev pub finishRoom : ℕ
-finishRoom = 1088
+finishRoom = lineRoom + tallyRoom
 
 -- the last line is fed its line feed, then the tally is printed
 pub record SessionFinished (w : Session) (out : List ℕ) (w′ : Session) (out′ : List ℕ) (r : ℕ) : Type 0 where

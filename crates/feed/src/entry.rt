@@ -3,6 +3,8 @@
 use crate::Answer;
 use lines::feeding::feed_part;
 use output::put_end;
+use print::LINE_ROOM;
+use print::TALLY_ROOM;
 use progress::line_feeds;
 use progress::put_reader;
 use runs::Tally;
@@ -11,6 +13,9 @@ ghost use mathlib.Core.Path.{_≡_};
 ghost use lib.ListN.{length};
 ghost use Rattle.tally.specs.Sums.{tallySum};
 ghost use Rattle.feed.specs.Entry.{Feeds, Finishes};
+
+// Bytes of output for what a line and the tally print.
+const FINISH_ROOM: usize = LINE_ROOM + TALLY_ROOM;
 
 // The sizes of two arrays, for the caller's proof: it does nothing.
 fn sizes(reader: &[usize], line: &[u8])
@@ -85,7 +90,7 @@ pub fn finish_value(
     ensures { λ r. ⌜ Finishes (now (counts .entry)) (now (heads .entry)) (now (slots .entry)) (now (copies .entry)) (now (works .entry)) (now (texts .entry)) (now (queue .entry)) (now (loads .entry)) (now (answers .entry)) (now (reader .entry)) (now (line .entry)) t (now (out .entry)) (now (counts .exit)) (now (heads .exit)) (now (slots .exit)) (now (copies .exit)) (now (works .exit)) (now (texts .exit)) (now (queue .exit)) (now (loads .exit)) (now (answers .exit)) (now (reader .exit)) (now (line .exit)) (tallySum t (r .change)) (now (out .exit)) (r .taken) ⌝ }
 {
     sizes(reader, line);
-    if out.len() < 1088 {
+    if out.len() < FINISH_ROOM {
         return Answer {
             change: change(t, t),
             taken: 0,
@@ -106,7 +111,7 @@ pub fn finish_value(
         loads,
         answers,
         line,
-        &mut out[..1024],
+        &mut out[..LINE_ROOM],
         &feed[..n],
         t,
         lines,

@@ -52,7 +52,7 @@ module _ (b : List ℕ) where
     unfolding readDatagram
     read-plain h = rw (readDatagram, eq-eqb (length b) (lengthOf (getD b 0 0)) (h ∙ sym (plain-length (getD b 0 0) c)), c)
 
-    -- a kind that document 01 does not name
+    -- none of the nine kinds
     pub read-unknown : within 9 (getD b 0 0) ≡ false → readDatagram b ≡ refused 14
     unfolding readDatagram checked wellFormed headed
     read-unknown h = go (eqb (length b) (lengthOf (getD b 0 0))) refl

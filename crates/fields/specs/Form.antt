@@ -1,4 +1,4 @@
--- The datagram form (document 01, 'Datagrams').
+-- The datagram form (RULES, Datagrams).
 use mathlib.Core.List.{List, [], _∷_, _++_}
 use mathlib.Core.Bool.{Bool, true, false, not, _&&_, _||_}
 use mathlib.Core.Option.{none, some}
@@ -40,7 +40,7 @@ carries k = eqb k 4 || eqb k 8
 unfoldable pub lengthOf : ℕ → ℕ
 lengthOf k = elim (carries k) [ true ↦ 129 | false ↦ 10 ]
 
--- ---- which datagrams are well formed; sizes of servers and buckets are document 01's greatest, not a cluster's
+-- ---- which datagrams are well formed; sizes of servers and buckets are the greatest, not a cluster's
 
 -- the greatest numbers of two and of four bytes
 abbrev pub maxTwo : ℕ
@@ -132,7 +132,7 @@ headed b v t =
 unfoldable pub versionIn : List ℕ → Version
 versionIn b = version (field 10 2 b) (field 12 4 b)
 
--- the datagram, or document 01's number of the refusal
+-- the datagram, or the number of the refusal
 pub data Parsed : Type 0 where
   taken : Datagram → Parsed
   refused : ℕ → Parsed

@@ -15,7 +15,7 @@ pleaseVote = record { kind = 1; from = 0; to = 1; bucket = 0; election = 258; ro
 pleaseVoteBytes : List ℕ
 pleaseVoteBytes = 1 ∷ 0 ∷ 1 ∷ 0 ∷ 1 ∷ 2 ∷ 0 ∷ 0 ∷ 0 ∷ 0 ∷ []
 
--- document 01's row P5
+-- row P5 (RULES, Rows and edges)
 oneKey : List Entry
 oneKey = entry (0x61 ∷ []) (0x68 ∷ 0x69 ∷ []) ∷ []
 

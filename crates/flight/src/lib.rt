@@ -3,6 +3,8 @@ use messages::append_message;
 use messages::remove_message;
 use moves::Move;
 use server::Message;
+use server::codes::NO_MESSAGE;
+use server::codes::PLEASE_VOTE;
 use server::kinds::is_broadcast;
 ghost use mathlib.Core.Path.{_≡_};
 ghost use mathlib.Core.Bool.{true};
@@ -29,7 +31,7 @@ pub fn remove(queue: &mut [u32; 512], loads: &mut [u8; 8192], count: usize, i: u
 fn unless_vote(kind: u32, x: u32) -> u32
     ensures { λ r. ⌜ r ≡ chosen (eqb kind 1) 0 x ⌝ }
 {
-    if kind == 1 { 0 } else { x }
+    if kind == PLEASE_VOTE { 0 } else { x }
 }
 
 // What a step of server `me` sends to all others; the receiver is filled in for each.
@@ -136,7 +138,7 @@ pub fn send(
     requires { ⌜ (k < slotRoom) × ((me < n) × (count + sendCount n (v .sends) ≤ 64)) ⌝ }
     ensures { λ r. ⌜ Flown (sent n me b k asked v (now (works .entry)) (now (copies .entry)) (flight (now (queue .entry)) (now (loads .entry)) count)) (now (queue .exit)) (now (loads .exit)) r ⌝ }
 {
-    if v.sends == 0 {
+    if v.sends == NO_MESSAGE {
         return count;
     }
     if is_broadcast(v.sends) {

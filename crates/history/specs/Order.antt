@@ -110,63 +110,77 @@ module _ {Q : Quorums} {M : Contents} (h : History M) (f : Facts Q h) where
     in-order (up w n e a) (here d) q = Memᴰ·append-right (order a) (in-block w n (rw (d ∙ sym e) at q))
     in-order (up w n e a) (up z k d b) q = Memᴰ·append-left _ (in-order a (rw (f .unique z w k n (d ∙ sym e)) at b) q)
 
-  -- ---- a plain table answers it
-
-  -- fed the calls of k, the table goes from t to u, and they are answered as they were
-  abbrev Feeds : M .Table → M .Table → List ℕ → Type 0
-  Feeds t u k = (l : List ℕ) → Fed M (h .calls) u l → Fed M (h .calls) t (k ++ l)
-
-  feeds-append : (s t u : M .Table) (k l : List ℕ) → Feeds s t k → Feeds t u l → Feeds s u (k ++ l)
-  feeds-append s t u k l p q r g = rw append-assoc (p (l ++ r) (q r g))
-
-  -- a call answered by a check changes nothing
-  answered-feeds : (x : Version) (t : M .Table) → Holds h x t → Feeds t t (answered-at x)
-  unfolding answered-at
-  answered-feeds x t held = select-joins _ (Feeds t t) (λ l g. g) (feeds-append t t t) one (bound (h .calls))
-    where
-      one : (i : ℕ) → checked-at h f i ≡ some x → Feeds t t (i ∷ [])
-      one i e l g =
-          let k = checked-how h f i x e in
-          let there : Holds h (k .how .check .at) t = rw (k .at) held in
-          (k .call, k .inside, k .number, λ line r d. k .how .right t there ∙ (cc), rw (k .how .unchanged t there) g)
-
-  -- a call's own write is its effect, and a recovery changes nothing
-  write-feeds : (w : Write M) → w ∈ h .writes → (t u : M .Table) → Holds h (w .parent) t → (o : Option ℕ) → w .call ≡ o → Makes h t u o → Feeds t u (listed o)
-  write-feeds w m t u held none s (kept e) = λ l g. rw e at g
-  write-feeds w m t u held (some _) s (changed c n e) = λ l g. (c, n, refl, right, rw e at g)
-    where
-      right : (line : ℕ) (r : M .Result) → c .end ≡ answered line r → M .answer (c .words) t ≡ r
-      right line r d =
-          elim (f .justified c n line r d) [
-            | inl b ↦ b .right t (rw (f .once w (b .write) m (b .made) (c .number) s (b .own)) at held)
-            | inr k ↦ absurd (k .unwritten w m s)
-          ]
-
   write-holds : (w : Write M) → w ∈ h .writes → {t : M .Table} → Holds h (w .at) t → w .table ≡ t
   write-holds w m (first e _) = absurd (not-first h f w m e)
   write-holds w m (later z n e d) = ap (λ y. y .table) (f .unique w z m n (sym e)) ∙ d
 
-  order-feeds : {x : Version} {t : M .Table} (p : Ancestor h (version 0 0) x) → Holds h x t → Feeds (M .empty) t (order p)
-  unfolding order block
-  order-feeds (here e) (first _ d) = rw d (answered-feeds (version 0 0) (M .empty) (first refl refl))
-  order-feeds (here e) (later w m d _) = absurd (not-first h f w m (d ∙ sym e))
-  order-feeds (up w m e a) held =
-      let o = f .origin w m in
-      let own-call = write-feeds w m (o .table) (w .table) (o .holds) (w .call) refl (o .makes) in
-      let others = answered-feeds (w .at) (w .table) (later w m refl refl) in
-      rw (← write-holds w m (rw (sym e) at held))
-      (feeds-append (M .empty) (o .table) (w .table) (order a) (block w) (order-feeds a (o .holds))
-      (feeds-append (o .table) (w .table) (w .table) (listed (w .call)) (answered-at (w .at)) own-call others))
+  -- ---- a plain table answers it, also one that is fed further calls: `all` has those of this history among them
 
-  -- ---- the order of calls up to any version x of which every answered call's version is an ancestor
-  pub ordered-to : {x : Version} {t : M .Table} → Ancestor h (version 0 0) x → Holds h x t
-      → ((c : Call M) → c ∈ h .calls → (v : Version) → reached-at h f (c .number) ≡ some v → Ancestor h v x) → Ordering M (h .calls)
+  module _ (all : List (Call M)) (into : (c : Call M) → c ∈ h .calls → c ∈ all) where
+    -- fed the calls of k, the table goes from t to u, and they are answered as they were
+    abbrev Feeds : M .Table → M .Table → List ℕ → Type 0
+    Feeds t u k = (l : List ℕ) → Fed M all u l → Fed M all t (k ++ l)
+
+    feeds-append : (s t u : M .Table) (k l : List ℕ) → Feeds s t k → Feeds t u l → Feeds s u (k ++ l)
+    feeds-append s t u k l p q r g = rw append-assoc (p (l ++ r) (q r g))
+
+    -- a call answered by a check changes nothing
+    answered-feeds : (x : Version) (t : M .Table) → Holds h x t → Feeds t t (answered-at x)
+    unfolding answered-at
+    answered-feeds x t held = select-joins _ (Feeds t t) (λ l g. g) (feeds-append t t t) one (bound (h .calls))
+      where
+        one : (i : ℕ) → checked-at h f i ≡ some x → Feeds t t (i ∷ [])
+        one i e l g =
+            let k = checked-how h f i x e in
+            let there : Holds h (k .how .check .at) t = rw (k .at) held in
+            (k .call, into (k .call) (k .inside), k .number, λ line r d. k .how .right t there ∙ (cc), rw (k .how .unchanged t there) g)
+
+    -- a call's own write is its effect, and a recovery changes nothing
+    write-feeds : (w : Write M) → w ∈ h .writes → (t u : M .Table) → Holds h (w .parent) t → (o : Option ℕ) → w .call ≡ o → Makes h t u o → Feeds t u (listed o)
+    write-feeds w m t u held none s (kept e) = λ l g. rw e at g
+    write-feeds w m t u held (some _) s (changed c n e) = λ l g. (c, into c n, refl, right, rw e at g)
+      where
+        right : (line : ℕ) (r : M .Result) → c .end ≡ answered line r → M .answer (c .words) t ≡ r
+        right line r d =
+            elim (f .justified c n line r d) [
+              | inl b ↦ b .right t (rw (f .once w (b .write) m (b .made) (c .number) s (b .own)) at held)
+              | inr k ↦ absurd (k .unwritten w m s)
+            ]
+
+    order-feeds : {x : Version} {t : M .Table} (p : Ancestor h (version 0 0) x) → Holds h x t → Feeds (M .empty) t (order p)
+    unfolding order block
+    order-feeds (here e) (first _ d) = rw d (answered-feeds (version 0 0) (M .empty) (first refl refl))
+    order-feeds (here e) (later w m d _) = absurd (not-first h f w m (d ∙ sym e))
+    order-feeds (up w m e a) held =
+        let o = f .origin w m in
+        let own-call = write-feeds w m (o .table) (w .table) (o .holds) (w .call) refl (o .makes) in
+        let others = answered-feeds (w .at) (w .table) (later w m refl refl) in
+        rw (← write-holds w m (rw (sym e) at held))
+        (feeds-append (M .empty) (o .table) (w .table) (order a) (block w) (order-feeds a (o .holds))
+        (feeds-append (o .table) (w .table) (w .table) (listed (w .call)) (answered-at (w .at)) own-call others))
+
+  -- ---- the order of the calls up to a version
+
+  -- the version of every answered call is an ancestor of x
+  abbrev pub Reaches : Version → Type 0
+  Reaches x =
+      (c : Call M) → c ∈ h .calls → (line : ℕ) (r : M .Result) → c .end ≡ answered line r
+      → (v : Version) → reached-at h f (c .number) ≡ some v → Place h f (c .number) v → Ancestor h v x
+
+  pub ordered-to : {x : Version} {t : M .Table} → Ancestor h (version 0 0) x → Holds h x t → Reaches x → Ordering M (h .calls)
   ordered-to {x} p held above = record {
     order = order p;
     distinct = pairs-distinct (Precedes h f) (order p) (order-pairs p) (precedes-other h f);
     none-undone = λ c m i line e. undone-nowhere h f c m (order-place p (c .number) i .2) line e;
-    complete = λ c m line r e. let (v, d, q) = answered-place h f c m (line, r, e) in in-order c m p (above c m v d) q;
+    complete = λ c m line r e. let (v, d, q) = answered-place h f c m (line, r, e) in in-order c m p (above c m line r e v d q) q;
     in-real-time = λ c d m n i j line e l.
         pairs-before (Precedes h f) (order p) (order-pairs p) i j (ended-other h f c d m n line e l (order-place p (c .number) i .2)) (ended-first h f c d m n line e l);
-    fed = rw append-nil at (order-feeds p held [] tt);
+    fed = rw append-nil at (order-feeds (h .calls) (λ c m. m) p held [] tt);
   }
+
+  -- where the table at x answers the calls of l, the empty table answers those of this order and then those of l
+  pub ordered-feeds : {x : Version} {t : M .Table} (p : Ancestor h (version 0 0) x) (held : Holds h x t) (above : Reaches x)
+      (all : List (Call M)) → ((c : Call M) → c ∈ h .calls → c ∈ all) → (l : List ℕ) → Fed M all t l
+      → Fed M all (M .empty) (ordered-to p held above .order ++ l)
+  unfolding ordered-to
+  ordered-feeds p held above all into = order-feeds all into p held

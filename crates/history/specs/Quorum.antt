@@ -1,4 +1,5 @@
--- Majorities: lists of at least m distinct servers of n. Two of them share a server if n < 2 * m, for every n and m.
+-- Majorities: lists of at least m distinct servers of n that are numbered from a first one on. Two of them share a server if
+-- n < 2 * m, for every first number, n and m.
 use mathlib.Core.Path.{_≡_, refl, sym, _∙_, ap}
 use mathlib.Core.Bool.{Bool, true, false}
 use mathlib.Core.Logic.{_⊎_, inl, inr, _≢_}
@@ -38,18 +39,18 @@ distinct-length (x ∷ k) l d f =
       distinct-length k (rest l m) (d .1) (λ q n. rest-keeps l m (f q (List·Memᴰ·tail n)) (λ e. d .0 (rw e at n))),
     )
 
--- the numbers below n
-abbrev below : ℕ → List ℕ
-below zero = []
-below (suc n) = n ∷ below n
+-- n numbers from `first` on
+abbrev group : ℕ → ℕ → List ℕ
+group first zero = []
+group first (suc n) = (first + n) ∷ group first n
 
-below-length : (n : ℕ) → length (below n) ≡ n
-below-length zero = refl
-below-length (suc n) = ap suc (below-length n)
+group-length : (first n : ℕ) → length (group first n) ≡ n
+group-length first zero = refl
+group-length first (suc n) = ap suc (group-length first n)
 
-below-in : (n q : ℕ) → q < n → q ∈ below n
-below-in zero q h = absurd (omega arith)
-below-in (suc n) q h = elim (ℕ-discrete q n) [ yes e ↦ List·Memᴰ·head e | no d ↦ List·Memᴰ·tail (below-in n q (omega arith)) ]
+group-in : (first n q : ℕ) → first ≤ q → q < first + n → q ∈ group first n
+group-in first zero q l h = absurd (omega arith)
+group-in first (suc n) q l h = elim (ℕ-discrete q (first + n)) [ yes e ↦ List·Memᴰ·head e | no d ↦ List·Memᴰ·tail (group-in first n q l (omega arith)) ]
 
 -- ---- two lists share a member, or are distinct together
 
@@ -79,24 +80,25 @@ shared-or-distinct (x ∷ k) l d e =
 
 -- ---- majorities
 
-pub record Majority (n m : ℕ) (l : List ℕ) : Type 0 where
+pub record Majority (first n m : ℕ) (l : List ℕ) : Type 0 where
   pub distinct : Distinct l
-  pub servers : (q : ℕ) → q ∈ l → q < n
+  pub servers : (q : ℕ) → q ∈ l → (first ≤ q) × (q < first + n)
   pub enough : m ≤ length l
 
-pub majorities-meet : (n m : ℕ) → n < 2 * m → (k l : List ℕ) → Majority n m k → Majority n m l → Shared k l
-majorities-meet n m h k l a b =
+pub majorities-meet : (first n m : ℕ) → n < 2 * m → (k l : List ℕ) → Majority first n m k → Majority first n m l → Shared k l
+majorities-meet first n m h k l a b =
     elim (shared-or-distinct k l (a .distinct) (b .distinct)) [
       | inl s ↦ s
       | inr d ↦
-          let most = distinct-length (k ++ l) (below n) d (each-append k (λ q i. below-in n q (a .servers q i)) (λ q i. below-in n q (b .servers q i))) in
-          absurd (omega (arith, most, below-length n, length-append k l, a .enough, b .enough))
+          let in-group : (j : List ℕ) → Majority first n m j → (q : ℕ) → q ∈ j → q ∈ group first n = λ j c q i. group-in first n q (c .servers q i .0) (c .servers q i .1) in
+          let most = distinct-length (k ++ l) (group first n) d (each-append k (in-group k a) (in-group l b)) in
+          absurd (omega (arith, most, group-length first n, length-append k l, a .enough, b .enough))
     ]
 
-abbrev pub majority-quorums : (n m : ℕ) → n < 2 * m → Quorums
-majority-quorums n m h = record { Quorum = Majority n m; meet = majorities-meet n m h }
+abbrev pub majority-quorums : (first n m : ℕ) → n < 2 * m → Quorums
+majority-quorums first n m h = record { Quorum = Majority first n m; meet = majorities-meet first n m h }
 
--- ---- a majority from marks: a list with an entry for each server, and a count of the entries that pass a test
+-- ---- a majority from marks: a list with an entry for each server of the group, and a count of the entries that pass a test
 
 abbrev one-if : Bool → ℕ
 one-if true = 1
@@ -111,58 +113,50 @@ abbrev put-if : Bool → ℕ → List ℕ → List ℕ
 put-if true i l = i ∷ l
 put-if false i l = l
 
--- where they stand, if the first of l stands at b
-marked-from : {A : Type 0} → (A → Bool) → ℕ → List A → List ℕ
-marked-from f b [] = []
-marked-from f b (a ∷ l) = put-if (f a) b (marked-from f (suc b) l)
-
-pub marked : {A : Type 0} → (A → Bool) → List A → List ℕ
-marked f l = marked-from f 0 l
+-- the servers of a group whose marks pass the test: the mark at place i of l is that of server first + i
+pub marked : {A : Type 0} → (A → Bool) → ℕ → List A → List ℕ
+marked f first [] = []
+marked f first (a ∷ l) = put-if (f a) first (marked f (suc first) l)
 
 module _ {A : Type 0} (f : A → Bool) where
-  -- the place q, counted from b, is a place of l, and what stands there passes the test
-  abbrev Passes : ℕ → List A → ℕ → Type 0
-  Passes b l q = (i : ℕ) × (q ≡ b + i) × (i < length l) × ((d : A) → f (getD l i d) ≡ true)
+  -- the server q has its place in the group, and its mark passes the test
+  abbrev pub Passes : ℕ → List A → ℕ → Type 0
+  Passes first l q = (i : ℕ) × (q ≡ first + i) × (i < length l) × ((d : A) → f (getD l i d) ≡ true)
 
-  passes-later : (b : ℕ) (a : A) (l : List A) (q : ℕ) → Passes (suc b) l q → Passes b (a ∷ l) q
-  passes-later b a l q (i, e, h, t) = (suc i, omega arith, omega arith, t)
+  passes-later : (first : ℕ) (a : A) (l : List A) (q : ℕ) → Passes (suc first) l q → Passes first (a ∷ l) q
+  passes-later first a l q (i, e, h, t) = (suc i, omega arith, omega arith, t)
 
-  marked-passes : (b : ℕ) (l : List A) (q : ℕ) → q ∈ marked-from f b l → Passes b l q
-  unfolding marked-from
-  marked-passes b [] q m = none-in m
-  marked-passes b (a ∷ l) q m = go (marked-passes (suc b) l) (f a) refl m
+  -- who is listed as marked has its mark set
+  pub marked-passes : (first : ℕ) (l : List A) (q : ℕ) → q ∈ marked f first l → Passes first l q
+  unfolding marked
+  marked-passes first [] q m = none-in m
+  marked-passes first (a ∷ l) q m = go (marked-passes (suc first) l) (f a) refl m
     where
-      go : ((p : ℕ) → p ∈ marked-from f (suc b) l → Passes (suc b) l p) → (t : Bool) → f a ≡ t → q ∈ put-if t b (marked-from f (suc b) l) → Passes b (a ∷ l) q
-      go ih true e k = each-cons {P = Passes b (a ∷ l)} (0, omega arith, omega arith, λ d. e) (λ p n. passes-later b a l p (ih p n)) q k
-      go ih false e k = passes-later b a l q (ih q k)
+      go : ((p : ℕ) → p ∈ marked f (suc first) l → Passes (suc first) l p) → (t : Bool) → f a ≡ t → q ∈ put-if t first (marked f (suc first) l) → Passes first (a ∷ l) q
+      go ih true e k = each-cons {P = Passes first (a ∷ l)} (0, omega arith, omega arith, λ d. e) (λ p n. passes-later first a l p (ih p n)) q k
+      go ih false e k = passes-later first a l q (ih q k)
 
-  marked-distinct : (b : ℕ) (l : List A) → Distinct (marked-from f b l)
-  unfolding marked-from
-  marked-distinct b [] = tt
-  marked-distinct b (a ∷ l) =
-      let ih = marked-distinct (suc b) l in
-      elim (f a) as (λ t. Distinct (put-if t b (marked-from f (suc b) l))) [
-        | true ↦ (λ m. omega (arith, marked-passes (suc b) l b m .1), ih)
+  marked-distinct : (first : ℕ) (l : List A) → Distinct (marked f first l)
+  unfolding marked
+  marked-distinct first [] = tt
+  marked-distinct first (a ∷ l) =
+      let ih = marked-distinct (suc first) l in
+      elim (f a) as (λ t. Distinct (put-if t first (marked f (suc first) l))) [
+        | true ↦ (λ m. omega (arith, marked-passes (suc first) l first m .1), ih)
         | false ↦ ih
       ]
 
-  marked-length : (b : ℕ) (l : List A) → length (marked-from f b l) ≡ count f l
-  unfolding marked-from count
-  marked-length b [] = refl
-  marked-length b (a ∷ l) =
-      let ih = marked-length (suc b) l in
-      elim (f a) as (λ t. length (put-if t b (marked-from f (suc b) l)) ≡ one-if t + count f l) [ true ↦ omega arith | false ↦ omega arith ]
+  marked-length : (first : ℕ) (l : List A) → length (marked f first l) ≡ count f l
+  unfolding marked count
+  marked-length first [] = refl
+  marked-length first (a ∷ l) =
+      let ih = marked-length (suc first) l in
+      elim (f a) as (λ t. length (put-if t first (marked f (suc first) l)) ≡ one-if t + count f l) [ true ↦ omega arith | false ↦ omega arith ]
 
-  -- the places of enough marks are a majority
-  pub quorum-of : (n m : ℕ) (l : List A) → length l ≤ n → m ≤ count f l → Majority n m (marked f l)
-  unfolding marked
-  quorum-of n m l h k = record {
-    distinct = marked-distinct 0 l;
-    servers = λ q i. let (j, e, b, t) = marked-passes 0 l q i in omega arith;
-    enough = omega (arith, marked-length 0 l);
+  -- those of enough marks are a majority
+  pub quorum-of : (first n m : ℕ) (l : List A) → length l ≤ n → m ≤ count f l → Majority first n m (marked f first l)
+  quorum-of first n m l h k = record {
+    distinct = marked-distinct first l;
+    servers = λ q i. let (j, e, b, t) = marked-passes first l q i in (omega arith, omega arith);
+    enough = omega (arith, marked-length first l);
   }
-
-  -- and each of its members has its mark set
-  pub quorum-marked : (l : List A) (q : ℕ) → q ∈ marked f l → (d : A) → f (getD l q d) ≡ true
-  unfolding marked
-  quorum-marked l q m d = let (i, e, b, t) = marked-passes 0 l q m in let z : q ≡ i = omega arith in rw z (t d)

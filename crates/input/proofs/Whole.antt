@@ -1,4 +1,4 @@
--- An input read byte by byte, in any parts, prints what document 01 says of the whole of it, and leaves that state.
+-- An input read byte by byte, in any parts, prints what the definitions print for the whole of it, and leaves that state.
 use mathlib.Core.Path.{_≡_, refl, sym, ap, _∙_}
 use mathlib.Core.List.{List, [], _∷_, _++_, reverse, reverse-cons, flatten, append-assoc, append-nil}
 use mathlib.Core.Bool.{Bool, true, false}

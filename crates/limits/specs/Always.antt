@@ -260,7 +260,7 @@ pub record StandsUpTo (top : ℕ) (c : Cluster) (t : Tally) : Type 0 where
   pub copied : t .copied ≤ maxMessages * c .accepted
   pub tallied : Tallied (c .messages) t
 
--- election numbers up to the greatest of document 01
+-- election numbers up to the greatest (RULES, Measures 6)
 abbrev pub Stands : Cluster → Tally → Type 0
 Stands = StandsUpTo maxElection
 

@@ -78,13 +78,6 @@ pub record CallWithin (b : ℕ) (l : Limits) (i q : ℕ) (c : Call) : Type 0 whe
 
 -- ---- rounds
 
--- the rounds that may follow one made for a purpose
-abbrev pub left : Purpose → ℕ
-left recoveryRead = 3
-left recoveryWrite = 2
-left check = 1
-left ownWrite = 0
-
 -- only a recovery read looks at copies
 abbrev pub Unread : Purpose → Copy → Type 0
 Unread recoveryRead c = Unit {0}

@@ -10,7 +10,7 @@ use native.Mathlib.Decide.{decLt}
 use lib.Dec.{ltb}
 use lib.ListN.{length, take, length-append, length-take}
 use borrow.Author.Tests.{ltb-false}
-use Rattle.model.specs.Measures.{maxBuckets, maxValueBytes, maxMessages, maxAccepted, maxLines}
+use Rattle.model.specs.Measures.{maxBuckets, mostAnswers, maxValueBytes, maxMessages, maxAccepted, maxLines}
 use Rattle.model.specs.Calls.{Result, value, listed, done, mismatch, full, notdone, unknown, Answer}
 use Rattle.model.specs.Cluster.{Message, Cluster}
 use Rattle.model.specs.Lines.{Line, State, initialState, Tally, refusal, LineResult, work}
@@ -24,9 +24,9 @@ use Rattle.limits.specs.Tally.{Tallied, nothing-tallied}
 use Rattle.limits.specs.Measures.{Limits, KeySized, ValueSized, ResultWithin, AnswerWithin, Ending, AnswersWithin, single, endings}
 use Rattle.limits.specs.Always.{Measured, room-for-line, line-taken, line-keeps-measures, within-always}
 
--- eight answers of 24 bytes
+-- a line's answers, of 24 bytes each: 192
 abbrev pub maxPrinted : ℕ
-maxPrinted = 192
+maxPrinted = mostAnswers * 24
 
 -- counts of 8 digits for sent and for copied, 17 for delivered and lost, and 2 for in flight
 abbrev pub maxTallyBytes : ℕ

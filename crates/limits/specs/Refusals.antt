@@ -1,4 +1,4 @@
--- Refused lines (document 01, 'When a line or record is turned down'): a refused line leaves cluster and tally as they
+-- Refused lines (RULES, Refusals 1 and 2): a refused line leaves cluster and tally as they
 -- were, its number is between 1 and 12 or is 18, and among the conditions that bear on it the lowest that applies wins.
 use mathlib.Core.Path.{_≡_, refl}
 use mathlib.Core.List.{List, [], _∷_}

@@ -27,7 +27,16 @@ use Rattle.model.proofs.Replicas.{step-down-cases}
 use Rattle.model.proofs.Stores.{cut-cases}
 use Rattle.limits.specs.Lists.{All, nil, cons, all-imply, all-append, all-set, all-at, all-map}
 use Rattle.limits.specs.Tables.{EffectWithin, effect-within, fresh-copy-within}
-use Rattle.limits.specs.Measures.{Limits, Fits, CopyWithin, StoredWithin, WordsSized, CallWithin, left, RoundWithin, SlotWithin, idle, busy, RoleWithin, FrameWithin, ServerWithin, RequestWithin, OfVote, OfRound, BodyWithin, MessageWithin, ResultWithin, AnswerWithin, Ending, AnswersWithin, single, endings, ReactionWithin, fewer, copy-grows, stored-grows, frame-grows, server-grows, call-grows, slot-grows, Unread}
+use Rattle.limits.specs.Measures.{Limits, Fits, CopyWithin, StoredWithin, WordsSized, CallWithin, RoundWithin, SlotWithin, idle, busy, RoleWithin, FrameWithin, ServerWithin, RequestWithin, OfVote, OfRound, BodyWithin, MessageWithin, ResultWithin, AnswerWithin, Ending, AnswersWithin, single, endings, ReactionWithin, fewer, copy-grows, stored-grows, frame-grows, server-grows, call-grows, slot-grows, Unread}
+
+-- ---- purposes
+
+-- the rounds that may follow one made for a purpose
+abbrev pub left : Purpose → ℕ
+left recoveryRead = 3
+left recoveryWrite = 2
+left check = 1
+left ownWrite = 0
 
 -- ---- roles
 

@@ -1,4 +1,4 @@
--- Starts (document 02, Change 8), after any lines of a script: beside what is stored, a server that comes back has what a fresh server
+-- Starts (RULES, Restarts 4), after any lines of a script: beside what is stored, a server that comes back has what a fresh server
 -- of its cluster has. So it leads nothing, its rounds are numbered from 1 again, and its calls are gone.
 use mathlib.Core.Path.{_≡_, sym, _∙_, ap, subst}
 use mathlib.Core.List.{List}

@@ -20,7 +20,8 @@ use Rattle.lines.specs.Feeding.{Stops, Fed, nothing, bytes, line, past, 
 use Rattle.progress.specs.declared.Kept.{Kept}
 use Rattle.progress.specs.declared.Ending.{Ending}
 use Rattle.progress.specs.declared.Progress.{Progress}
-use Rattle.progress.specs.Progress.{lineRoom, begunAt, waitingAt, endedAt, passedAt}
+use Rattle.print.specs.Room.{lineRoom}
+use Rattle.progress.specs.Progress.{begunAt, waitingAt, endedAt, passedAt}
 
 absurd-more : {A : Type 0} {x : Bool} → x ≡ false → x ≡ true → A
 absurd-more e f =

@@ -10,7 +10,7 @@ use Rattle.input.specs.Reading.{NoFeed}
 use Rattle.lines.specs.Sessions.{Session, keeping}
 use Rattle.lines.specs.Lines.{LineEnded, LineTold}
 use Rattle.progress.specs.declared.Progress.{Progress}
-use Rattle.progress.specs.Progress.{lineRoom}
+use Rattle.print.specs.Room.{lineRoom}
 
 -- ---- a part of the input
 

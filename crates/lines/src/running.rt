@@ -6,6 +6,7 @@ use progress::Ending;
 use runs::Tally;
 ghost use Prim.Native.Nat.{_≤_, _<_, _+_};
 ghost use lib.ListN.{length};
+ghost use Rattle.print.specs.Room.{lineRoom};
 ghost use Rattle.views.specs.Memory.{memory};
 ghost use Rattle.lines.specs.Sessions.{held, session};
 ghost use Rattle.lines.specs.Lines.{LineTold};
@@ -28,7 +29,7 @@ pub fn end_line(
     count: usize,
     at: usize,
 ) -> Ending
-    requires { ⌜ (lines < 4294967295) × (at + 1024 ≤ length (now out)) ⌝ }
+    requires { ⌜ (lines < 4294967295) × (at + lineRoom ≤ length (now out)) ⌝ }
     ensures { λ r. ⌜ LineTold (session (memory (now (counts .entry)) (now (heads .entry)) (now (slots .entry)) (now (copies .entry)) (now (works .entry)) (now (texts .entry)) (now (queue .entry)) (now (loads .entry))) (now (answers .entry)) t lines (held (now (line .entry)) count)) (session (memory (now (counts .exit)) (now (heads .exit)) (now (slots .exit)) (now (copies .exit)) (now (works .exit)) (now (texts .exit)) (now (queue .exit)) (now (loads .exit))) (now (answers .exit)) (r .tally) (lines + 1) (held (now (line .entry)) 0)) (now (out .entry)) at (now (out .exit)) (r .written) ⌝ }
 {
     let x = read_line(line, count);

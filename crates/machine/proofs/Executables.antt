@@ -13,7 +13,7 @@ use Rattle.server.specs.declared.Effect.{Effect}
 use Rattle.server.specs.Heads.{largerNumberOf}
 use Rattle.server.specs.Views.{flagIn, among}
 use Rattle.memory.specs.declared.Counts.{Counts}
-use Rattle.refusals.specs.Refusals.{placesLeft, inside}
+use Rattle.refusals.specs.Refusals.{placesLeft, inside, noReceiver}
 use Rattle.moves.specs.declared.Local.{Local}
 use Rattle.moves.specs.declared.Move.{Move}
 use Rattle.restarts.specs.Restarts.{cuttable}
@@ -137,7 +137,7 @@ module _ (c : Counts) where
 
   -- a message is handed over only to a server that is there
   pub stays : (x : Step) (l : Local) → x .server ≤ x .asked .receiver → gone c x l ≡ false → x .server < c .servers
-  unfolding gone
+  unfolding gone noReceiver
   stays x l s h = omega (arith, s, leb-false (c .servers) (x .asked .receiver) (present (leb (c .servers) (x .asked .receiver)) (flagIn (l .head .stopped)) h))
 
   hands : (x : Step) (y : Message) (l : Local) (f : Effect) → Measured c → x .message < c .messages → x .server ≤ x .asked .receiver → x .bucket ≤ 7 → Executable c (handPlan c x y l f)

@@ -14,7 +14,7 @@ use Rattle.model.specs.Lines as lines
 use Rattle.limits.specs.Refusals.{ComesOut, refused-by, perform-comes-out}
 use Rattle.limits.specs.Always.{Measured, line-keeps-measures}
 use Rattle.views.specs.Memory.{Memory, Sized, clusterIn}
-use Rattle.views.specs.Changes.{answersAt}
+use Rattle.views.specs.Changes.{answersRoom, answersAt}
 use Rattle.parse.specs.declared.Line.{Line}
 use Rattle.parse.specs.Meaning.{lineIn}
 use Rattle.runs.specs.declared.Report.{Report}
@@ -52,7 +52,7 @@ small (some c) t h = record {
   lost = omega (arith, h .tallied .balance, h .sent, h .copied, h .accepted);
 }
 
-module _ (m : Memory) (l : List ℕ) (t : Tally) (x : Line) (m′ : Memory) (l′ : List ℕ) (r : Report) (sized : Sized m) (answers : length l ≡ 32) (whole : WholeLine x) (run : RanLine m l x m′ l′ r)
+module _ (m : Memory) (l : List ℕ) (t : Tally) (x : Line) (m′ : Memory) (l′ : List ℕ) (r : Report) (sized : Sized m) (answers : length l ≡ answersRoom) (whole : WholeLine x) (run : RanLine m l x m′ l′ r)
     (measured : Measured (clusterIn m) (tallyIn t)) where
   abbrev after : lines.LineResult
   after = record { state = stateIn m′ (tallyIn (tallyAfter t r)); outcome = outcomeIn r l′ }
@@ -79,7 +79,7 @@ module _ (m : Memory) (l : List ℕ) (t : Tally) (x : Line) (m′ : Memory) (l�
   step-measured = subst (λ y. Measured (y .state .cluster) (y .state .tally)) step-means kept
 
 -- the contract of `step`, from its parts
-pub steps : (m : Memory) (l : List ℕ) (t : Tally) (x : Line) (m′ : Memory) (l′ : List ℕ) (r : Stepped) → Sized m → length l ≡ 32 → WholeLine x → RanLine m l x m′ l′ (r .report)
+pub steps : (m : Memory) (l : List ℕ) (t : Tally) (x : Line) (m′ : Memory) (l′ : List ℕ) (r : Stepped) → Sized m → length l ≡ answersRoom → WholeLine x → RanLine m l x m′ l′ (r .report)
     → r .tally ≡ tallyAfter t (r .report) → Performed m l t x m′ l′ r
 steps m l t x m′ l′ r sized answers whole run e = record {
   leaves = run;

@@ -1,4 +1,4 @@
--- What a line does to the state that memory and tally stand for: document 01's step.
+-- What a line does to the state that memory and tally stand for: the definition's step.
 use mathlib.Core.Path.{_≡_}
 use mathlib.Core.List.{List}
 use Prim.Native.Nat.{ℕ}
@@ -11,7 +11,7 @@ use Rattle.runs.specs.Meaning.{stateIn, tallyIn, tallyAfter, performed, outcome
 use Rattle.machine.specs.declared.Stepped.{Stepped}
 use Rattle.machine.specs.Contracts.{RanLine}
 
--- a line: every word and byte that it leaves, the tally, and, for every state within the measures of document 01, the definition's step,
+-- a line: every word and byte that it leaves, the tally, and, for every state within the measures, the definition's step,
 -- which leaves such a state
 pub record Performed (m : Memory) (l : List ℕ) (t : Tally) (x : Line) (m′ : Memory) (l′ : List ℕ) (r : Stepped) : Type 0 where
   pub leaves : RanLine m l x m′ l′ (r .report)

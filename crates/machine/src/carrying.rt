@@ -10,6 +10,7 @@ use plans::Plan;
 use plans::Step;
 use records::counters::store_counts;
 use records::words::store_words;
+use refusals::codes::NONE;
 use refusals::send_count;
 use runs::Report;
 use server::Effect;
@@ -175,7 +176,7 @@ pub fn report_of(t: Told, x: Step, f: Effect) -> Report
     ensures { λ r. ⌜ r ≡ carriedReport t x f ⌝ }
 {
     Report {
-        refusal: 0,
+        refusal: NONE,
         answers: t.answers,
         sent: t.sent,
         copied: x.copied,
@@ -243,7 +244,7 @@ pub fn lose(
     );
     store_counts(counts, next_counts(c, count, x.calls));
     Report {
-        refusal: 0,
+        refusal: NONE,
         answers: 0,
         sent: 0,
         copied: x.copied,
@@ -287,7 +288,7 @@ pub fn execute(
 {
     let f = p.effect;
     let x = p.step;
-    if p.refusal == 0 {
+    if p.refusal == NONE {
         if p.loses {
             return lose(counts, queue, loads, c, x, f);
         }

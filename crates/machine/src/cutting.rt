@@ -7,6 +7,7 @@ use plans::cuts::cut_step;
 use plans::deliveries::receiver;
 use plans::parts::no_effect;
 use plans::parts::refused_plan;
+use refusals::codes::NONE;
 use refusals::message_refusal;
 ghost use mathlib.Core.Path.{_≡_};
 ghost use Rattle.plans.specs.Arrays.{Measured, cutIn};
@@ -25,7 +26,7 @@ pub fn plan_cut(
 {
     let f = no_effect();
     let r = message_refusal(c, i);
-    if r == 0 {
+    if r == NONE {
         let m = load_message(queue, i as usize);
         let x = cut_step(c, i, m);
         let l = receiver(heads, slots, x);

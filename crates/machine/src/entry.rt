@@ -1,12 +1,13 @@
 // One line with the tally, by value: what it leaves, and what that stands for.
 use crate::Stepped;
-use crate::lines::run_line;
+use crate::one_line::run_line;
 use parse::Line;
 use runs::Tally;
 use runs::tally_after;
 ghost use mathlib.Core.Path.{_≡_};
 ghost use lib.ListN.{length};
 ghost use Rattle.views.specs.Memory.{memory, Sized};
+ghost use Rattle.views.specs.Changes.{answersRoom};
 ghost use Rattle.runs.specs.Meaning.{WholeLine};
 ghost use Rattle.machine.specs.Meaning.{Performed};
 
@@ -22,8 +23,8 @@ fn sizes(
     loads: &[u8],
     answers: &[u32],
 )
-    requires { ⌜ Sized (memory (now counts) (now heads) (now slots) (now copies) (now works) (now texts) (now queue) (now loads)) × (length (now answers) ≡ 32) ⌝ }
-    ensures { λ _. ⌜ Sized (memory (now (counts .entry)) (now (heads .entry)) (now (slots .entry)) (now (copies .entry)) (now (works .entry)) (now (texts .entry)) (now (queue .entry)) (now (loads .entry))) × (length (now (answers .entry)) ≡ 32) ⌝ }
+    requires { ⌜ Sized (memory (now counts) (now heads) (now slots) (now copies) (now works) (now texts) (now queue) (now loads)) × (length (now answers) ≡ answersRoom) ⌝ }
+    ensures { λ _. ⌜ Sized (memory (now (counts .entry)) (now (heads .entry)) (now (slots .entry)) (now (copies .entry)) (now (works .entry)) (now (texts .entry)) (now (queue .entry)) (now (loads .entry))) × (length (now (answers .entry)) ≡ answersRoom) ⌝ }
 {}
 
 // The lengths of a line's arrays, for the caller's proof: it does nothing.

@@ -13,6 +13,9 @@ use plans::deliveries::message_step;
 use plans::deliveries::receiver;
 use plans::parts::no_effect;
 use records::counters::load_counts;
+use refusals::codes::CLUSTER_WRONG;
+use refusals::codes::NO_PLACES;
+use refusals::codes::NONE;
 use refusals::message_refusal;
 use refusals::places_left;
 use runs::Report;
@@ -65,7 +68,7 @@ fn hand_listed(
         );
         return report_of(t, x, f);
     }
-    refused(12, f)
+    refused(NO_PLACES, f)
 }
 
 // The message at place i is handed over; `copy` leaves it in the list.
@@ -87,7 +90,7 @@ pub fn hand_line(
     let c = load_counts(counts);
     if standing(c) {
         let r = message_refusal(c, i);
-        if r == 0 {
+        if r == NONE {
             return hand_listed(
                 counts,
                 heads,
@@ -105,5 +108,5 @@ pub fn hand_line(
         }
         return refused(r, no_effect());
     }
-    refused(2, no_effect())
+    refused(CLUSTER_WRONG, no_effect())
 }

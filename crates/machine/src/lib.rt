@@ -3,13 +3,13 @@
 use runs::Report;
 use runs::Tally;
 
-pub mod carrying;
+mod carrying;
 mod cutting;
 pub mod entry;
-pub mod fresh;
-pub mod handing;
-pub mod lines;
-pub mod numbers;
+mod fresh;
+mod handing;
+mod numbers;
+mod one_line;
 
 // What a move that is carried out tells: how many answers were written, how many messages sent, and how many are in flight.
 pub struct Told {

@@ -1,5 +1,8 @@
 // Whether a cluster stands.
 use memory::Counts;
+use server::measures::MAX_BUCKETS;
+use server::measures::MAX_MESSAGES;
+use server::measures::MAX_SERVERS;
 ghost use mathlib.Core.Path.{_≡_};
 ghost use Rattle.table.specs.Form.{within};
 ghost use Rattle.views.specs.Memory.{standing};
@@ -14,13 +17,13 @@ pub fn within(top: u32, n: u32) -> bool
     n <= top
 }
 
-// Whether a cluster stands: its measures are those of document 01.
+// Whether a cluster stands: its counts are within the measures (RULES, Measures 1 and 3).
 pub fn standing(c: Counts) -> bool
     ensures { λ r. ⌜ r ≡ standing c ⌝ }
 {
-    if within(7, c.servers) {
-        if within(8, c.buckets) {
-            return c.messages <= 64;
+    if within(MAX_SERVERS, c.servers) {
+        if within(MAX_BUCKETS, c.buckets) {
+            return c.messages <= MAX_MESSAGES;
         }
     }
     false

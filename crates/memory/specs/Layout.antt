@@ -34,7 +34,7 @@ slotRoom = 56
 abbrev pub messageRoom : ℕ
 messageRoom = 64
 
--- words of a head's block, a slot's block and a message's block
+-- words of a head's block, a slot's block, a message's block and an answer's block
 abbrev pub headSize : ℕ
 headSize = 16
 
@@ -43,6 +43,9 @@ slotSize = 32
 
 abbrev pub messageSize : ℕ
 messageSize = 8
+
+abbrev pub answerSize : ℕ
+answerSize = 4
 
 -- bytes of the block of a content, and those of them that count; bytes of the block of a call's key and values
 abbrev pub contentSize : ℕ

@@ -1,12 +1,14 @@
 // The cluster's memory in a few lent arrays of fixed size. Where each field of its records and messages lies is said in
 // specs/Layout.antt; proofs/ has the laws of it.
 
-// Words of a head's block, of a slot's and of a message's header.
+// Words of a head's block, of a slot's, of a message's header and of an answer's block.
 pub const HEAD: usize = 16;
 
 pub const SLOT: usize = 32;
 
 pub const HEADER: usize = 8;
+
+pub const ANSWER: usize = 4;
 
 // Bytes of a content's block, and of the block of a call's key and values.
 pub const CONTENT: usize = 128;

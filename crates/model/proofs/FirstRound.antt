@@ -65,7 +65,7 @@ module _ (n me b : ℕ) (words : Words) (s : Server) where
       go true e (answers r) w = rw (answers-reads r w) reads
       go false e f w = rw (unrecovered-reads e) reads
 
--- ---- document 02's words, on a recovered bucket whose table in the leader's copy is `table`
+-- ---- call by call (RULES, Calls 3), on a recovered bucket whose table in the leader's copy is `table`
 
 module _ (n me b : ℕ) (s : Server) (so : recovered (s .stored .number) (copyAt (s .stored) b) ≡ true) where
   abbrev table : List Entry

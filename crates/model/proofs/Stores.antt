@@ -1,4 +1,4 @@
--- Laws of stores, cuts and starts (document 02, Change 8). All stores of a message together are what handling it stores; after any cut
+-- Laws of stores, cuts and starts (RULES, Restarts). All stores of a message together are what handling it stores; after any cut
 -- the stored server holds the old state, the new vote with the old bucket, or the new state; a server that comes back has what a fresh
 -- one has, but for what is stored. The proofs of `limits` and `consistency` go by `cut-cases`.
 use mathlib.Core.Path.{_≡_, refl, sym, _∙_, ap, subst}

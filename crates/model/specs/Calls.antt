@@ -25,7 +25,7 @@ bucketFor n (setif k e v) = bucketOf n k
 bucketFor n (del k) = bucketOf n k
 bucketFor n (keys b) = b
 
--- document 01's result words, with the data of `value` and `keys`
+-- the results (RULES, Output 3), with the data of `value` and `keys`
 pub data Result : Type 0 where
   value : Option (List ℕ) → Result
   listed : List (List ℕ) → Result

@@ -88,7 +88,7 @@ pub record Server : Type 0 where
 
 -- ---- messages
 
--- document 01's nine kinds of datagram, with the version and table that two of them carry
+-- the nine kinds of datagram (RULES, Datagrams 1), with the version and table that two of them carry
 pub data Body : Type 0 where
   pleaseVote : Body
   ackVote : Body

@@ -1,4 +1,4 @@
--- Document 01's example script, its edges, and runs of several servers, computed by the definitions as document 02 amends them.
+-- The example script, the edges (RULES, Rows and edges), and runs of several servers, computed by the definitions.
 use mathlib.Core.Path.{_≡_, refl}
 use mathlib.Core.List.{[], _∷_}
 use Rattle.model.specs.Compute.{computing}
@@ -47,7 +47,7 @@ three-servers : run (bytes "cluster 3 1\nelect 0\ndeliver 0\ndeliver 1\nset 0 61
 unfolding computing
 three-servers = refl
 
--- ---- runs that tell document 01's rules from the mistakes near at hand
+-- ---- runs that tell the rules from the mistakes near at hand (RULES, Mistakes and contracts 1)
 
 -- two halves of four servers elect nobody: neither server 0 nor server 2 leads under number 1
 half-is-no-majority : run (bytes "cluster 4 1\nelect 0\ndeliver 0\ndeliver 2\nelect 2\ndeliver 4\ndeliver 4\nget 0 61\nget 2 61\n")
@@ -94,7 +94,7 @@ read-raises-the-vote : run (bytes "cluster 5 1\nelect 0\ndeliver 0\ndeliver 0\nd
 unfolding computing
 read-raises-the-vote = refl
 
--- ---- fewer rounds for writes (document 02, Change 1)
+-- ---- fewer rounds for writes (RULES, Calls 3)
 
 -- on an unrecovered bucket a `set` makes 4 rounds; on a recovered one every write makes 1, and what ends as `mismatch` or `full` makes the
 -- checking round, where `mismatch` is looked at before `full`; an election leaves the bucket unrecovered
@@ -110,7 +110,7 @@ rounds-of-three-servers : run (bytes "cluster 3 1\nelect 0\ndeliver 0\ndeliver 1
 unfolding computing
 rounds-of-three-servers = refl
 
--- ---- elections (document 02, Change 3)
+-- ---- elections (RULES, Elections 1)
 
 -- server 2 voted under 3 and was cut off: its first election is under 4, server 1 votes for it, and it leads
 cut-off : run (bytes "cluster 3 1\nelect 0\nelect 0\nelect 0\ndeliver 5\nelect 2\ndeliver 7\ndeliver 7\nget 2 61\n")

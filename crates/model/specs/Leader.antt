@@ -1,4 +1,4 @@
--- The rules of a server (document 01, 'Rules of a server'): elections, rounds, calls, and the handling of a message.
+-- The rules of a server (RULES, Elections, Rounds, READ, Calls, Ceasing), and the handling of a message.
 -- `n` is the number of servers, `me` the server's own number, `b` a bucket, `e` an election number, `k` a round, `q` another server.
 use mathlib.Core.List.{List, [], _∷_, _++_, map}
 use mathlib.Core.Bool.{Bool, true, false}
@@ -72,7 +72,7 @@ ceased w =
 unfoldable pub cease : Server → Reaction
 cease s = reaction (withVolatile s (ceased (s .volatile))) [] (endings (s .volatile .calls))
 
--- what a server that comes back has (document 02, Change 8): as when leading ends, and its rounds are numbered from 1 again
+-- what a server that comes back has (RULES, Restarts 4): as when leading ends, and its rounds are numbered from 1 again
 unfoldable pub forgotten : Volatile → Volatile
 forgotten w =
     let v = ceased w in record { role = v .role; votes = v .votes; lastRound = 0; rounds = v .rounds; calls = v .calls }
@@ -287,7 +287,7 @@ startRead n me b s =
           openRound n me b recoveryRead reading (recovering n me b (copyAt (s .stored) b .table)) s
     ]
 
--- what a call writes without READ (document 02, Change 1): on a recovered bucket its effect on the leader's copy, if that is a write
+-- what a call writes without READ (RULES, Calls 3): on a recovered bucket its effect on the leader's copy, if that is a write
 unfoldable pub straight : ℕ → Words → Copy → Option (List Entry)
 straight e words copy =
     elim (recovered e copy) [

@@ -1,4 +1,4 @@
--- Script lines (document 01, 'Script lines' and 'When a line or record is turned down'): when a line is refused, and
+-- Script lines (RULES, Lines 8, Refusals, Messages, Tally): when a line is refused, and
 -- what an accepted line does to the cluster, the messages and the tally.
 use mathlib.Core.List.{List, [], _∷_, _++_}
 use mathlib.Core.Bool.{Bool, true, false, not}

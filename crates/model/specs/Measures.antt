@@ -1,4 +1,4 @@
--- The measures of a cluster (document 01, 'Measures of a cluster'), each named once; majorities as document 02's Change 6 has them.
+-- The measures of a cluster (RULES, Measures), each named once.
 use Prim.Native.Nat.{ℕ, _+_, _/_}
 use Rattle.table.specs.Form.{maxKey}
 
@@ -7,6 +7,10 @@ maxServers = 7
 
 abbrev pub maxBuckets : ℕ
 maxBuckets = 8
+
+-- answers that a line can give: where leading ends, one for each bucket
+abbrev pub mostAnswers : ℕ
+mostAnswers = maxBuckets
 
 -- keys in a bucket
 abbrev pub maxEntries : ℕ

@@ -1,4 +1,4 @@
--- A script line from its bytes (document 01, 'Script lines'). What is not of the forms there is none: refusal 1.
+-- A script line from its bytes (RULES, Lines 2 to 7). What is not of the forms there is none: refusal 1.
 use mathlib.Core.List.{List, [], _∷_, reverse}
 use mathlib.Core.Bool.{true, false}
 use mathlib.Core.Option.{Option, none, some}

@@ -1,4 +1,4 @@
--- What is printed (document 01, 'Script lines', Output): answers, refusals and the tally line, as bytes.
+-- What is printed (RULES, Output): answers, refusals and the tally line, as bytes.
 use mathlib.Core.List.{List, [], _∷_, _++_}
 use mathlib.Core.Bool.{true, false}
 use mathlib.Core.Option.{Option, none, some}

@@ -1,4 +1,4 @@
--- What a server does as a voter and as a replica: Algorithms 1, 2 and 3 of the paper, on what it stores.
+-- What a server does as a voter and as a replica, on what it stores (RULES, Elections 2, Replicas; the paper, Algorithms 1 to 3).
 use mathlib.Core.List.{List}
 use mathlib.Core.Bool.{Bool, true, false}
 use Prim.Native.Nat.{ℕ}
@@ -36,7 +36,7 @@ requestBody (writing v t) = replicaWrite v t
 unfoldable pub mayAccept : ℕ → Stored → Bool
 mayAccept e st = elim (ltb e (st .vote)) [ true ↦ false | false ↦ true ]
 
--- document 01's addition: an accepted write is stored only if its version is above the stored one
+-- an accepted write is stored only if its version is above the stored one, which the paper does not ask (RULES, Replicas 4)
 unfoldable pub storing : ℕ → Version → List Entry → Stored → Stored
 storing b v t st =
     elim (above v (copyAt st b .version)) [

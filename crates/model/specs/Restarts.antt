@@ -1,4 +1,4 @@
--- Cuts and starts (document 02, Change 8), computed by the definitions.
+-- Cuts and starts (RULES, Restarts), computed by the definitions.
 use mathlib.Core.Path.{_≡_, refl}
 use Rattle.model.specs.Compute.{computing}
 use Rattle.model.specs.Text.{bytes}

@@ -1,4 +1,4 @@
--- Document 01's rows P1 to P10, proved as a whole: one computed test over all ten.
+-- Rows P1 to P10 (RULES, Rows and edges), proved as a whole: one computed test over all ten.
 use mathlib.Core.Path.{_≡_, refl}
 use mathlib.Core.List.{List, [], _∷_, _++_}
 use mathlib.Core.Bool.{Bool, true, false, not}

@@ -1,4 +1,4 @@
--- What a server stores before it replies, and in which order (document 02, Change 8). A store replaces one part of what is stored: the
+-- What a server stores before it replies, and in which order (RULES, Restarts 1 and 2). A store replaces one part of what is stored: the
 -- vote with its leader, or a bucket with its version. The election number is stored in the line of the election, before votes are asked for.
 use mathlib.Core.List.{List, [], _∷_, _++_}
 use mathlib.Core.Bool.{Bool, true, false}

@@ -1,4 +1,4 @@
--- Laws that belong to no one function: what each move stands for in the definitions of document 01.
+-- Laws that belong to no one function: what each move stands for in the definitions of crates/model.
 pub mod Ceasing
 pub mod Opening
 pub mod CallMoves

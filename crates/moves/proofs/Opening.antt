@@ -1,4 +1,4 @@
--- A round that a move opens stands for the one that document 01's definitions open, at a front and a cell.
+-- A round that a move opens stands for the one that the definitions of crates/model open, at a front and a cell.
 use mathlib.Core.Path.{_≡_, refl, sym, ap, ap₂, _∙_}
 use mathlib.Core.Bool.{Bool, true, false}
 use mathlib.Core.List.{List, [], map}

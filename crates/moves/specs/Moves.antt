@@ -1,4 +1,4 @@
--- What each step makes of a server's head and of one slot, number by number. The laws in proofs/ tie each to document 01's
+-- What each step makes of a server's head and of one slot, number by number. The laws in proofs/ tie each to the
 -- definition of the same name (crates/model/specs/Leader.antt). A number that is raised wraps at 2 ^ 32.
 use mathlib.Core.Bool.{Bool, true, false}
 use mathlib.Core.List.{[]}

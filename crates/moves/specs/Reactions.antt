@@ -1,4 +1,4 @@
--- What a move stands for in the definitions of document 01: the reaction of its server, seen as its front and its cells.
+-- What a move stands for in the definitions of crates/model: the reaction of its server, seen as its front and its cells.
 -- `n` is the number of servers, `me` the server's own number, `b` the bucket of the slot.
 use mathlib.Core.Path.{_≡_}
 use mathlib.Core.Bool.{true, false}
@@ -86,7 +86,7 @@ pub record EffectNeeded (n : ℕ) (l : Local) (words : calls.Words) (copy : List
 
 -- ---- what is sent
 
--- document 01's nine kinds, by number; any other number is none of them
+-- the nine kinds (RULES, Datagrams 1), by number; any other number is none of them
 unfoldable pub bodyIn : ℕ → Version → List Entry → cluster.Body
 bodyIn kind v t =
     elim (eqb kind 1) [

@@ -1,6 +1,11 @@
 // The rounds of a call, from its first to its answer.
 use crate::Local;
 use crate::Move;
+use crate::codes::FILLS_COPY;
+use crate::codes::FILLS_NOTHING;
+use crate::codes::FILLS_TABLE;
+use crate::codes::KEEPS_NOTHING;
+use crate::codes::KEEPS_WORK;
 use crate::nothing::no_version;
 use crate::parts::plain;
 use crate::parts::quiet;
@@ -16,6 +21,18 @@ use server::Answer;
 use server::Call;
 use server::Round;
 use server::Version;
+use server::codes::CHECK;
+use server::codes::DEL;
+use server::codes::DONE;
+use server::codes::NO_CALL;
+use server::codes::NO_RESULT;
+use server::codes::NO_ROUND;
+use server::codes::OWN_WRITE;
+use server::codes::RECOVERY_READ;
+use server::codes::RECOVERY_WRITE;
+use server::codes::REPLICA_READ;
+use server::codes::REPLICA_WRITE;
+use server::codes::SET;
 use server::numbers::above;
 use server::numbers::chosen;
 ghost use mathlib.Core.Path.{_≡_};
@@ -44,8 +61,8 @@ fn reading_move(me: u32, purpose: u32, l: Local) -> Move
     ensures { λ r. ⌜ r ≡ readingMove me purpose l ⌝ }
 {
     let a = after_broadcast(me, purpose, false, l.version, l);
-    let mut m = plain(7, a);
-    m.fills = chosen(purpose == 1, 1, 0);
+    let mut m = plain(REPLICA_READ, a);
+    m.fills = chosen(purpose == RECOVERY_READ, FILLS_COPY, FILLS_NOTHING);
     m
 }
 
@@ -54,7 +71,7 @@ fn after_write(me: u32, purpose: u32, stores: bool, v: Version, l: Local) -> Loc
     ensures { λ r. ⌜ r ≡ local (openedHead me (l .head)) (pickVersion stores v (l .version)) (newRoundOf me purpose (l .head) (l .version)) (oneMoreOf (eqb purpose 4) (l .call)) ⌝ }
 {
     let version = pick_version(stores, v, l.version);
-    after_broadcast(me, purpose, purpose == 4, version, l)
+    after_broadcast(me, purpose, purpose == OWN_WRITE, version, l)
 }
 
 // A round that writes the working content under version v; a call's own write works on its new table.
@@ -63,9 +80,9 @@ fn writing_move(me: u32, purpose: u32, v: Version, l: Local) -> Move
 {
     let stores = above(v, l.version);
     let a = after_write(me, purpose, stores, v, l);
-    let mut m = sending(4, v, a);
-    m.fills = chosen(purpose == 4, 2, 0);
-    m.keeps = chosen(stores, 1, 0);
+    let mut m = sending(REPLICA_WRITE, v, a);
+    m.fills = chosen(purpose == OWN_WRITE, FILLS_TABLE, FILLS_NOTHING);
+    m.keeps = chosen(stores, KEEPS_WORK, KEEPS_NOTHING);
     m
 }
 
@@ -76,14 +93,14 @@ fn finished_move(result: u32, l: Local) -> Move
     let best = no_version();
     let marks = [0u32; 7];
     let round = Round {
-        purpose: 0,
+        purpose: NO_ROUND,
         number: 0,
         election: 0,
         best,
         marks,
     };
     let call = Call {
-        kind: 0,
+        kind: NO_CALL,
         number: 0,
         rounds: 0,
         sent: 0,
@@ -108,14 +125,14 @@ fn own_write_move(me: u32, l: Local) -> Move
 {
     let head = l.head;
     let next = next_version(head.number, l.version);
-    writing_move(me, 4, next, l)
+    writing_move(me, OWN_WRITE, next, l)
 }
 
 // What follows the checking round: a new table is written, or the call is answered.
 fn after_read_move(me: u32, result: u32, l: Local) -> Move
     ensures { λ r. ⌜ r ≡ afterReadMove me result l ⌝ }
 {
-    if result == 0 {
+    if result == NO_RESULT {
         return own_write_move(me, l);
     }
     finished_move(result, l)
@@ -130,7 +147,7 @@ fn recovery_move(me: u32, l: Local) -> Move
         election: head.number,
         counter: 1,
     };
-    writing_move(me, 2, v, l)
+    writing_move(me, RECOVERY_WRITE, v, l)
 }
 
 // What follows the round of the slot, once it closed.
@@ -138,16 +155,16 @@ pub fn closed_move(me: u32, result: u32, l: Local) -> Move
     ensures { λ r. ⌜ r ≡ closedMove me result l ⌝ }
 {
     let round = l.round;
-    if round.purpose == 1 {
+    if round.purpose == RECOVERY_READ {
         return recovery_move(me, l);
     }
-    if round.purpose == 2 {
-        return reading_move(me, 3, l);
+    if round.purpose == RECOVERY_WRITE {
+        return reading_move(me, CHECK, l);
     }
-    if round.purpose == 3 {
+    if round.purpose == CHECK {
         return after_read_move(me, result, l);
     }
-    finished_move(3, l)
+    finished_move(DONE, l)
 }
 
 // The first round of a call among several servers: a copy that is not recovered is recovered first; on one that is, a new
@@ -156,12 +173,12 @@ fn started_move(me: u32, result: u32, l: Local) -> Move
     ensures { λ r. ⌜ r ≡ startedMove me result l ⌝ }
 {
     if recovered(l.head, l.version) {
-        if result == 0 {
+        if result == NO_RESULT {
             return own_write_move(me, l);
         }
-        return reading_move(me, 3, l);
+        return reading_move(me, CHECK, l);
     }
-    reading_move(me, 1, l)
+    reading_move(me, RECOVERY_READ, l)
 }
 
 // A server alone recovers its copy at once.
@@ -171,7 +188,7 @@ fn recovered_alone(me: u32, l: Local) -> Local
     if recovered(l.head, l.version) {
         return l;
     }
-    let read = reading_move(me, 1, l);
+    let read = reading_move(me, RECOVERY_READ, l);
     let written = recovery_move(me, read.local);
     written.local
 }
@@ -180,7 +197,7 @@ fn recovered_alone(me: u32, l: Local) -> Local
 fn read_alone(me: u32, l: Local) -> Local
     ensures { λ r. ⌜ r ≡ readAlone me l ⌝ }
 {
-    let read = reading_move(me, 3, recovered_alone(me, l));
+    let read = reading_move(me, CHECK, recovered_alone(me, l));
     read.local
 }
 
@@ -198,9 +215,9 @@ fn ready_alone(me: u32, l: Local) -> Local
 fn alone_move(me: u32, result: u32, l: Local) -> Move
     ensures { λ r. ⌜ r ≡ aloneMove me result l ⌝ }
 {
-    if result == 0 {
+    if result == NO_RESULT {
         let w = own_write_move(me, ready_alone(me, l));
-        let mut m = finished_move(3, w.local);
+        let mut m = finished_move(DONE, w.local);
         m.fills = w.fills;
         m.keeps = w.keeps;
         return m;
@@ -229,10 +246,10 @@ pub fn begun_move(n: u32, me: u32, i: u32, kind: u32, result: u32, l: Local) -> 
 fn may_write(kind: u32) -> bool
     ensures { λ r. ⌜ r ≡ mayWrite kind ⌝ }
 {
-    if kind < 2 {
+    if kind < SET {
         return false;
     }
-    kind <= 4
+    kind <= DEL
 }
 
 // Whether the line of a call needs the call's effect: with one server, and on a recovered copy for a call that may write.

@@ -6,13 +6,14 @@ use server::Head;
 use server::Round;
 use server::Version;
 
+pub mod codes;
 pub mod handling;
 pub mod leading;
-pub mod lines;
 pub mod nothing;
 mod parts;
 mod replicas;
 mod replies;
+pub mod roles;
 
 // A server's head, and what stands in the slot of one bucket: the version of the copy, the open round and the open call.
 pub struct Local {

@@ -2,6 +2,8 @@
 use server::Call;
 use server::Round;
 use server::Version;
+use server::codes::NO_CALL;
+use server::codes::NO_ROUND;
 ghost use mathlib.Core.Path.{_≡_};
 ghost use Rattle.server.specs.Views.{chosen};
 ghost use Rattle.rounds.specs.Rounds.{noVersion};
@@ -21,7 +23,7 @@ pub fn no_round() -> Round
     ensures { λ r. ⌜ r ≡ noRound ⌝ }
 {
     Round {
-        purpose: 0,
+        purpose: NO_ROUND,
         number: 0,
         election: 0,
         best: no_version(),
@@ -33,7 +35,7 @@ pub fn no_call() -> Call
     ensures { λ r. ⌜ r ≡ noCall ⌝ }
 {
     Call {
-        kind: 0,
+        kind: NO_CALL,
         number: 0,
         rounds: 0,
         sent: 0,

@@ -1,12 +1,16 @@
 // The parts that moves are made of.
 use crate::Local;
 use crate::Move;
+use crate::codes::FILLS_NOTHING;
+use crate::codes::KEEPS_NOTHING;
 use crate::nothing::no_version;
 use server::Answer;
 use server::Call;
 use server::Head;
 use server::Round;
 use server::Version;
+use server::codes::NO_MESSAGE;
+use server::codes::NO_RESULT;
 use server::votes::ceased;
 ghost use mathlib.Core.Path.{_≡_};
 ghost use Rattle.rounds.specs.Rounds.{noVersion};
@@ -45,15 +49,15 @@ pub fn sending(kind: u32, v: Version, l: Local) -> Move
 {
     let answer = Answer {
         call: 0,
-        result: 0,
+        result: NO_RESULT,
         rounds: 0,
     };
     Move {
         local: l,
         sends: kind,
         written: v,
-        fills: 0,
-        keeps: 0,
+        fills: FILLS_NOTHING,
+        keeps: KEEPS_NOTHING,
         answer,
         ceases: false,
         forgets: false,
@@ -78,7 +82,7 @@ pub fn headed(kind: u32, h: Head, l: Local) -> Move
 pub fn quiet(l: Local) -> Move
     ensures { λ r. ⌜ r ≡ quiet l ⌝ }
 {
-    plain(0, l)
+    plain(NO_MESSAGE, l)
 }
 
 // The same step, with the end of leading and of all calls.

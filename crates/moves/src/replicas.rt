@@ -1,6 +1,8 @@
 // What others ask of a server, as a voter and as a replica.
 use crate::Local;
 use crate::Move;
+use crate::codes::KEEPS_MESSAGE;
+use crate::codes::KEEPS_NOTHING;
 use crate::parts::ceasing;
 use crate::parts::headed;
 use crate::parts::plain;
@@ -9,6 +11,16 @@ use crate::parts::sending;
 use crate::parts::with_head;
 use rounds::replies::pick_version;
 use server::Message;
+use server::codes::ACK_READ;
+use server::codes::ACK_VOTE;
+use server::codes::ACK_WRITE;
+use server::codes::CANDIDATE;
+use server::codes::LEADING;
+use server::codes::NACK_READ;
+use server::codes::NACK_VOTE;
+use server::codes::NACK_WRITE;
+use server::codes::NO_MESSAGE;
+use server::codes::PLEASE_VOTE;
 use server::numbers::above;
 use server::numbers::chosen;
 use server::votes::after_vote;
@@ -27,10 +39,10 @@ ghost use Rattle.moves.specs.Moves.{steppedDown, voteMove, readRequestMo
 fn role_acts(role: u32) -> bool
     ensures { λ r. ⌜ r ≡ acts (roleIn role) ⌝ }
 {
-    if role == 1 {
+    if role == CANDIDATE {
         return true;
     }
-    role == 2
+    role == LEADING
 }
 
 // A leader or candidate whose vote rises above its own number is one no more. Most requests reach a follower, which is left
@@ -54,7 +66,7 @@ fn vote_move(m: Message, l: Local) -> Move
     ensures { λ r. ⌜ r ≡ voteMove m l ⌝ }
 {
     let h = l.head;
-    let kind = chosen(grants(m.election, m.sender, h), 2, 3);
+    let kind = chosen(grants(m.election, m.sender, h), ACK_VOTE, NACK_VOTE);
     let voted = after_vote(m.election, m.sender, h);
     stepped_down(headed(kind, voted, l))
 }
@@ -64,7 +76,7 @@ fn read_request_move(m: Message, l: Local) -> Move
     ensures { λ r. ⌜ r ≡ readRequestMove m l ⌝ }
 {
     let voted = voting(m.election, m.sender, l.head);
-    sending(8, l.version, with_head(voted, l))
+    sending(ACK_READ, l.version, with_head(voted, l))
 }
 
 // A write that is accepted is stored only if its version is above the stored one.
@@ -77,8 +89,8 @@ fn write_request_move(m: Message, l: Local) -> Move
     let mut a = l;
     a.head = head;
     a.version = version;
-    let mut b = plain(5, a);
-    b.keeps = chosen(stores, 2, 0);
+    let mut b = plain(ACK_WRITE, a);
+    b.keeps = chosen(stores, KEEPS_MESSAGE, KEEPS_NOTHING);
     b
 }
 
@@ -99,19 +111,19 @@ pub fn request_move(writes: bool, m: Message, l: Local) -> Move
     if may_accept(m.election, l.head) {
         return stepped_down(accepted_move(writes, m, l));
     }
-    plain(chosen(writes, 6, 9), l)
+    plain(chosen(writes, NACK_WRITE, NACK_READ), l)
 }
 
 // PLEASEVOTE is answered, ACKVOTE counts for a candidate, NACKVOTE is ignored.
 pub fn voting_move(n: u32, kind: u32, m: Message, l: Local) -> Move
     ensures { λ r. ⌜ r ≡ votingMove n kind m l ⌝ }
 {
-    if kind == 1 {
+    if kind == PLEASE_VOTE {
         return vote_move(m, l);
     }
-    if kind == 2 {
+    if kind == ACK_VOTE {
         let h = on_ack_vote(n, m.sender, m.election, l.head);
-        return headed(0, h, l);
+        return headed(NO_MESSAGE, h, l);
     }
     quiet(l)
 }

@@ -1,11 +1,12 @@
 // Replies to the round of a slot.
 use crate::Local;
 use crate::Move;
+use crate::codes::FILLS_MESSAGE;
 use crate::leading::closed_move;
-use crate::lines::timed_out_move;
 use crate::nothing::no_version;
 use crate::parts::quiet;
 use crate::parts::with_round;
+use crate::roles::timed_out_move;
 use rounds::replies::closes;
 use rounds::replies::counted;
 use rounds::replies::fails;
@@ -14,6 +15,7 @@ use rounds::replies::pick_version;
 use server::Counted;
 use server::Message;
 use server::Version;
+use server::codes::CHECK;
 use server::numbers::chosen;
 ghost use mathlib.Core.Path.{_≡_};
 ghost use mathlib.Core.Bool.{true, false};
@@ -28,7 +30,7 @@ fn fetching(better: bool, m: Move) -> Move
     ensures { λ r. ⌜ r ≡ fetching better m ⌝ }
 {
     let mut a = m;
-    a.fills = chosen(better, 3, m.fills);
+    a.fills = chosen(better, FILLS_MESSAGE, m.fills);
     a
 }
 
@@ -93,7 +95,7 @@ pub fn closes_check(n: u32, mark: u32, reports: bool, m: Message, l: Local) -> b
     ensures { λ r. ⌜ r ≡ readsBy n m l (Reply mark reports) ⌝ }
 {
     let round = l.round;
-    if round.purpose == 3 {
+    if round.purpose == CHECK {
         if matches(round, m.election, m.round) {
             let report = pick_version(reports, m.version, no_version());
             let k = counted(n, m.sender, mark, report, round);

@@ -1,4 +1,4 @@
--- What the rules of calls make of a call and of a version stands for what document 01's definitions make of them.
+-- What the rules of calls make of a call and of a version stands for what the definitions of crates/model make of them.
 use mathlib.Core.Path.{_≡_, refl, ap, ap₂, _∙_}
 use mathlib.Core.Bool.{Bool, true, false}
 use mathlib.Core.List.{List}

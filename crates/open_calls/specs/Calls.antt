@@ -1,5 +1,5 @@
 -- What the rules of calls make of a call and of a version, number by number. The laws in proofs/CallLaws.antt tie each to
--- document 01's definition of the same name. A number that is raised wraps at 2 ^ 32.
+-- the definition of the same name in crates/model. A number that is raised wraps at 2 ^ 32.
 use mathlib.Core.Bool.{Bool, true, false}
 use Prim.Native.Nat.{ℕ, _+_, _%_, _^_}
 use lib.Dec.{eqb}

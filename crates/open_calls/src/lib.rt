@@ -4,6 +4,9 @@ use server::Answer;
 use server::Call;
 use server::Head;
 use server::Version;
+use server::codes::NOTDONE;
+use server::codes::SENT;
+use server::codes::UNKNOWN;
 use std::num::wrapping_add_u32;
 ghost use mathlib.Core.Path.{_≡_};
 ghost use mathlib.Core.List.{List, []};
@@ -20,7 +23,7 @@ ghost use Rattle.open_calls.specs.Calls.{sentBy, endedAs, oneMoreOf, end
 fn sent_by(own: bool, sent: u32) -> u32
     ensures { λ r. ⌜ r ≡ sentBy own sent ⌝ }
 {
-    if own { 1 } else { sent }
+    if own { SENT } else { sent }
 }
 
 // One more round made for a call; `own` where it is the call's own write.
@@ -42,7 +45,7 @@ pub fn one_more(own: bool, c: Call) -> Call
 fn ended_as(sent: u32) -> u32
     ensures { λ r. ⌜ r ≡ endedAs sent ⌝ }
 {
-    if sent == 1 { 7 } else { 6 }
+    if sent == SENT { UNKNOWN } else { NOTDONE }
 }
 
 // The answer to a call that ends because leading ends.

@@ -6,6 +6,7 @@ use native.Mathlib.Omega.{arith}
 use native.Mathlib.Numerals.{add-one}
 use lib.ListN.{length, length-append}
 use Rattle.entries.specs.Entries.{Entry}
+use Rattle.model.specs.Measures.{mostAnswers}
 use Rattle.model.specs.Calls as calls
 use Rattle.model.specs.Print.{answerText, answerTexts}
 use Rattle.server.specs.Views.{answerIn}
@@ -13,6 +14,7 @@ use Rattle.views.specs.Memory.{each}
 use Rattle.views.specs.Changes.{answerAt, answersAt}
 use Rattle.views.proofs.Each.{each-last}
 use Rattle.print.specs.Printed.{Printed}
+use Rattle.print.specs.Room.{answerRoom, lineRoom}
 use Rattle.print.proofs.Printing.{both, printed-none, printed-size}
 use Rattle.output.specs.Told.{Told}
 
@@ -37,23 +39,23 @@ module _ (l v : List ℕ) (t : List Entry) where
 
 -- ---- i of n answers are printed
 pub record Answering (l v : List ℕ) (t : List Entry) (n : ℕ) (out₀ : List ℕ) (at : ℕ) (out : List ℕ) (p i : ℕ) : Type 0 where
-  pub room : at + 1024 ≤ length out₀
-  pub few : n ≤ 8
+  pub room : at + lineRoom ≤ length out₀
+  pub few : n ≤ mostAnswers
   pub inside : i ≤ n
-  pub within : p ≤ at + i * 128
+  pub within : p ≤ at + i * answerRoom
   pub size : length out ≡ length out₀
   pub printed : Printed (textsOf l v t i) out₀ at out p
 
 module _ (l v : List ℕ) (t : List Entry) where
-  pub answering-starts : (n : ℕ) (out : List ℕ) (at : ℕ) → at + 1024 ≤ length out → n ≤ 8 → Answering l v t n out at out at 0
+  pub answering-starts : (n : ℕ) (out : List ℕ) (at : ℕ) → at + lineRoom ≤ length out → n ≤ mostAnswers → Answering l v t n out at out at 0
   answering-starts n out at room few =
       record { room = room; few = few; inside = omega arith; within = omega arith; size = refl; printed = printed-none out at (no-texts l v t) }
 
 module _ {l v : List ℕ} {t : List Entry} {n : ℕ} {out₀ : List ℕ} {at : ℕ} {out : List ℕ} {p i : ℕ} (c : Answering l v t n out₀ at out p i) where
-  pub answering-fits : i < n → p + 128 ≤ length out
+  pub answering-fits : i < n → p + answerRoom ≤ length out
   answering-fits h = omega (arith, c .room, c .few, c .within, c .size)
 
-  pub answering-goes-on : {after : List ℕ} {q : ℕ} → i < n → Printed (answerText (answerIn (answerAt l i) v t)) out p after q → q ≤ p + 128 → Answering l v t n out₀ at after q (i + 1)
+  pub answering-goes-on : {after : List ℕ} {q : ℕ} → i < n → Printed (answerText (answerIn (answerAt l i) v t)) out p after q → q ≤ p + answerRoom → Answering l v t n out₀ at after q (i + 1)
   answering-goes-on {after} {q} h d short =
       let a = textsOf l v t i in
       let b = answerText (answerIn (answerAt l i) v t) in

@@ -1,4 +1,4 @@
--- An answer by its words is the answer that is printed, and has room in 128 bytes.
+-- An answer by its words is the answer that is printed, and has room in `answerRoom`.
 use mathlib.Core.Path.{_≡_}
 use mathlib.Core.List.{List}
 use Prim.Native.Nat.{ℕ, _≤_, _<_, _^_}
@@ -16,6 +16,7 @@ use Rattle.print.specs.declared.Outcome.the-variants as O
 use Rattle.print.specs.declared.KeyList.{KeyList}
 use Rattle.print.specs.declared.Answer as printer
 use Rattle.print.specs.Answers as printed
+use Rattle.print.specs.Room.{answerRoom}
 use Rattle.print.proofs.Room.{answer-room}
 use Rattle.output.specs.Told.{OutcomeOf, KeysOf}
 use Rattle.output.proofs.Keys.{value-room}
@@ -38,7 +39,7 @@ data-room O.NotDone v l h g = omega arith
 data-room O.Unknown v l h g = omega arith
 data-room O.Absent v l h g = omega arith
 
-pub one-room : (a : Answer) (o : Outcome) (v : Value) (k : KeyList) → a .call < 2 ^ 32 → a .rounds < 2 ^ 32 → length (valueBytes v) ≤ 16 → length (keysText (printed.keysIn k)) ≤ 68 → length (answerText (printed.answerIn (withData a o v k))) ≤ 128
+pub one-room : (a : Answer) (o : Outcome) (v : Value) (k : KeyList) → a .call < 2 ^ 32 → a .rounds < 2 ^ 32 → length (valueBytes v) ≤ 16 → length (keysText (printed.keysIn k)) ≤ 68 → length (answerText (printed.answerIn (withData a o v k))) ≤ answerRoom
 unfolding printed.answerIn
 one-room a o v k h g short keys =
     omega (arith, answer-room 10 10 (printed.answerIn (withData a o v k)) (omega arith) (omega arith) (omega arith) (omega arith), data-room o (valueBytes v) (printed.keysIn k) short keys)

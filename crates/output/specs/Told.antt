@@ -15,13 +15,15 @@ use Rattle.print.specs.declared.Outcome.{Outcome}
 use Rattle.print.specs.declared.KeyList.{KeyList}
 use Rattle.print.specs.Answers.{keysIn, resultFor}
 use Rattle.print.specs.Printed.{Printed}
+use Rattle.print.specs.Room.{lineRoom}
+use Rattle.memory.specs.Layout.{answerSize}
 use Rattle.memory.specs.Rows.{row}
 use Rattle.views.specs.Changes.{answerOf}
 
--- an answer has room in 128 bytes, a line's eight answers in 1024
+-- a line's text, within the room that it may take
 pub record Told (text before : List ℕ) (at : ℕ) (after : List ℕ) (p : ℕ) : Type 0 where
   pub printed : Printed text before at after p
-  pub within : p ≤ at + 1024
+  pub within : p ≤ at + lineRoom
 
 -- the kind of a result number, whatever the data
 pub record OutcomeOf (x : ℕ) (o : Outcome) : Type 0 where
@@ -39,4 +41,4 @@ pub record KeysOf (t : Decoded) (l : KeyList) : Type 0 where
 
 -- the fields of answer i, one by one
 abbrev pub answerFields : List ℕ → ℕ → Answer
-answerFields l i = answerOf (row (i * 4) 0 3 l)
+answerFields l i = answerOf (row (i * answerSize) 0 3 l)

@@ -1,21 +1,23 @@
-// What is printed for a line, from the machine's report of it (document 01, 'Script lines', Output).
-use crate::answers::put_answers;
-use print::lines::put_refusal;
-use print::lines::put_tally;
+// What is printed for a line, from the machine's report of it (RULES, Output).
+use crate::answer_list::put_answers;
+use print::other_lines::put_refusal;
+use print::other_lines::put_tally;
 use runs::Report;
 use runs::Tally;
 ghost use Prim.Native.Nat.{_≤_, _+_};
 ghost use lib.ListN.{length};
+ghost use Rattle.model.specs.Measures.{mostAnswers};
 ghost use Rattle.model.specs.Print.{outcomeText, tallyText};
 ghost use Rattle.runs.specs.Meaning.{outcomeIn, tallyIn};
 ghost use Rattle.print.specs.Printed.{Printed};
+ghost use Rattle.print.specs.Room.{lineRoom, tallyRoom};
 ghost use Rattle.output.specs.Told.{Told};
 
-mod answers;
+mod answer_list;
 
 // The refusal, or the answers.
 pub fn put_outcome(out: &mut [u8], at: usize, line: u32, r: Report, answers: &[u32; 32]) -> usize
-    requires { ⌜ (at + 1024 ≤ length (now out)) × (r .answers ≤ 8) ⌝ }
+    requires { ⌜ (at + lineRoom ≤ length (now out)) × (r .answers ≤ mostAnswers) ⌝ }
     ensures { λ p. ⌜ Told (outcomeText line (outcomeIn r (now (answers .entry)))) (now (out .entry)) at (now (out .exit)) p ⌝ }
 {
     if r.refusal != 0 {
@@ -30,8 +32,8 @@ pub fn put_outcome(out: &mut [u8], at: usize, line: u32, r: Report, answers: &[u
 
 // The tally, after the last line.
 pub fn put_end(out: &mut [u8], at: usize, t: Tally) -> usize
-    requires { ⌜ at + 64 ≤ length (now out) ⌝ }
-    ensures { λ p. ⌜ Printed (tallyText (tallyIn t)) (now (out .entry)) at (now (out .exit)) p × (p ≤ at + 64) ⌝ }
+    requires { ⌜ at + tallyRoom ≤ length (now out) ⌝ }
+    ensures { λ p. ⌜ Printed (tallyText (tallyIn t)) (now (out .entry)) at (now (out .exit)) p × (p ≤ at + tallyRoom) ⌝ }
 {
     put_tally(out, at, t.sent, t.copied, t.delivered, t.lost, t.flight)
 }

@@ -11,7 +11,7 @@ use Rattle.table.specs.Form.{sameBytes}
 use Rattle.model.specs.Text.{bytes}
 use Rattle.model.specs.Calls.{get, set, setif, del, keys}
 use Rattle.model.specs.Lines.{Line, cluster, elect, call, deliver, copy, lose, timeout, stop, cut, start}
-use Rattle.model.specs.Parse.{number, hexDigit, pairs, hexadecimal, item, made, made2, made3, made4}
+use Rattle.model.specs.Parse.{hexDigit, pairs, hexadecimal, item, made, made2, made3, made4}
 use Rattle.parse.specs.declared.Kind.{Kind}
 use Rattle.parse.specs.declared.Kind.the-variants as K
 use Rattle.parse.specs.Digits.{present, allThree, nibble, pairBytes, itemBytes}

@@ -9,6 +9,7 @@ use native.Mathlib.Omega.{arith}
 use lib.ListN.{length, take, replicate, length-append, length-take, length-replicate}
 use lib.Seq.{take-all}
 use borrow.Author.Tests.{ltb-false}
+use Rattle.model.specs.Measures.{maxKeyBytes, maxValueBytes}
 use Rattle.model.specs.Calls.{Words, get, set, setif, del, keys}
 use Rattle.model.specs.Cluster.{Cluster}
 use Rattle.model.specs.Lines.{Line, cluster, elect, call, deliver, copy, lose, timeout, stop, cut, start, State, either, noServer, noBucketFor, badKey, badValue, badWords, firstOf, conditions, conditionsUpTo, inCluster, inClusterUpTo, createCluster, perform, performUpTo}
@@ -25,13 +26,13 @@ kept top l = take top l ++ replicate (length l - top) 0
 
 unfoldable pub keptItem : Option (List ℕ) → Option (List ℕ)
 keptItem none = none
-keptItem (some v) = some (kept 16 v)
+keptItem (some v) = some (kept maxValueBytes v)
 
 unfoldable pub keptWords : Words → Words
-keptWords (get k) = get (kept 8 k)
-keptWords (set k v) = set (kept 8 k) (keptItem v)
-keptWords (setif k e v) = setif (kept 8 k) (keptItem e) (keptItem v)
-keptWords (del k) = del (kept 8 k)
+keptWords (get k) = get (kept maxKeyBytes k)
+keptWords (set k v) = set (kept maxKeyBytes k) (keptItem v)
+keptWords (setif k e v) = setif (kept maxKeyBytes k) (keptItem e) (keptItem v)
+keptWords (del k) = del (kept maxKeyBytes k)
 keptWords (keys b) = keys b
 
 unfoldable pub keptLine : Line → Line
@@ -52,7 +53,7 @@ keptOf (some l) = some (keptLine l)
 
 -- ---- the line by value that was read stands for that
 
-key-read : (k : List ℕ) → keyIn (keyFor k) ≡ kept 8 k
+key-read : (k : List ℕ) → keyIn (keyFor k) ≡ kept maxKeyBytes k
 unfolding keyIn keyBytes keyFor kept
 key-read k = rw (padded-back 8 k)
 
@@ -96,9 +97,9 @@ kept-whole top l h =
     rw (take-all top l h, n, append-nil)
 
 -- its length is refused or not as before
-key-refused : (k : List ℕ) → badKey (kept 8 k) ≡ badKey k
+key-refused : (k : List ℕ) → badKey (kept maxKeyBytes k) ≡ badKey k
 unfolding badKey
-key-refused k = rw (length-kept 8 k)
+key-refused k = rw (length-kept maxKeyBytes k)
 
 value-refused : (v : Option (List ℕ)) → badValue (keptItem v) ≡ badValue v
 unfolding badValue keptItem
@@ -111,7 +112,7 @@ either-false true b h = (h, cc)
 either-false false b h = (refl, h)
 
 -- and if it is not, the whole is kept
-key-whole : (k : List ℕ) → badKey k ≡ false → kept 8 k ≡ k
+key-whole : (k : List ℕ) → badKey k ≡ false → kept maxKeyBytes k ≡ k
 unfolding badKey
 key-whole k h = kept-whole 8 k (ltb-false 8 (length k) (either-false _ _ h .1))
 

@@ -1,5 +1,5 @@
 -- Keys and values in a line: how they stand there by value, and what is read back from that. A key or value has its whole
--- length, and its first bytes up to the greatest length that document 01 allows; zeros stand behind them.
+-- length, and its first bytes up to the greatest length (RULES, Measures 2); zeros stand behind them.
 use mathlib.Core.List.{List, [], _∷_, _++_}
 use mathlib.Core.Bool.{true, false}
 use mathlib.Core.Option.{Option, none, some}

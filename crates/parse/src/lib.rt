@@ -1,6 +1,6 @@
-// Script lines from their bytes (document 01, 'Script lines').
-use crate::lines::malformed;
-use crate::lines::with_word;
+// Script lines from their bytes (RULES, Lines 2 to 7).
+use crate::shapes::malformed;
+use crate::shapes::with_word;
 use crate::words::word_end;
 use entries::Key;
 use entries::Value;
@@ -10,7 +10,7 @@ ghost use Rattle.parse.specs.Meaning.{parsed};
 
 pub mod digits;
 mod hexadecimals;
-mod lines;
+mod shapes;
 pub mod words;
 
 // A number that was read, or none.
@@ -19,7 +19,7 @@ pub enum Number {
     Not,
 }
 
-// The first word of a line, or that the line is not of the forms of document 01.
+// The first word of a line, or that the line is malformed (RULES, Lines 2).
 pub enum Kind {
     Malformed,
     Cluster,

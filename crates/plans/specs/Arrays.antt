@@ -16,7 +16,7 @@ use Rattle.plans.specs.declared.Step.{Step}
 use Rattle.plans.specs.declared.Plan.{Plan}
 use Rattle.plans.specs.Plans.{electAt, timeoutAt, stopAt, startAt, cutAt, badLengths, callBucket, callPlan, callAt}
 
--- counts within document 01's measures
+-- counts within the measures
 pub record Measured (c : Counts) : Type 0 where
   pub someServers : 1 ≤ c .servers
   pub servers : c .servers ≤ 7

@@ -1,4 +1,4 @@
--- What each line would do, judged before anything changes. The conditions stand in document 01's order; the laws in crates/runs
+-- What each line would do, judged before anything changes. The conditions stand in the order of RULES, Refusals 3; the laws in crates/runs
 -- tie each plan to the definitions of crates/model/specs/Lines.antt.
 use mathlib.Core.Bool.{Bool, true, false}
 use Prim.Native.Nat.{ℕ, _+_, _%_, _^_, min}
@@ -15,11 +15,11 @@ use Rattle.server.specs.declared.Message.{Message}
 use Rattle.server.specs.declared.Words.{Words}
 use Rattle.server.specs.declared.Effect.{Effect}
 use Rattle.server.specs.Heads.{largerNumberOf}
-use Rattle.server.specs.Views.{flagIn, among, chosen}
+use Rattle.server.specs.Views.{among, chosen}
 use Rattle.rounds.specs.Rounds.{noVersion}
 use Rattle.memory.specs.declared.Counts.{Counts}
 use Rattle.memory.specs.Layout.{messageAt}
-use Rattle.refusals.specs.Refusals.{placesLeft, serverRefusal, startRefusal, inside, messageRefusal}
+use Rattle.refusals.specs.Refusals.{placesLeft, serverRefusal, startRefusal, noReceiver, inside, messageRefusal}
 use Rattle.moves.specs.declared.Local.{Local}
 use Rattle.moves.specs.declared.Move.{Move}
 use Rattle.moves.specs.Moves.{noRound, noCall, local, quiet, begunMove, handledMove, electedMove, timedOutMove, stoppedMove}
@@ -180,9 +180,9 @@ lostPlan c i removes f =
       effect = f;
     }
 
--- a receiver that is no server, or that is stopped
+-- a message that has no receiver
 unfoldable pub gone : Counts → Step → Local → Bool
-gone c x l = elim (leb (c .servers) (x .asked .receiver)) [ true ↦ true | false ↦ flagIn (l .head .stopped) ]
+gone c x l = noReceiver c (x .asked .receiver) (l .head)
 
 -- to such a server it is lost
 unfoldable pub handPlan : Counts → Step → Message → Local → Effect → Plan

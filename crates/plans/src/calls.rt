@@ -1,11 +1,11 @@
 // The five calls: `get`, `set`, `setif`, `del` and `keys`.
 use crate::Plan;
 use crate::Step;
-use crate::limits::roomy;
 use crate::parts::no_effect;
 use crate::parts::no_message;
 use crate::parts::refused_plan;
 use crate::parts::take_plan;
+use crate::room::roomy;
 use crate::servers::load_local;
 use decoding::decode;
 use effects::effect;
@@ -18,10 +18,19 @@ use memory::Counts;
 use moves::Local;
 use moves::leading::begun_move;
 use moves::leading::needs_effect;
+use refusals::codes::BAD_LENGTH;
+use refusals::codes::BUCKET_OCCUPIED;
+use refusals::codes::NONE;
+use refusals::codes::NOT_LEADING;
+use refusals::codes::NOT_THERE;
 use refusals::inside;
 use refusals::server_refusal;
 use server::Effect;
 use server::Words;
+use server::codes::GET;
+use server::codes::KEYS;
+use server::codes::LEADING;
+use server::codes::NOTDONE;
 use std::num::wrapping_add_u32;
 ghost use mathlib.Core.Path.{_≡_};
 ghost use mathlib.Core.Option.{none};
@@ -64,7 +73,7 @@ fn bad_lengths(w: Words) -> bool
     let key = w.key;
     let expected = w.expected;
     let value = w.value;
-    if w.kind == 5 {
+    if w.kind == KEYS {
         return false;
     }
     if bad_key(key.len) {
@@ -88,7 +97,7 @@ fn key_bucket(k: Key, buckets: u32) -> u32
 fn call_bucket(c: Counts, w: Words) -> u32
     ensures { λ r. ⌜ r ≡ callBucket c w ⌝ }
 {
-    if w.kind == 5 {
+    if w.kind == KEYS {
         return w.bucket;
     }
     key_bucket(w.key, c.buckets)
@@ -97,10 +106,10 @@ fn call_bucket(c: Counts, w: Words) -> u32
 fn is_taken(kind: u32) -> bool
     ensures { λ r. ⌜ r ≡ among 5 kind ⌝ }
 {
-    if kind < 1 {
+    if kind < GET {
         return false;
     }
-    kind <= 5
+    kind <= KEYS
 }
 
 // 5, 6, 8 and 9, or 0.
@@ -110,11 +119,15 @@ fn call_refusal(c: Counts, l: Local) -> u32
     let h = l.head;
     let k = l.call;
     let r = server_refusal(c, h);
-    if r == 0 {
-        if h.role == 2 {
-            return if is_taken(k.kind) { 9 } else { 0 };
+    if r == NONE {
+        if h.role == LEADING {
+            return if is_taken(k.kind) {
+                BUCKET_OCCUPIED
+            } else {
+                NONE
+            };
         }
-        return 8;
+        return NOT_LEADING;
     }
     r
 }
@@ -141,7 +154,7 @@ fn call_plan(c: Counts, s: u32, b: u32, w: Words, l: Local, f: Effect) -> Plan
     ensures { λ r. ⌜ r ≡ callPlan c s b w l f ⌝ }
 {
     let r = call_refusal(c, l);
-    if r == 0 {
+    if r == NONE {
         let x = call_step(c, s, b);
         let v = begun_move(c.servers, s, x.calls, w.kind, f.result, l);
         return roomy(c, take_plan(x, w, v, f));
@@ -173,7 +186,7 @@ fn nothing_written() -> Effect
     ensures { λ r. ⌜ calls.effectWrites (effectIn r) ≡ none ⌝ }
 {
     let mut f = no_effect();
-    f.result = 6;
+    f.result = NOTDONE;
     f
 }
 
@@ -222,9 +235,9 @@ pub fn plan_call(
     let b = call_bucket(c, w);
     if inside(c, s, b) {
         if bad_lengths(w) {
-            return refused_plan(4, no_effect());
+            return refused_plan(BAD_LENGTH, no_effect());
         }
         return plan_at(heads, slots, copies, c, s, b, w);
     }
-    refused_plan(3, no_effect())
+    refused_plan(NOT_THERE, no_effect())
 }

@@ -3,11 +3,12 @@ use crate::Plan;
 use crate::Step;
 use crate::deliveries::is_gone;
 use crate::deliveries::message_step;
-use crate::limits::roomy;
 use crate::parts::move_plan;
 use crate::parts::refused_plan;
+use crate::room::roomy;
 use memory::Counts;
 use moves::Local;
+use refusals::codes::BAD_CUT_OR_START;
 use restarts::cuts::can_cut;
 use restarts::cuts::cut_move;
 use server::Effect;
@@ -32,10 +33,10 @@ pub fn cut_plan(c: Counts, x: Step, k: u32, m: Message, l: Local, f: Effect) -> 
     ensures { λ r. ⌜ r ≡ cutPlan c x k m l f ⌝ }
 {
     if is_gone(c, x, l) {
-        return refused_plan(18, f);
+        return refused_plan(BAD_CUT_OR_START, f);
     }
     if can_cut(k, m, l) {
         return roomy(c, move_plan(x, cut_move(k, m, l), f));
     }
-    refused_plan(18, f)
+    refused_plan(BAD_CUT_OR_START, f)
 }

@@ -2,16 +2,18 @@
 use crate::Plan;
 use crate::Step;
 use crate::calls::effect_of;
-use crate::limits::unless;
 use crate::parts::no_effect;
 use crate::parts::no_message;
 use crate::parts::no_move;
 use crate::parts::no_words;
+use crate::room::unless;
 use crate::servers::load_local;
 use memory::Counts;
 use moves::Local;
 use moves::handling::reads_table;
 use records::words::load_words;
+use refusals::codes::NONE;
+use refusals::has_no_receiver;
 use refusals::message_refusal;
 use server::Effect;
 use server::Message;
@@ -65,7 +67,7 @@ fn lost_plan(c: Counts, i: u32, removes: bool, f: Effect) -> Plan
         calls: c.calls,
     };
     Plan {
-        refusal: 0,
+        refusal: NONE,
         loses: true,
         takes: false,
         words: no_words(),
@@ -85,17 +87,13 @@ pub fn receiver(heads: &[u32; 112], slots: &[u32; 1792], x: Step) -> Local
     load_local(heads, slots, s, k)
 }
 
-// Whether the receiver of a message is no server, or is stopped. The step's server is within the arrays whatever the message says,
-// so the message itself is asked.
+// Whether a message has no receiver. The step's server is within the arrays whatever the message says, so the message itself is
+// asked.
 pub fn is_gone(c: Counts, x: Step, l: Local) -> bool
     ensures { λ r. ⌜ r ≡ gone c x l ⌝ }
 {
     let m = x.asked;
-    if c.servers <= m.receiver {
-        return true;
-    }
-    let h = l.head;
-    h.stopped == 1
+    has_no_receiver(c, m.receiver, l.head)
 }
 
 // What the call does that stands where a message is handed over.

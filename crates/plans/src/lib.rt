@@ -8,8 +8,8 @@ use server::Words;
 pub mod calls;
 pub mod cuts;
 pub mod deliveries;
-pub mod limits;
 pub mod parts;
+mod room;
 pub mod servers;
 
 // Where a move happens, what hands it over, and what it adds to the tally beside the messages sent.

@@ -1,20 +1,24 @@
 // Lines that name a server: `elect`, `timeout`, `stop` and `start`.
 use crate::Plan;
-use crate::limits::roomy;
-use crate::limits::unless;
 use crate::parts::line_step;
 use crate::parts::move_plan;
 use crate::parts::no_effect;
 use crate::parts::refused_plan;
+use crate::room::roomy;
+use crate::room::unless;
 use memory::Counts;
 use moves::Local;
-use moves::lines::elected_move;
-use moves::lines::stopped_move;
-use moves::lines::timed_out_move;
+use moves::roles::elected_move;
+use moves::roles::stopped_move;
+use moves::roles::timed_out_move;
 use records::heads::load_head;
 use records::slots::load_call;
 use records::slots::load_round;
 use records::slots::load_version;
+use refusals::codes::LAST_ELECTION;
+use refusals::codes::NO_ROUND_OPEN;
+use refusals::codes::NONE;
+use refusals::codes::NOT_THERE;
 use refusals::inside;
 use refusals::server_refusal;
 use refusals::start_refusal;
@@ -49,9 +53,9 @@ fn elect_plan(c: Counts, s: u32, l: Local, f: Effect) -> Plan
 {
     let h = l.head;
     let r = server_refusal(c, h);
-    if r == 0 {
+    if r == NONE {
         if last_number(h) {
-            return refused_plan(11, f);
+            return refused_plan(LAST_ELECTION, f);
         }
         return roomy(
             c,
@@ -71,7 +75,7 @@ pub fn plan_elect(heads: &[u32; 112], slots: &[u32; 1792], c: Counts, s: u32) ->
         let l = load_local(heads, slots, at, at * 8);
         return elect_plan(c, s, l, f);
     }
-    refused_plan(3, f)
+    refused_plan(NOT_THERE, f)
 }
 
 // 5, 6, 10 and 12, or the end of leading.
@@ -80,11 +84,11 @@ fn timeout_plan(c: Counts, s: u32, b: u32, l: Local, f: Effect) -> Plan
     ensures { λ r. ⌜ r ≡ timeoutPlan c s b l f ⌝ }
 {
     let r = server_refusal(c, l.head);
-    if r == 0 {
+    if r == NONE {
         if is_open(l.round) {
             return roomy(c, move_plan(line_step(c, s, b), timed_out_move(l), f));
         }
-        return refused_plan(10, f);
+        return refused_plan(NO_ROUND_OPEN, f);
     }
     refused_plan(r, f)
 }
@@ -99,7 +103,7 @@ pub fn plan_timeout(heads: &[u32; 112], slots: &[u32; 1792], c: Counts, s: u32, 
         let l = load_local(heads, slots, at, at * 8 + b as usize);
         return timeout_plan(c, s, b, l, f);
     }
-    refused_plan(3, f)
+    refused_plan(NOT_THERE, f)
 }
 
 // 5, 6 and 12, or the stop.
@@ -125,7 +129,7 @@ pub fn plan_stop(heads: &[u32; 112], slots: &[u32; 1792], c: Counts, s: u32) -> 
         let l = load_local(heads, slots, at, at * 8);
         return stop_plan(c, s, l, f);
     }
-    refused_plan(3, f)
+    refused_plan(NOT_THERE, f)
 }
 
 // 5 and 18, or the start.
@@ -151,5 +155,5 @@ pub fn plan_start(heads: &[u32; 112], slots: &[u32; 1792], c: Counts, s: u32) ->
         let l = load_local(heads, slots, at, at * 8);
         return start_plan(c, s, l, f);
     }
-    refused_plan(3, f)
+    refused_plan(NOT_THERE, f)
 }

@@ -1,4 +1,5 @@
 pub mod Printed
+pub mod Room
 pub mod Figures
 pub mod Answers
 pub mod Counted

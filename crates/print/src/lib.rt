@@ -1,12 +1,17 @@
-// What is printed (document 01, 'Script lines', Output), written into a lent buffer.
+// What is printed (RULES, Output), written into a lent buffer.
 use entries::Key;
 use entries::Value;
 
-pub mod answers;
+pub mod answer_text;
 mod bytes;
 mod decimals;
 mod hexadecimals;
-pub mod lines;
+pub mod other_lines;
+
+// Bytes of output for what a line prints, and for the tally.
+pub const LINE_ROOM: usize = 1024;
+
+pub const TALLY_ROOM: usize = 64;
 
 // The figures of a number: the bytes from `from` on.
 pub struct Figures {

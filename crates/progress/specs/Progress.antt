@@ -8,10 +8,6 @@ use Rattle.progress.specs.declared.Kept.{Kept}
 use Rattle.progress.specs.declared.Ending.{Ending}
 use Rattle.progress.specs.declared.Progress.{Progress}
 
--- room for what a line can print
-abbrev pub lineRoom : ℕ
-lineRoom = 1024
-
 -- nothing taken or written yet
 abbrev pub begunAt : Tally → ℕ → ℕ → Progress
 begunAt t lines count = record { tally = t; lines = lines; held = count; taken = 0; written = 0; more = true }

@@ -1,11 +1,13 @@
 // How far a part of the input was dealt with, by value, and what is kept of it between two parts, in three lent words.
+use print::LINE_ROOM;
 use runs::Tally;
 ghost use mathlib.Core.Path.{_≡_};
 ghost use mathlib.Core.List.{[], _∷_};
 ghost use Prim.Native.Nat.{_+_, _≤_, _<_};
 ghost use lib.Dec.{leb};
 ghost use lib.ListN.{take, set};
-ghost use Rattle.progress.specs.Progress.{lineRoom, begunAt, waitingAt, endedAt, passedAt, lastFeed};
+ghost use Rattle.print.specs.Room.{lineRoom};
+ghost use Rattle.progress.specs.Progress.{begunAt, waitingAt, endedAt, passedAt, lastFeed};
 
 // The bytes kept of the present line, and how far the input was read for it.
 pub struct Kept {
@@ -92,7 +94,7 @@ pub fn has_room(size: usize, written: usize) -> bool
     if size < written {
         return false;
     }
-    if size - written < 1024 {
+    if size - written < LINE_ROOM {
         return false;
     }
     true

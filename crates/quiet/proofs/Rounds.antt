@@ -21,7 +21,7 @@ use Rattle.model.specs.Leader.{Reaction, reaction, after, broadcast, refusals, 
 use Rattle.model.proofs.FirstRound.{first-round}
 use Rattle.model.proofs.Replicas.{accepting-keeps}
 use Rattle.limits.specs.Lists.{All, nil, all-append}
-use Rattle.limits.specs.Measures.{left}
+use Rattle.limits.specs.Rules.{left}
 use Rattle.quiet.specs.Statement.{Answered}
 use Rattle.quiet.proofs.Counting.{refusals-set, refusals-silent}
 use Rattle.quiet.proofs.Weights.{weigh, weigh-append, weigh-broadcast}

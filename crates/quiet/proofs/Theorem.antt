@@ -233,7 +233,7 @@ module _ (n i : ℕ) (out : List Answer) (s : State) (orders : (k : ℕ) (more :
       let r = drain (deliveries n) 0 [] s nothing (omega arith) in
       record { count = r .count; few = omega (arith, r .few); more = r .rest; last = r .last; drains = r .drains; answered = r .answered }
 
--- the stronger theorem gives document 02's
+-- the stronger theorem gives the claim
 pub stronger : InAnyOrder → QuietCall
 stronger h s c is shaped p quiet l out x =
     let needed : Needed c p = record { highest = quiet .highest; majority-runs = quiet .majority-runs; none-in-flight = quiet .none-in-flight; lines-left = quiet .lines-left } in

@@ -1,5 +1,5 @@
--- How long a quiet call takes (document 02, Change 4). This file is the whole statement: five claims and the terms they need.
--- `QuietCall` is document 02's, and `QuietCallOfAScript` the same about the states that scripts reach; `InAnyOrder` and
+-- How long a quiet call takes (RULES, Quiet calls). This file is the whole statement: five claims and the terms they need.
+-- `QuietCall` is the claim, and `QuietCallOfAScript` the same about the states that scripts reach; `InAnyOrder` and
 -- `InAnyOrderOfAScript` are stronger; `NoSmaller` says that no smaller figure will do. Theorems: `quiet-call`,
 -- `quiet-call-of-a-script`, `quiet-call-in-any-order`, `quiet-call-in-any-order-of-a-script` in proofs/Theorem.antt, `least` in
 -- proofs/Least.antt. Of the rules of the bench the claims use `majority`, `parse`, which reads a line, and `step`, which runs it
@@ -33,7 +33,7 @@ running (s ∷ l) = elim (s .stopped) [ true ↦ running l | false ↦ suc (runn
 abbrev pub deliveries : ℕ → ℕ
 deliveries n = 8 * (n - 1)
 
--- what document 01's measures give every cluster: at most 7 servers, at least one bucket, and at each server a place for the
+-- what the measures give every cluster: at most 7 servers, at least one bucket, and at each server a place for the
 -- round and for the call of each bucket
 pub record Shaped (c : Cluster) : Type 0 where
   pub few-servers : serversOf c ≤ maxServers
@@ -58,7 +58,7 @@ NoCallOpen c = (q b : ℕ) → callAt (serverAt c q .volatile) b ≡ none
 abbrev pub LinesLeft : Cluster → Type 0
 LinesLeft c = c .accepted + (deliveries (serversOf c) + 1) ≤ maxAccepted
 
--- document 02's hypotheses, in its order
+-- the hypotheses, in the order of RULES, Quiet calls
 pub record Quiet (c : Cluster) (p : ℕ) : Type 0 where
   pub leads : serverAt c p .volatile .role ≡ leading
   pub highest : Highest c p

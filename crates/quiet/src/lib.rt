@@ -1,1 +1,1 @@
-// How long a quiet call takes (document 02, Change 4). The claim is in specs/, its proof in proofs/; there is no code here.
+// How long a quiet call takes (RULES, Quiet calls). The claim is in specs/, its proof in proofs/; there is no code here.

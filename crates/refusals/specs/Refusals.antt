@@ -1,4 +1,4 @@
--- Refusals that bear on several kinds of lines, in document 01's order, and how many messages a step sends.
+-- Refusals that bear on several kinds of lines (RULES, Refusals 3), by rising number, and how many messages a step sends.
 use mathlib.Core.Bool.{Bool, true, false}
 use Prim.Native.Nat.{ℕ, _+_, _-_}
 use lib.Dec.{eqb, leb}
@@ -22,6 +22,10 @@ startRefusal c h = elim (leb maxAccepted (c .lines)) [ true ↦ 5 | false ↦ el
 -- 5 and 7, or 0
 unfoldable pub messageRefusal : Counts → ℕ → ℕ
 messageRefusal c i = elim (leb maxAccepted (c .lines)) [ true ↦ 5 | false ↦ elim (leb (c .messages) i) [ true ↦ 7 | false ↦ 0 ] ]
+
+-- a receiver that is no server, or that is stopped: a message to it is lost, and cannot be cut
+unfoldable pub noReceiver : Counts → ℕ → Head → Bool
+noReceiver c receiver h = elim (leb (c .servers) receiver) [ true ↦ true | false ↦ flagIn (h .stopped) ]
 
 -- how many messages a step sends, by their kind, among n servers
 unfoldable pub sendCount : ℕ → ℕ → ℕ

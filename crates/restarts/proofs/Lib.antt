@@ -1,3 +1,3 @@
--- What a cut and a start, as moves, mean in the definitions of document 02.
+-- What a cut and a start, as moves, mean in the definitions of crates/model.
 pub mod Cutting
 pub mod Starting

@@ -1,4 +1,4 @@
--- Cuts and starts (document 02, Change 8), number by number. The laws in proofs/ tie them to the definitions of the stores that a
+-- Cuts and starts (RULES, Restarts), number by number. The laws in proofs/ tie them to the definitions of the stores that a
 -- message makes (crates/model/specs/Stores.antt) and of lines (`cutServer`, `restarted` in crates/model/specs/Lines.antt).
 use mathlib.Core.Bool.{Bool, true, false}
 use mathlib.Core.List.{[]}

@@ -1,10 +1,14 @@
 // A server that is stopped in the middle of what a message makes it store: the vote first, then the bucket.
 use moves::Local;
 use moves::Move;
-use moves::lines::stopped_move;
+use moves::codes::KEEPS_MESSAGE;
+use moves::codes::KEEPS_NOTHING;
+use moves::roles::stopped_move;
 use rounds::replies::pick_version;
 use server::Head;
 use server::Message;
+use server::codes::PLEASE_VOTE;
+use server::codes::REPLICA_WRITE;
 use server::kinds::is_broadcast;
 use server::numbers::above;
 use server::numbers::chosen;
@@ -30,7 +34,7 @@ fn changes_vote(e: u32, p: u32, h: Head) -> bool
 fn stores_vote(m: Message, h: Head) -> bool
     ensures { λ r. ⌜ r ≡ storesVote m h ⌝ }
 {
-    if m.kind == 1 {
+    if m.kind == PLEASE_VOTE {
         return h.vote < m.election;
     }
     if may_accept(m.election, h) {
@@ -43,7 +47,7 @@ fn stores_vote(m: Message, h: Head) -> bool
 fn stores_bucket(m: Message, l: Local) -> bool
     ensures { λ r. ⌜ r ≡ storesBucket m l ⌝ }
 {
-    if m.kind == 4 {
+    if m.kind == REPLICA_WRITE {
         if may_accept(m.election, l.head) {
             return above(m.version, l.version);
         }
@@ -115,6 +119,6 @@ pub fn cut_move(k: u32, m: Message, l: Local) -> Move
     a.head = head;
     a.version = version;
     let mut b = stopped_move(a);
-    b.keeps = chosen(kept, 2, 0);
+    b.keeps = chosen(kept, KEEPS_MESSAGE, KEEPS_NOTHING);
     b
 }

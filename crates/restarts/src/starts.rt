@@ -1,7 +1,8 @@
 // A server that comes back.
 use moves::Local;
 use moves::Move;
-use moves::lines::timed_out_move;
+use moves::roles::timed_out_move;
+use server::codes::RUNNING;
 ghost use mathlib.Core.Path.{_≡_};
 ghost use Rattle.restarts.specs.Restarts.{restartedMove};
 
@@ -11,7 +12,7 @@ pub fn restarted_move(l: Local) -> Move
 {
     let mut h = l.head;
     h.last = 0;
-    h.stopped = 0;
+    h.stopped = RUNNING;
     let mut a = l;
     a.head = h;
     let mut m = timed_out_move(a);

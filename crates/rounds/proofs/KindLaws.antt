@@ -1,4 +1,4 @@
--- The handling by kind number is the handling of document 01's messages.
+-- The handling by kind number is the handling of the messages of crates/model.
 use mathlib.Core.Path.{_≡_, refl}
 use mathlib.Core.Bool.{true, false}
 use Prim.Native.Nat.{ℕ, _<_, _≤_}

@@ -1,4 +1,4 @@
--- What the rules of rounds make of a round and of its sender's head stands for what document 01's definitions make of them.
+-- What the rules of rounds make of a round and of its sender's head stands for what the definitions of crates/model make of them.
 use mathlib.Core.Path.{_≡_, refl, sym, ap, ap₂, _∙_}
 use mathlib.Core.Bool.{Bool, true, false}
 use mathlib.Core.List.{List}

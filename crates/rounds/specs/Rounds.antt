@@ -1,5 +1,5 @@
 -- What the rules of rounds make of a round and of its sender's head, number by number. The laws in proofs/RoundLaws.antt tie
--- each to document 01's definition of the same name. A number that is raised wraps at 2 ^ 32.
+-- each to the definition of the same name in crates/model. A number that is raised wraps at 2 ^ 32.
 use mathlib.Core.Bool.{Bool, true, false}
 use mathlib.Core.List.{List}
 use mathlib.Core.Option.{Option, none, some}

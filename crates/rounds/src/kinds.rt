@@ -1,5 +1,7 @@
 // How a server handles a message, by its kind number.
 use server::Handling;
+use server::codes::ACKNOWLEDGED;
+use server::codes::REFUSED;
 ghost use mathlib.Core.Path.{_≡_};
 ghost use Rattle.model.specs.Cluster.{Body, kindNumber};
 ghost use Rattle.rounds.specs.Kinds.{handlingIn, handlingOf};
@@ -13,20 +15,20 @@ pub fn kind_of_message(kind: u32) -> Handling
         1..=3 => Handling::Vote(kind),
         4 => Handling::Request { writes: true },
         5 => Handling::Reply {
-            mark: 1,
+            mark: ACKNOWLEDGED,
             reports: false,
         },
         6 => Handling::Reply {
-            mark: 2,
+            mark: REFUSED,
             reports: false,
         },
         7 => Handling::Request { writes: false },
         8 => Handling::Reply {
-            mark: 1,
+            mark: ACKNOWLEDGED,
             reports: true,
         },
         9 => Handling::Reply {
-            mark: 2,
+            mark: REFUSED,
             reports: false,
         },
         _ => Handling::Other,

@@ -2,6 +2,8 @@
 use server::Head;
 use server::Round;
 use server::Version;
+use server::codes::ACKNOWLEDGED;
+use server::codes::RECOVERY_READ;
 use server::numbers::placed;
 use std::num::wrapping_add_u32;
 ghost use mathlib.Core.Path.{_≡_};
@@ -16,7 +18,7 @@ ghost use Rattle.rounds.specs.Rounds.{reported, newRoundOf, openedHead};
 pub fn report_to(purpose: u32, v: Version) -> Version
     ensures { λ r. ⌜ r ≡ reported purpose v ⌝ }
 {
-    if purpose == 1 {
+    if purpose == RECOVERY_READ {
         return v;
     }
     Version {
@@ -30,7 +32,7 @@ pub fn new_round(me: u32, purpose: u32, h: Head, v: Version) -> Round
     ensures is { λ r. ⌜ r ≡ newRoundOf me purpose h v ⌝ }
     ensures means { λ r. ⌜ ((n b : ℕ) (x : Beside) → h .last + 1 < 2 ^ 32 → versionIn v ≡ copyAt (storedIn h (x .copies)) b .version → openIn n r (reportTo (purposeIn purpose) (copyAt (storedIn h (x .copies)) b) .table) ≡ newRound (min 7 n) me b (purposeIn purpose) (serverIn n x h)) ⌝ }
 {
-    let marks = placed([0u32; 7], me, 1);
+    let marks = placed([0u32; 7], me, ACKNOWLEDGED);
     let best = report_to(purpose, v);
     let number = wrapping_add_u32(h.last, 1);
     Round {

@@ -2,6 +2,10 @@
 use server::Counted;
 use server::Round;
 use server::Version;
+use server::codes::ACKNOWLEDGED;
+use server::codes::OWN_WRITE;
+use server::codes::RECOVERY_READ;
+use server::codes::REFUSED;
 use server::numbers::above;
 use server::numbers::count;
 use server::numbers::majority;
@@ -19,14 +23,14 @@ pub fn acknowledgements(n: u32, r: Round) -> u32
     ensures { λ k. ⌜ k ≡ acknowledgements (marksIn n r) ⌝ }
 {
     let marks = r.marks;
-    count(n, marks, 1)
+    count(n, marks, ACKNOWLEDGED)
 }
 
 pub fn refusals(n: u32, r: Round) -> u32
     ensures { λ k. ⌜ k ≡ refusals (marksIn n r) ⌝ }
 {
     let marks = r.marks;
-    count(n, marks, 2)
+    count(n, marks, REFUSED)
 }
 
 // A majority of acknowledgements closes a round.
@@ -47,10 +51,10 @@ pub fn fails(n: u32, r: Round) -> bool
 fn is_silent(m: u32) -> bool
     ensures { λ b. ⌜ b ≡ isSilent (markIn m) ⌝ }
 {
-    if m == 1 {
+    if m == ACKNOWLEDGED {
         return false;
     }
-    if m == 2 {
+    if m == REFUSED {
         return false;
     }
     true
@@ -60,7 +64,7 @@ fn is_silent(m: u32) -> bool
 fn improves(purpose: u32, report: Version, best: Version) -> bool
     ensures { λ b. ⌜ b ≡ improves purpose report best ⌝ }
 {
-    if purpose == 1 {
+    if purpose == RECOVERY_READ {
         return above(report, best);
     }
     false
@@ -79,7 +83,7 @@ pub fn counted(n: u32, q: u32, mark: u32, report: Version, r: Round) -> Counted
 {
     let marks = r.marks;
     let old = r.best;
-    if is_silent(place_at(n, marks, q, 2)) {
+    if is_silent(place_at(n, marks, q, REFUSED)) {
         let better = improves(r.purpose, report, old);
         let best = pick_version(better, report, old);
         let next = placed(marks, q, mark);
@@ -97,10 +101,10 @@ pub fn counted(n: u32, q: u32, mark: u32, report: Version, r: Round) -> Counted
 pub fn is_open(r: Round) -> bool
     ensures { λ b. ⌜ b ≡ among 4 (r .purpose) ⌝ }
 {
-    if r.purpose < 1 {
+    if r.purpose < RECOVERY_READ {
         return false;
     }
-    r.purpose <= 4
+    r.purpose <= OWN_WRITE
 }
 
 // Whether a reply with this election number and round is one to the open round.

@@ -17,16 +17,17 @@ use Rattle.memory.specs.Layout.{countsAt}
 use Rattle.refusals.specs.Refusals.{placesLeft}
 use Rattle.moves.specs.declared.Move.{Move}
 use Rattle.moves.specs.Reactions.{askedIn, reactionIn}
+use Rattle.views.specs.Changes.{answersRoom}
 use Rattle.views.specs.Memory.{Memory, Sized, WholeLocal, standing, slotOf, callWordsAt, serverAt, clusterAt}
 use Rattle.views.proofs.Contents.{tablesAt}
 use Rattle.plans.specs.declared.Step.{Step}
 use Rattle.runs.specs.Runs.{carriedRun, lostRun}
 use Rattle.runs.specs.Meaning.{stateIn, resultOf}
 
--- arrays of the lent sizes that hold a cluster within the measures of document 01
+-- arrays of the lent sizes that hold a cluster within the measures
 pub record Ready (m : Memory) (l : List ℕ) (t : lines.Tally) : Type 0 where
   pub sized : Sized m
-  pub answers : length l ≡ 32
+  pub answers : length l ≡ answersRoom
   pub standing : standing (countsAt (m .counts)) ≡ true
   pub stands : Stands (clusterAt m) t
 

@@ -1,4 +1,4 @@
--- How plans answer the conditions of document 01, one condition after the other, and what plans that are accepted come to.
+-- How plans answer the conditions of RULES, Refusals 3, one condition after the other, and what plans that are accepted come to.
 use mathlib.Core.Path.{_≡_, refl, sym, ap, _∙_}
 use mathlib.Core.Bool.{Bool, true, false, not}
 use mathlib.Core.List.{List, _∷_}
@@ -35,7 +35,7 @@ use Rattle.runs.proofs.Lost.{loses-message}
 abbrev pub countsIn : Memory → Counts
 countsIn m = countsAt (m .counts)
 
--- what a line comes to by document 01: refused with the first condition that applies, or its work
+-- what a line comes to by the definitions: refused with the first condition that applies, or its work
 abbrev pub judged : lines.State → List lines.Condition → lines.Work → lines.LineResult
 judged s conditions w = elim (lines.firstOf conditions) [ some r ↦ lines.refuse s r | none ↦ lines.acceptLine s w ]
 

@@ -17,7 +17,7 @@ use Rattle.server.specs.declared.Effect.{Effect}
 use Rattle.server.specs.Views.{flagIn, chosen, isBroadcast}
 use Rattle.memory.specs.declared.Counts.{Counts}
 use Rattle.memory.specs.Layout.{countsAt, headAt, messageAt}
-use Rattle.refusals.specs.Refusals.{messageRefusal}
+use Rattle.refusals.specs.Refusals.{messageRefusal, noReceiver}
 use Rattle.moves.specs.declared.Local.{Local}
 use Rattle.moves.specs.declared.Move.{Move}
 use Rattle.restarts.specs.Restarts.{storesVote, storesBucket, storesMade, cuttable, cutMove}
@@ -123,8 +123,8 @@ module _ (m : Memory) (l : List ℕ) (t : lines.Tally) (ready : Ready m l t) (i 
         ∙ by-kind (isBroadcast (asked .kind)) refl stopped))
 
     gone-is : gone counts step here-local ≡ stopped
-    unfolding gone
-    gone-is = rw (gone, among-servers) refl
+    unfolding gone noReceiver
+    gone-is = rw (gone, noReceiver, among-servers) refl
 
     plan-is : plan ≡ refusing 18 bad f (roomy counts (movePlan step move f))
     unfolding cutPlan

@@ -1,4 +1,4 @@
--- The memory that a cluster line leaves stands for the fresh cluster of document 01.
+-- The memory that a cluster line leaves stands for the fresh cluster (RULES, Servers 4).
 use mathlib.Core.Path.{_≡_, refl, ap, ap₂, _∙_}
 use mathlib.Core.Bool.{Bool, true, false}
 use mathlib.Core.List.{List, [], _∷_, map, zipWith}

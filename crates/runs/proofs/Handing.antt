@@ -24,7 +24,7 @@ use Rattle.rounds.specs.Rounds.{noVersion, pickVersion, pickTable, matching}
 use Rattle.rounds.proofs.RoundLaws.{matching-shut, unmatched}
 use Rattle.memory.specs.declared.Counts.{Counts}
 use Rattle.memory.specs.Layout.{countsAt, headAt, messageAt}
-use Rattle.refusals.specs.Refusals.{messageRefusal}
+use Rattle.refusals.specs.Refusals.{messageRefusal, noReceiver}
 use Rattle.moves.specs.declared.Local.{Local}
 use Rattle.moves.specs.declared.Move.{Move}
 use Rattle.moves.specs.Moves.{replyMove, handledMove, readsTable}
@@ -248,16 +248,16 @@ module _ (m : Memory) (l : List ℕ) (t : lines.Tally) (ready : Ready m l t) (i 
 
     handed-by : (z : Bool) → flagIn (headAt (m .heads) place .stopped) ≡ z
         → lines.acceptLine (stateIn m t) (lines.delivery (clusterAt m) (message ready i here) (keptMessages removes i (clusterAt m .messages)) (chosen removes 0 1)) ≡ planned m l t counts f plan
-    unfolding handPlan gone
+    unfolding handPlan gone noReceiver
     handed-by true e =
         ap (lines.acceptLine (stateIn m t)) (lost ready i here removes place to e)
-        ∙ (lost-run m l t counts i removes f ready refl (λ h. here) ∙ rw (handPlan, gone, among-servers, e))
+        ∙ (lost-run m l t counts i removes f ready refl (λ h. here) ∙ rw (handPlan, gone, noReceiver, among-servers, e))
     handed-by false e =
-        let reads = effect taken (rw (gone, among-servers, e)) in
+        let reads = effect taken (rw (gone, noReceiver, among-servers, e)) in
         let x = step ready i here removes place to f part on reads in
         let v = move ready i here removes place to f part on reads in
         ap (lines.acceptLine (stateIn m t)) (delivered ready i here removes place to f part on reads e)
-        ∙ (moved-run m l t counts x v f ready (possible ready i here removes place to f part on reads) ∙ rw (handPlan, gone, among-servers, e))
+        ∙ (moved-run m l t counts x v f ready (possible ready i here removes place to f part on reads) ∙ rw (handPlan, gone, noReceiver, among-servers, e))
 
   handed : messageRefusal counts i ≡ 0 → i < counts .messages
       → judged (stateIn m t) [] (lines.delivery (clusterAt m) (lines.messageAt (clusterAt m) i) (keptMessages removes i (clusterAt m .messages)) (chosen removes 0 1))

@@ -1,4 +1,4 @@
--- Laws that belong to no one function: a line's run stands for what the definitions of document 01 make of the line.
+-- Laws that belong to no one function: a line's run stands for what the definitions of crates/model make of the line.
 pub mod Accepting
 pub mod Standing
 pub mod Lost

@@ -1,4 +1,4 @@
--- The run of every line stands for what the definitions of document 01 make of it.
+-- The run of every line stands for what the definitions of crates/model make of it.
 use mathlib.Core.Path.{_≡_, refl, ap, _∙_, subst}
 use mathlib.Core.Bool.{Bool, true, false}
 use mathlib.Core.List.{List}
@@ -10,6 +10,7 @@ use Rattle.limits.specs.Always.{Measured}
 use Rattle.server.specs.declared.Effect.{Effect}
 use Rattle.memory.specs.declared.Counts.{Counts}
 use Rattle.memory.specs.Layout.{countsAt}
+use Rattle.views.specs.Changes.{answersRoom}
 use Rattle.views.specs.Memory.{Memory, Sized, standing, clusterIn}
 use Rattle.parse.specs.declared.Kind.{Kind}
 use Rattle.parse.specs.declared.Kind.the-variants as K
@@ -97,7 +98,7 @@ module _ (m : Memory) (l : List ℕ) (t : lines.Tally) (x : Line) (f : Effect) w
     bare-means K.Start = two _ refl
 
 -- every line, on arrays of the lent sizes that stand for a state within the measures
-pub line-means : (m : Memory) (l : List ℕ) (t : lines.Tally) (x : Line) (f : Effect) → Sized m → length l ≡ 32 → WholeLine x → Measured (clusterIn m) t
+pub line-means : (m : Memory) (l : List ℕ) (t : lines.Tally) (x : Line) (f : Effect) → Sized m → length l ≡ answersRoom → WholeLine x → Measured (clusterIn m) t
     → (standing (countsAt (m .counts)) ≡ true → EffectOf (x .kind) m (countsAt (m .counts)) x f)
     → performed (stateIn m t) (lineIn x) ≡ resultOf t (lineRun m l x f) f
 unfolding lineIn lineRun

@@ -1,4 +1,4 @@
--- Elections, timeouts, stops, starts and lost messages: the run of such a line is what document 01 makes of it.
+-- Elections, timeouts, stops, starts and lost messages: the run of such a line is what the definitions make of it.
 use mathlib.Core.Path.{_≡_, refl, sym, ap, ap₂, _∙_}
 use mathlib.Core.Bool.{Bool, true, false, not}
 use mathlib.Core.List.{List, [], _∷_}

@@ -71,7 +71,7 @@ module _ {m : Memory} {l : List ℕ} {t : lines.Tally} (ready : Ready m l t) (s 
   abbrev limits : Limits
   limits = limitsAfter maxElection (countsAt (m .counts) .lines)
 
-  pub server-within : ServerWithin n most limits 0 (serverAt n most m s)
+  server-within : ServerWithin n most limits 0 (serverAt n most m s)
   server-within =
       let there : s < length (serversAt n most m) = rw (length-servers n most m) server in
       subst (ServerWithin n most limits 0) (server-there n most m s (cluster.freshServer 0 0) server) (all-at s (cluster.freshServer 0 0) there (cluster-within ready .servers))

@@ -1,4 +1,4 @@
--- What the memory and a line's run stand for in the definitions of document 01.
+-- What the memory and a line's run stand for in the definitions of crates/model.
 use mathlib.Core.Path.{_≡_}
 use mathlib.Core.Bool.{true, false}
 use mathlib.Core.List.{List}
@@ -22,7 +22,7 @@ stateIn m t = record { cluster = clusterIn m; tally = t }
 abbrev pub tallyIn : Tally → lines.Tally
 tallyIn t = record { sent = t .sent; copied = t .copied; delivered = t .delivered; lost = t .lost; inFlight = t .flight }
 
--- a line that was read, or one that is not of the forms of document 01
+-- a line that was read, or one that is malformed (RULES, Lines 2)
 unfoldable pub performed : lines.State → Option lines.Line → lines.LineResult
 performed s none = lines.refuse s 1
 performed s (some x) = lines.perform s x

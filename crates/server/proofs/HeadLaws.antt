@@ -1,4 +1,4 @@
--- What the rules of votes and elections make of a head stands for what document 01's definitions make of the server.
+-- What the rules of votes and elections make of a head stands for what the definitions of crates/model make of the server.
 use mathlib.Core.Path.{_≡_, refl, sym, ap, _∙_}
 use mathlib.Core.Bool.{true, false}
 use mathlib.Core.List.{List, [], _∷_, map}

@@ -1,5 +1,5 @@
 -- What the rules of votes and elections make of a server's head, number by number. The laws in proofs/HeadLaws.antt tie each to
--- document 01's definition of the same name. A number that is raised wraps at 2 ^ 32.
+-- the definition of the same name in crates/model. A number that is raised wraps at 2 ^ 32.
 use mathlib.Core.Bool.{true, false}
 use mathlib.Core.List.{List}
 use Prim.Native.Nat.{ℕ, _+_, _%_, _^_, max}

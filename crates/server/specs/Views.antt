@@ -1,4 +1,4 @@
--- What the structs of a server stand for in the definitions of document 01. Every number stands for something.
+-- What the structs of a server stand for in the definitions of crates/model. Every number stands for something.
 -- `n` is the number of servers: votes and marks past the first n stand for nothing.
 use mathlib.Core.List.{List, map}
 use mathlib.Core.Bool.{Bool, true, false}
@@ -141,7 +141,7 @@ takenIn c words = record { number = c .number; words = words; rounds = c .rounds
 unfoldable pub callIn : Call → calls.Words → Option cluster.Call
 callIn c words = elim (among 5 (c .kind)) [ true ↦ some (takenIn c words) | false ↦ none ]
 
--- ---- results: document 01's words in its order, with the data of the first two; 8 is the value of an absent key
+-- ---- results: the words of RULES, Output 3, in their order, with the data of the first two; 8 is the value of an absent key
 
 unfoldable pub resultIn : ℕ → List ℕ → List Entry → calls.Result
 resultIn x v t =

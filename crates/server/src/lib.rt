@@ -4,7 +4,9 @@ use entries::Item;
 use entries::Key;
 use entries::Value;
 
+pub mod codes;
 pub mod kinds;
+pub mod measures;
 pub mod numbers;
 pub mod votes;
 

@@ -1,5 +1,10 @@
 // Votes and elections on a server's head.
 use crate::Head;
+use crate::codes::CANDIDATE;
+use crate::codes::FOLLOWER;
+use crate::codes::LEADING;
+use crate::codes::VOTED;
+use crate::measures::MAX_ELECTION;
 use crate::numbers::count;
 use crate::numbers::larger;
 use crate::numbers::majority;
@@ -70,7 +75,7 @@ pub fn ceased(h: Head) -> Head
     ensures means { λ r. ⌜ ((n : ℕ) (x : Beside) → serverIn n (idle x) r ≡ cease (serverIn n x h) .server) ⌝ }
 {
     let mut a = h;
-    a.role = 0;
+    a.role = FOLLOWER;
     a.votes = [0u32; 7];
     a
 }
@@ -80,14 +85,18 @@ pub fn votes_for(n: u32, h: Head) -> u32
     ensures { λ r. ⌜ r ≡ votesFor (votesIn n h) ⌝ }
 {
     let votes = h.votes;
-    count(n, votes, 1)
+    count(n, votes, VOTED)
 }
 
 // Leader with a majority of votes, candidate with fewer.
 fn role_by(n: u32, votes: u32) -> u32
     ensures { λ r. ⌜ r ≡ roleBy n votes ⌝ }
 {
-    if majority(n) <= votes { 2 } else { 1 }
+    if majority(n) <= votes {
+        LEADING
+    } else {
+        CANDIDATE
+    }
 }
 
 // The role goes by the votes had.
@@ -105,7 +114,7 @@ fn voted(q: u32, h: Head) -> Head
     ensures { λ r. ⌜ r ≡ votedHead q h ⌝ }
 {
     let old = h.votes;
-    let votes = placed(old, q, 1);
+    let votes = placed(old, q, VOTED);
     let mut a = h;
     a.votes = votes;
     a
@@ -115,7 +124,7 @@ fn voted(q: u32, h: Head) -> Head
 pub fn last_number(h: Head) -> bool
     ensures { λ r. ⌜ r ≡ leb maxElection (largerNumberOf h) ⌝ }
 {
-    65535 <= larger(h.number, h.vote)
+    MAX_ELECTION <= larger(h.number, h.vote)
 }
 
 // The number of the next election: one above the larger of number and vote.
@@ -141,7 +150,7 @@ pub fn on_ack_vote(n: u32, q: u32, e: u32, h: Head) -> Head
     ensures is { λ r. ⌜ r ≡ onAckVoteHead n q e h ⌝ }
     ensures means { λ r. ⌜ ((x : Beside) → serverIn n x r ≡ onAckVote n q e (serverIn n x h) .server) ⌝ }
 {
-    if h.role == 1 {
+    if h.role == CANDIDATE {
         if e == h.number {
             return standing(n, voted(q, h));
         }

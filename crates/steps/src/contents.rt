@@ -3,6 +3,11 @@ use encoding::encode;
 use entries::Decoded;
 use memory::CONTENT;
 use messages::contents::copy_content;
+use moves::codes::FILLS_COPY;
+use moves::codes::FILLS_MESSAGE;
+use moves::codes::FILLS_TABLE;
+use moves::codes::KEEPS_MESSAGE;
+use moves::codes::KEEPS_WORK;
 ghost use mathlib.Core.Path.{_≡_};
 ghost use Prim.Native.Nat.{_<_, _*_};
 ghost use lib.ListN.{length};
@@ -33,15 +38,15 @@ pub fn fill_work(
     requires { ⌜ (k < slotRoom) × (i < messageRoom) ⌝ }
     ensures { λ _. ⌜ now (works .exit) ≡ filledFrom (now (works .entry)) (now (copies .entry)) (now (loads .entry)) k i (tableIn t) fills ⌝ }
 {
-    if fills == 1 {
+    if fills == FILLS_COPY {
         copy_content(works, k, copies, k);
         return;
     }
-    if fills == 2 {
+    if fills == FILLS_TABLE {
         put_table(works, k, t);
         return;
     }
-    if fills == 3 {
+    if fills == FILLS_MESSAGE {
         copy_content(works, k, loads, i);
         return;
     }
@@ -59,11 +64,11 @@ pub fn keep_copy(
     requires { ⌜ (k < slotRoom) × (i < messageRoom) ⌝ }
     ensures { λ _. ⌜ now (copies .exit) ≡ keptFrom (now (copies .entry)) (now (works .entry)) (now (loads .entry)) k i keeps ⌝ }
 {
-    if keeps == 1 {
+    if keeps == KEEPS_WORK {
         copy_content(copies, k, works, k);
         return;
     }
-    if keeps == 2 {
+    if keeps == KEEPS_MESSAGE {
         copy_content(copies, k, loads, i);
         return;
     }

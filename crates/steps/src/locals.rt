@@ -13,6 +13,8 @@ use records::slots::store_version;
 use server::Call;
 use server::Round;
 use server::Version;
+use server::codes::NO_CALL;
+use server::codes::NO_ROUND;
 ghost use mathlib.Core.Path.{_≡_};
 ghost use Prim.Native.Nat.{_<_, _≤_};
 ghost use Rattle.memory.specs.Layout.{serverRoom, slotRoom, messageRoom};
@@ -41,8 +43,8 @@ fn store_slot(slots: &mut [u32; 1792], k: usize, v: Version, r: Round, c: Call)
 fn is_idle(r: Round, c: Call) -> bool
     ensures { λ x. ⌜ x ≡ isIdle r c ⌝ }
 {
-    if r.purpose == 0 {
-        return c.kind == 0;
+    if r.purpose == NO_ROUND {
+        return c.kind == NO_CALL;
     }
     false
 }

@@ -1,4 +1,4 @@
--- Where the offsets of the form point (document 02, Change 2): a value of no bytes has the offset of the pair after it, or of the end.
+-- Where the offsets of the form point (RULES, Bucket bytes 2): a value of no bytes has the offset of the pair after it, or of the end.
 use mathlib.Core.Path.{_≡_, ap, _∙_}
 use mathlib.Core.List.{List, [], _∷_, _++_}
 use Prim.Native.Nat.{ℕ, _+_}

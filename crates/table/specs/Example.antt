@@ -1,4 +1,4 @@
--- Tables with values of no bytes (document 02, Change 2), computed by the definitions.
+-- Tables with values of no bytes (RULES, Keys 4), computed by the definitions.
 use mathlib.Core.Path.{_≡_, refl}
 use mathlib.Core.List.{List, [], _∷_, _++_}
 use mathlib.Core.Bool.{true, false}

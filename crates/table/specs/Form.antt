@@ -1,5 +1,5 @@
--- The bucket form (document 01, 'Bucket bytes', with document 02's Change 2). `most` is the greatest number of keys in a bucket
--- and `long` the greatest length of a value: 4 and 16 in document 01, which makes 113 bytes.
+-- The bucket form (RULES, Bucket bytes). `most` is the greatest number of keys in a bucket
+-- and `long` the greatest length of a value: 4 and 16 in the rules, which makes 113 bytes.
 use mathlib.Core.List.{List, [], _∷_, _++_}
 use mathlib.Core.Bool.{Bool, true, false}
 use mathlib.Core.Option.{Option, none, some}

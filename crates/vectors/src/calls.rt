@@ -1,4 +1,4 @@
-// The calls. The numbers are those of the crates bucket_c and datagram_c: document 01's, and 255 for `full`; look-ups and
+// The calls. The numbers are those of the crates bucket_c and datagram_c: the refusal's, and 255 for `full`; look-ups and
 // lists say 113 and 115 for 13 and 15, and look-ups 254 for an absent key.
 use crate::datagrams;
 use crate::print;

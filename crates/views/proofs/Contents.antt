@@ -1,4 +1,4 @@
--- The contents after a step: the slot's tables are those of document 01, the others stay.
+-- The contents after a step: the slot's tables are those of the definitions, the others stay.
 use mathlib.Core.Path.{_≡_, refl, ap, _∙_}
 use mathlib.Core.Logic.{_≢_}
 use mathlib.Core.Bool.{Bool, true, false}

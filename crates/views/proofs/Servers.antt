@@ -1,4 +1,4 @@
--- The servers after a step: its server is the one of document 01, the others stay.
+-- The servers after a step: its server is the one of the definitions, the others stay.
 use mathlib.Core.Path.{_≡_, refl, sym, ap, ap₂, _∙_}
 use mathlib.Core.Logic.{_≢_}
 use mathlib.Core.Bool.{Bool, true, false}

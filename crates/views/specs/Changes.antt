@@ -7,7 +7,7 @@ use lib.ListN.{getD, drop}
 use Rattle.blocks.specs.Blocks.{block}
 use Rattle.entries.specs.Entries.{Entry}
 use Rattle.table.specs.Form.{bucketBytes}
-use Rattle.model.specs.Measures.{maxEntries, maxValueBytes}
+use Rattle.model.specs.Measures.{mostAnswers, maxEntries, maxValueBytes}
 use Rattle.model.specs.Calls as calls
 use Rattle.server.specs.Views.{among, answerIn}
 use Rattle.server.specs.declared.Answer.{Answer}
@@ -15,7 +15,7 @@ use Rattle.server.specs.declared.Round.{Round}
 use Rattle.server.specs.declared.Call.{Call}
 use Rattle.open_calls.specs.Calls.{endedOf}
 use Rattle.memory.specs.Rows.{row, putRow}
-use Rattle.memory.specs.Layout.{contentSize, contentBytes, roundAt, callAt, putHead, putVersion, putRound, putCall, putContent}
+use Rattle.memory.specs.Layout.{answerSize, contentSize, contentBytes, roundAt, callAt, putHead, putVersion, putRound, putCall, putContent}
 use Rattle.moves.specs.declared.Local.{Local}
 use Rattle.moves.specs.declared.Move.{Move}
 use Rattle.moves.specs.Moves.{noRound, noCall}
@@ -74,6 +74,10 @@ clearedSlots slots s (suc b) = clearedSlot (clearedSlots slots s b) (slotOf s b)
 
 -- ---- answers: blocks of four words, the last of them spare
 
+-- words for the answers of a line
+abbrev pub answersRoom : ℕ
+answersRoom = mostAnswers * answerSize
+
 abbrev pub answerRow : Answer → List ℕ
 answerRow a = a .call ∷ a .result ∷ a .rounds ∷ []
 
@@ -81,10 +85,10 @@ abbrev pub answerOf : List ℕ → Answer
 answerOf w = record { call = getD w 0 0; result = getD w 1 0; rounds = getD w 2 0 }
 
 unfoldable pub answerAt : List ℕ → ℕ → Answer
-answerAt l i = answerOf (row (i * 4) 0 3 l)
+answerAt l i = answerOf (row (i * answerSize) 0 3 l)
 
 unfoldable pub putAnswer : List ℕ → ℕ → Answer → List ℕ
-putAnswer l i a = putRow l (i * 4) 0 (answerRow a)
+putAnswer l i a = putRow l (i * answerSize) 0 (answerRow a)
 
 -- the first answers, with v and t the data of `value` and `keys`
 unfoldable pub answersAt : ℕ → List ℕ → List ℕ → List Entry → List calls.Answer

@@ -1,4 +1,4 @@
--- The cluster's memory, and what it stands for in the definitions of document 01. Every memory stands for something.
+-- The cluster's memory, and what it stands for in the definitions of crates/model. Every memory stands for something.
 use mathlib.Core.Path.{_≡_}
 use mathlib.Core.Bool.{Bool, true, false}
 use mathlib.Core.List.{List, [], _∷_, map}
@@ -105,7 +105,7 @@ sentIn x = messageIn (x .header) (tableOf maxEntries maxValueBytes (x .content))
 unfoldable pub flightAt : ℕ → List ℕ → List ℕ → List cluster.Message
 flightAt c queue loads = map sentIn (messagesAt c queue loads)
 
--- ---- the cluster: none unless its measures are those of document 01
+-- ---- the cluster: none unless its counts are within the measures (RULES, Measures 1 and 3)
 
 unfoldable pub standing : Counts → Bool
 standing c =

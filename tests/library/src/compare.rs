@@ -30,7 +30,7 @@ impl fmt::Debug for Message {
 /// What can be seen of a bench after a line.
 #[derive(Clone, PartialEq, Eq)]
 pub struct View {
-    /// Answers, or the refusal, as document 01 has them printed.
+    /// Answers, or the refusal, as they are printed (RULES, Output).
     pub printed: Vec<u8>,
     pub accepted: u32,
     pub tally: Tally,

@@ -5,7 +5,9 @@ use library::output::LINE_ROOM;
 use library::session::{Session, HEADER};
 
 /// The words of a message: kind, sender, receiver, bucket and on.
+const KIND: usize = 0;
 const RECEIVER: usize = 2;
+const BUCKET: usize = 3;
 /// Of a call's words its key has 8 bytes, then its two values have 16 each, in
 /// a block of 64.
 const TEXTS: usize = 64;
@@ -46,11 +48,46 @@ fn messages_to_nobody() {
     }
 }
 
+/// One of no kind is delivered, and changes nothing but the counts.
+#[test]
+fn messages_of_no_kind() {
+    for kind in [0, 10, 11, u32::MAX] {
+        let mut session = Session::new();
+        feed(&mut session, b"cluster 3 1\nelect 0\n");
+        session.queue.value[KIND] = kind;
+        let before = session.clone();
+
+        assert_eq!(feed(&mut session, b"cut 0 0\n"), b"line 3 refused 18\n");
+        assert_eq!(feed(&mut session, b"deliver 0\n"), b"");
+        let tally = session.tally.value;
+        assert_eq!([tally.sent, tally.delivered, tally.lost], [2, 1, 0]);
+        assert!(session.heads == before.heads, "a server has it");
+        assert!(session.slots == before.slots, "a server has it");
+    }
+}
+
+/// One with a bucket above 7 is taken for bucket 7, which no call of this
+/// cluster names; the reply carries the bucket as it was.
+#[test]
+fn messages_of_no_bucket() {
+    for bucket in [7, 8, 100, u32::MAX] {
+        let mut session = Session::new();
+        let lines = "cluster 3 1\nelect 0\ndeliver 0\ndeliver 0\ndeliver 0\ndeliver 0\nget 0 61\n";
+        assert_eq!(feed(&mut session, lines.as_bytes()), b"");
+        session.queue.value[BUCKET] = bucket;
+
+        assert_eq!(feed(&mut session, b"deliver 0\n"), b"");
+        let place = session.under_way() as usize - 1;
+        let (header, _) = session.message(place);
+        assert_eq!([header[KIND], header[BUCKET]], [8, bucket]);
+    }
+}
+
 /// Past a key's or value's length, and in place of an absent value, zeros are
 /// stored whatever lay there; the rest of the block stays.
 #[test]
 fn words_of_a_call_are_padded() {
-    let cases: [(&str, &[u8], &[u8], &[u8]); 5] = [
+    let cases: [(&str, &[u8], &[u8], &[u8]); 6] = [
         ("set 0 61 62", b"a", b"", b"b"),
         ("setif 0 6162636465666768 - .", b"abcdefgh", b"", b""),
         (
@@ -59,6 +96,7 @@ fn words_of_a_call_are_padded() {
             b"",
             b"1234567890123456",
         ),
+        ("setif 0 61 7a7b 7c", b"a", b"z{", b"|"),
         ("get 0 7a7a", b"zz", b"", b""),
         ("keys 0 0", b"", b"", b""),
     ];

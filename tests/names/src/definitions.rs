@@ -22,20 +22,30 @@ pub fn of_logic(text: &str) -> Vec<&str> {
         .collect()
 }
 
-/// Names defined in the code, fields and variants too.
+/// Names defined in the code: functions, types, constants and modules, the
+/// fields and variants of a struct or an enum, and parameters, where each has a
+/// line of its own.
 pub fn of_code(text: &str) -> Vec<&str> {
-    text.lines()
+    let mut names = Vec::new();
+    let mut members = false;
+    for line in text
+        .lines()
         .filter(|line| !line.trim_start().starts_with("//"))
-        .filter_map(|line| {
-            let words: Vec<&str> = line.split_whitespace().collect();
-            let kind = words.iter().position(|word| KINDS.contains(word));
-            let name = match kind {
-                Some(at) => words.get(at + 1)?,
-                None if words.first() == Some(&"pub") => words.get(1)?,
-                None => words.first()?,
-            };
-            let name = name.split(['(', '<', ':', ',', ';']).next()?;
-            (!name.is_empty()).then_some(name)
-        })
-        .collect()
+    {
+        let words: Vec<&str> = line.split_whitespace().collect();
+        let kind = words.iter().position(|word| KINDS.contains(word));
+        let name = match kind {
+            Some(at) => words.get(at + 1),
+            None if members && words.first() == Some(&"pub") => words.get(1),
+            None if members => words.first(),
+            None => None,
+        };
+        let name = name.and_then(|name| name.split(['(', '<', ':', ',', ';']).next());
+        names.extend(name.filter(|name| !name.is_empty() && *name != "}"));
+        members = match kind {
+            Some(at) => matches!(words[at], "struct" | "enum") || line.ends_with('('),
+            None => members && !line.starts_with(['}', ')']),
+        };
+    }
+    names
 }

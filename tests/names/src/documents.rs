@@ -1,5 +1,5 @@
-//! What a document says in backquotes: anywhere, and in tables whose last column
-//! is the file that a row's names stand in.
+//! What a document says in backquotes: anywhere, with a file behind it, and in
+//! tables whose last column is the file that a row's names stand in.
 
 use crate::repository::Repository;
 use std::path::PathBuf;
@@ -65,6 +65,32 @@ impl Column {
     }
 }
 
+/// Names with a file behind them, as in `name` in `crate/specs/File.antt`, also
+/// several joined by commas: those that the file does not define.
+fn elsewhere(repository: &Repository, line: &str) -> Vec<String> {
+    let pieces: Vec<&str> = line.split('`').collect();
+    let mut wrong = Vec::new();
+    for at in (3..pieces.len()).step_by(2) {
+        let place = pieces[at];
+        if pieces[at - 1] != " in " || !place.contains(['/', '.']) {
+            continue;
+        }
+        let places = repository.find(place, "").unwrap_or_default();
+        let mut name = at - 2;
+        loop {
+            let is_defined = repository.defines(&places, pieces[name]);
+            if !is_defined && !repository.is_part(pieces[name]) {
+                wrong.push(format!("{} is not in {place}", pieces[name]));
+            }
+            if name < 3 || !matches!(pieces[name - 1], ", " | " and ") {
+                break;
+            }
+            name -= 2;
+        }
+    }
+    wrong
+}
+
 /// How many names a document gives, and those that are not found.
 pub fn check(repository: &Repository, text: &str) -> (usize, Vec<String>) {
     let (mut count, mut wrong) = (0, Vec::new());
@@ -84,6 +110,12 @@ pub fn check(repository: &Repository, text: &str) -> (usize, Vec<String>) {
             .into_iter()
             .filter(|span| !repository.has(span, &folder));
         wrong.extend(lost.map(|span| format!("line {}: {span}", at + 1)));
+        let elsewhere = elsewhere(repository, line);
+        wrong.extend(
+            elsewhere
+                .into_iter()
+                .map(|what| format!("line {}: {what}", at + 1)),
+        );
         match (&mut column, line.starts_with('|')) {
             (_, false) => column = None,
             (None, true) => column = Some(Column::new(line)),

@@ -6,7 +6,23 @@ use std::fs;
 use std::path::{Path, PathBuf};
 
 /// Written in backquotes, and defined by nobody here.
-const WORDS_OF_THE_LANGUAGE: [&str; 3] = ["requires", "&mut", "rt"];
+const WORDS_OF_THE_LANGUAGE: [&str; 15] = [
+    "requires",
+    "&mut",
+    "&&",
+    "rt",
+    "pub",
+    "match",
+    "let",
+    "elim",
+    "refl",
+    "omega",
+    "unfoldable",
+    "old:",
+    "new:",
+    "trusted",
+    "Option",
+];
 
 pub struct Repository {
     top: PathBuf,
@@ -79,6 +95,25 @@ impl Repository {
         name.contains('/') || self.parts.contains(name)
     }
 
+    /// The files in which rules are cited, each with its text.
+    pub fn texts(&self) -> Vec<(PathBuf, String)> {
+        let folders =
+            ["crates", "docs", "examples", "tests"].map(|name| files(&self.top.join(name)));
+        let kinds = ["antt", "rt", "rs", "md"];
+        folders
+            .into_iter()
+            .flatten()
+            .chain(["README.md", "CONTRIBUTING.md"].map(|name| self.top.join(name)))
+            .filter(|path| kinds.contains(&extension(path)))
+            .filter(|path| !path.starts_with(self.top.join("tests/names")))
+            .filter(|path| !path.starts_with(self.top.join("tests/target")))
+            .map(|path| {
+                let text = fs::read_to_string(&path).expect("text");
+                (path, text)
+            })
+            .collect()
+    }
+
     pub fn read(&self, name: &str) -> String {
         fs::read_to_string(self.top.join(name)).expect("it is there")
     }
@@ -133,6 +168,20 @@ impl Repository {
         }
     }
 
+    /// Whether some name ends in this, written `..In` or `-means`, or begins with
+    /// it, written `max..`.
+    fn has_part(&self, word: &str) -> Option<bool> {
+        let mut names = self.defined.values().flatten();
+        if let Some(end) = word.strip_prefix("..") {
+            return Some(names.any(|name| name != end && name.ends_with(end)));
+        }
+        if word.starts_with('-') {
+            return Some(names.any(|name| name.ends_with(word)));
+        }
+        let start = word.strip_suffix("..")?;
+        Some(names.any(|name| name != start && name.starts_with(start)))
+    }
+
     /// Whether what stands in backquotes is found.
     pub fn has(&self, span: &str, folder: &str) -> bool {
         let word = span.split(' ').next().unwrap_or("");
@@ -140,6 +189,9 @@ impl Repository {
             || WORDS_OF_THE_LANGUAGE.contains(&word)
         {
             return true;
+        }
+        if let Some(found) = self.has_part(word) {
+            return found;
         }
         if word.contains("::") {
             return self.has_in_code(word);

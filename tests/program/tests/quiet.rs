@@ -1,4 +1,4 @@
-//! How long a quiet call takes (document 02, Change 4), on the program: after
+//! How long a quiet call takes (RULES, Quiet calls), on the program: after
 //! 8 (n - 1) lines `deliver 0` the list is empty and the call has its result.
 
 use program::compare::{check, expected};

@@ -1,4 +1,4 @@
-//! How long a quiet call takes (document 02, Change 4): the figure, what has
+//! How long a quiet call takes (RULES, Quiet calls): the figure, what has
 //! to hold of a state before the call, and random states where it does.
 
 use crate::cluster::majority;
@@ -11,7 +11,7 @@ pub fn most_deliveries(size: usize) -> usize {
     8 * (size - 1)
 }
 
-/// Document 02's conditions on a state, for a call at one server, in its order.
+/// The conditions on a state, for a call at one server (RULES, Quiet calls).
 #[derive(Clone, Copy, PartialEq, Eq, Debug)]
 pub struct Conditions {
     pub leads: bool,

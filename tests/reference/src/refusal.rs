@@ -1,5 +1,5 @@
-//! The numbers that document 01 and its changes give to lines and records
-//! turned down.
+//! The numbers that lines and records are refused with (RULES, Refusals
+//! 3).
 
 pub type Refusal = u8;
 

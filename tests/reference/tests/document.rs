@@ -1,4 +1,5 @@
-//! Document 01's example, marked rows, edges and the examples of its refusals.
+//! The example, rows and edges (RULES, Rows and edges), and an example of each
+//! refusal.
 
 mod common;
 

@@ -1,4 +1,4 @@
-//! Empty values (document 02, Change 2): `.` is a value of no bytes, which is
+//! Empty values (RULES, Keys 4): `.` is a value of no bytes, which is
 //! stored, found and expected like any other; `-` means that the key is absent.
 
 mod common;

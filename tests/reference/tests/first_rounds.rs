@@ -1,4 +1,4 @@
-//! The first round of a call (document 02, Change 1): on a recovered bucket
+//! The first round of a call (RULES, Calls 3): on a recovered bucket
 //! what writes goes straight to the write, and what ends as `mismatch` or
 //! `full` makes the checking round first.
 

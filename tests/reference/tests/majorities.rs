@@ -1,5 +1,5 @@
-//! Majorities of every size of cluster (document 02, Change 6), held against
-//! document 01's table, which the formula replaces.
+//! Majorities of every size of cluster (RULES, Measures 7), held against
+//! document 01's table, which the formula replaced.
 
 mod common;
 

@@ -1,5 +1,5 @@
 //! The answers of random scripts, cuts and starts among them, held against
-//! document 01's plain table: the calls of each bucket have one order that
+//! the plain table (RULES, One order): the calls of each bucket have one order that
 //! respects real time and gives these answers.
 
 mod common;

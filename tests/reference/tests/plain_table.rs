@@ -1,4 +1,4 @@
-//! Answers held against document 01's plain table, which tells empty from
+//! Answers held against the plain table (RULES, Plain table), which tells empty from
 //! absent since Change 2. Calls are made one after another, so that there is
 //! only one order of them; between them servers stop and come back.
 

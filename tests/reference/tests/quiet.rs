@@ -1,4 +1,4 @@
-//! How long a quiet call takes (document 02, Change 4): at most 8 (n - 1)
+//! How long a quiet call takes (RULES, Quiet calls): at most 8 (n - 1)
 //! deliveries among n servers, on random quiet states; every size has a call
 //! that takes them all; and what comes where a condition fails.
 

@@ -1,5 +1,5 @@
 //! Servers that stop between two of their stores, and servers that come back
-//! (document 02, Change 8).
+//! (RULES, Restarts).
 
 use super::server::Server;
 use super::Cluster;

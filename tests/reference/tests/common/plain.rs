@@ -1,4 +1,4 @@
-//! The plain table of document 01, which tells empty from absent since Change 2.
+//! The plain table (RULES, Plain table), which tells empty from absent.
 
 use std::collections::BTreeMap;
 

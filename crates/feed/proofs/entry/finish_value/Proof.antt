@@ -2,6 +2,7 @@
 use mathlib.Core.Path.{sym}
 use native.Mathlib.Omega.{arith}
 use lib.Seq.{length-take-le}
+use Rattle.print.specs.Room.{lineRoom}
 use Rattle.feed.proofs.Entering.{end-waits, end-finished, tally-fits}
 use borrow.Author.Needs.{needs}
 use Rattle.feed.proofs.entry.finish_value.Statement.{statement}
@@ -29,7 +30,7 @@ slice-relend-prefix-feed-part : tie.Need-slice-relend-prefix-feed-part
 slice-relend-prefix-feed-part c = search needs
 
 slice-aggregate-feed-part : tie.Need-slice-aggregate-feed-part
-slice-aggregate-feed-part c = sym (length-take-le 1024 (c .before .before .before .before .before .before .before .before .before .before .before .before .before .before .before .before .before .before .before .before .before .args .out .now) (omega (arith, c .before .before .before .before .before .before .before .before .before .before .before .before .before .before .if1 .left)))
+slice-aggregate-feed-part c = sym (length-take-le lineRoom (c .before .before .before .before .before .before .before .before .before .before .before .before .before .before .before .before .before .before .before .before .before .args .out .now) (omega (arith, c .before .before .before .before .before .before .before .before .before .before .before .before .before .before .if1 .left)))
 
 array-share-prefix-feed : tie.Need-array-share-prefix-feed
 array-share-prefix-feed c = search needs

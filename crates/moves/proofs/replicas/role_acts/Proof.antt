@@ -2,8 +2,7 @@
 use mathlib.Core.Path.{_≡_, refl}
 use mathlib.Core.Bool.{Bool, true, false}
 use borrow.Author.Tests.{eq-eqb, ne-eqb}
-use lib.Dec.{eqb}
-use Rattle.model.specs.Cluster.{Role, follower, leading}
+use Rattle.model.specs.Cluster.{follower, leading}
 use Rattle.model.specs.Leader.{acts}
 use Rattle.server.specs.Views.{roleIn}
 use Rattle.moves.proofs.replicas.role_acts.Statement.{statement}

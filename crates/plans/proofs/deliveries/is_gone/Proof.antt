@@ -1,22 +1,15 @@
--- `deliveries::is_gone` meets its contract: the tests are those of the definition.
-use Prim.Native.Nat.{_<_}
-use borrow.Author.Tests.{le-leb, lt-leb}
-use native.Mathlib.Omega.{arith}
-use Rattle.server.specs.Views.{flagIn}
+-- `deliveries::is_gone` meets its contract: the message's receiver is asked.
+use borrow.Author.Needs.{needs}
 use Rattle.plans.specs.Plans.{gone}
 use Rattle.plans.proofs.deliveries.is_gone.Statement.{statement}
 use Rattle.plans.proofs.deliveries.is_gone.Tie as tie
 
+has-no-receiver-requires : tie.Need-has-no-receiver-requires
+has-no-receiver-requires c κs = search needs
+
 returns : tie.Need-returns
 unfolding gone
-returns c = rw (gone, le-leb _ _ (c .if1 .taken))
-
-returns-2 : tie.Need-returns-2
-unfolding gone flagIn
-returns-2 c =
-    let a = c .before .before .before .before .before .before .args in
-    let here : a .x .asked .receiver < a .c .servers = omega (arith, c .before .before .if1 .left) in
-    rw (gone, flagIn, lt-leb _ _ here)
+returns c = c .has-no-receiver .ensures
 
 pub is-gone-spec : {M : Type 1} → statement M
-is-gone-spec = tie.close (tie.spec returns returns-2)
+is-gone-spec = tie.close (tie.spec has-no-receiver-requires returns)

@@ -1,0 +1,17 @@
+// Words of a move that stand for a choice, each named once.
+
+// What the working content of the slot becomes.
+pub const FILLS_NOTHING: u32 = 0;
+
+pub const FILLS_COPY: u32 = 1;
+
+pub const FILLS_TABLE: u32 = 2;
+
+pub const FILLS_MESSAGE: u32 = 3;
+
+// What the content of the slot's copy becomes.
+pub const KEEPS_NOTHING: u32 = 0;
+
+pub const KEEPS_WORK: u32 = 1;
+
+pub const KEEPS_MESSAGE: u32 = 2;

@@ -1,0 +1,53 @@
+-- `answer_list::put_one` meets its contract: the answer with its data, within its room.
+use mathlib.Core.Path.{_≡_}
+use Prim.Native.Nat.{_<_, _≤_, _^_}
+use native.Mathlib.Omega.{arith}
+use lib.ListN.{length, length-take}
+use Rattle.entries.specs.Decoded.{valueBytes}
+use Rattle.output.proofs.Room.{same-answer, one-room}
+use borrow.Author.Needs.{needs}
+use Rattle.output.proofs.answer_list.put_one.Statement.{statement}
+use Rattle.output.proofs.answer_list.put_one.Tie as tie
+
+key-list-requires : tie.Need-key-list-requires
+key-list-requires c κs = search needs
+
+outcome-requires : tie.Need-outcome-requires
+outcome-requires c κs = search needs
+
+put-answer-requires : tie.Need-put-answer-requires
+unfolding valueBytes
+put-answer-requires c κs =
+    let a = c .before .before .before .before .args .a in
+    let v = c .before .before .before .before .args .v in
+    let h : a .call < 2 ^ 32 = search needs in
+    let g : a .rounds < 2 ^ 32 = search needs in
+    let l : length (v .bytes) ≡ 16 = search needs in
+    let short : length (valueBytes v) ≤ 16 = omega (arith, length-take (v .len) (v .bytes)) in
+    let o = c .before .outcome in
+    let k = c .before .before .key-list in
+    let room = one-room a (o .result) v (k .result) h g short (k .ensures .short) in
+    omega (arith, c .before .before .before .before .pre, room)
+
+same-length : tie.Need-same-length
+same-length c = search needs
+
+returns : tie.Need-returns
+unfolding valueBytes
+returns c =
+    let a = c .before .before .before .before .before .before .before .args .a in
+    let v = c .before .before .before .before .before .before .before .args .v in
+    let h : a .call < 2 ^ 32 = search needs in
+    let g : a .rounds < 2 ^ 32 = search needs in
+    let l : length (v .bytes) ≡ 16 = search needs in
+    let short : length (valueBytes v) ≤ 16 = omega (arith, length-take (v .len) (v .bytes)) in
+    let o = c .before .before .before .before .outcome in
+    let k = c .before .before .before .before .before .key-list in
+    let room = one-room a (o .result) v (k .result) h g short (k .ensures .short) in
+    let d = c .before .before .put-answer .ensures in
+    let e = same-answer a (o .result) v (c .before .before .before .before .before .before .before .args .t) (k .result) (o .ensures) (k .ensures) in
+    (rw e at d, omega (arith, room, d .ends))
+
+pub put-one-spec : {M : Type 1} → statement M
+put-one-spec =
+    tie.close (tie.spec key-list-requires outcome-requires put-answer-requires same-length returns)

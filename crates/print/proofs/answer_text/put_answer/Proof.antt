@@ -1,0 +1,46 @@
+-- `answer_text::put_answer` meets its contract.
+use borrow.Author.Needs.{needs}
+use native.Mathlib.Omega.{arith}
+use mathlib.Core.List.{_++_}
+use lib.ListN.{length-append}
+use Rattle.model.specs.Text.{bytes}
+use Rattle.model.specs.Print.{decimal}
+use Rattle.print.proofs.Printing.{fits-second, both}
+use Rattle.model.specs.Print.{dataOf}
+use Rattle.print.specs.Answers.{answerIn, wordFor}
+use Rattle.print.proofs.Texts.{answer-text}
+use Rattle.print.proofs.answer_text.put_answer.Statement.{statement}
+use Rattle.print.proofs.answer_text.put_answer.Tie as tie
+
+put-head-requires : tie.Need-put-head-requires
+unfolding bytes
+put-head-requires c κs = omega (arith, (rw (answer-text (c .before .before .args .a)) at (c .before .before .pre)), length-append (decimal (c .before .before .args .a .call) ++ ((bytes " " ++ (wordFor (c .before .before .args .a .outcome) ++ bytes " ")) ++ decimal (c .before .before .args .a .rounds))) ((dataOf (answerIn (c .before .before .args .a) .result)) ++ (bytes "\n")))
+
+put-data-requires : tie.Need-put-data-requires
+unfolding bytes
+put-data-requires c κs = omega (arith, fits-second (decimal (c .before .before .before .before .before .before .args .a .call) ++ ((bytes " " ++ (wordFor (c .before .before .before .before .before .before .args .a .outcome) ++ bytes " ")) ++ decimal (c .before .before .before .before .before .before .args .a .rounds))) ((dataOf (answerIn (c .before .before .before .before .before .before .args .a) .result)) ++ (bytes "\n")) ((rw (answer-text (c .before .before .before .before .before .before .args .a)) at (c .before .before .before .before .before .before .pre))) (c .before .before .before .put-head .ensures), length-append (dataOf (answerIn (c .before .before .before .before .before .before .args .a) .result)) (bytes "\n"))
+
+slice-aggregate-put-bytes : tie.Need-slice-aggregate-put-bytes
+slice-aggregate-put-bytes c = search needs
+
+put-bytes-requires : tie.Need-put-bytes-requires
+unfolding bytes
+put-bytes-requires c κs = fits-second (dataOf (answerIn (c .before .before .before .before .before .before .before .before .before .before .before .args .a) .result)) (bytes "\n") (fits-second (decimal (c .before .before .before .before .before .before .before .before .before .before .before .args .a .call) ++ ((bytes " " ++ (wordFor (c .before .before .before .before .before .before .before .before .before .before .before .args .a .outcome) ++ bytes " ")) ++ decimal (c .before .before .before .before .before .before .before .before .before .before .before .args .a .rounds))) ((dataOf (answerIn (c .before .before .before .before .before .before .before .before .before .before .before .args .a) .result)) ++ (bytes "\n")) ((rw (answer-text (c .before .before .before .before .before .before .before .before .before .before .before .args .a)) at (c .before .before .before .before .before .before .before .before .before .before .before .pre))) (c .before .before .before .before .before .before .before .before .put-head .ensures)) (c .before .before .before .before .put-data .ensures)
+
+same-length : tie.Need-same-length
+same-length c = search needs
+
+returns : tie.Need-returns
+unfolding bytes
+returns c = rw (answer-text (c .before .before .before .before .before .before .before .before .before .before .before .before .before .before .args .a)) (both (decimal (c .before .before .before .before .before .before .before .before .before .before .before .before .before .before .args .a .call) ++ ((bytes " " ++ (wordFor (c .before .before .before .before .before .before .before .before .before .before .before .before .before .before .args .a .outcome) ++ bytes " ")) ++ decimal (c .before .before .before .before .before .before .before .before .before .before .before .before .before .before .args .a .rounds))) ((dataOf (answerIn (c .before .before .before .before .before .before .before .before .before .before .before .before .before .before .args .a) .result)) ++ (bytes "\n")) ((rw (answer-text (c .before .before .before .before .before .before .before .before .before .before .before .before .before .before .args .a)) at (c .before .before .before .before .before .before .before .before .before .before .before .before .before .before .pre))) (c .before .before .before .before .before .before .before .before .before .before .before .put-head .ensures) (both (dataOf (answerIn (c .before .before .before .before .before .before .before .before .before .before .before .before .before .before .args .a) .result)) (bytes "\n") (fits-second (decimal (c .before .before .before .before .before .before .before .before .before .before .before .before .before .before .args .a .call) ++ ((bytes " " ++ (wordFor (c .before .before .before .before .before .before .before .before .before .before .before .before .before .before .args .a .outcome) ++ bytes " ")) ++ decimal (c .before .before .before .before .before .before .before .before .before .before .before .before .before .before .args .a .rounds))) ((dataOf (answerIn (c .before .before .before .before .before .before .before .before .before .before .before .before .before .before .args .a) .result)) ++ (bytes "\n")) ((rw (answer-text (c .before .before .before .before .before .before .before .before .before .before .before .before .before .before .args .a)) at (c .before .before .before .before .before .before .before .before .before .before .before .before .before .before .pre))) (c .before .before .before .before .before .before .before .before .before .before .before .put-head .ensures)) (c .before .before .before .before .before .before .before .put-data .ensures) (c .before .before .put-bytes .ensures)))
+
+pub put-answer-spec : {M : Type 1} → statement M
+put-answer-spec =
+    tie.close
+    (tie.spec
+    put-head-requires
+    put-data-requires
+    slice-aggregate-put-bytes
+    put-bytes-requires
+    same-length
+    returns)

@@ -1,0 +1,46 @@
+-- `answer_text::put_keys` meets its contract.
+use borrow.Author.Needs.{needs}
+use mathlib.Core.Path.{sym, _∙_}
+use Rattle.model.specs.Text.{bytes}
+use Rattle.print.proofs.Texts.{keys-none, keys-some}
+use Rattle.print.proofs.answer_text.put_keys.Statement.{statement}
+use Rattle.print.proofs.answer_text.put_keys.Tie as tie
+
+key-count-requires : tie.Need-key-count-requires
+key-count-requires c κs = search needs
+
+slice-aggregate-put-bytes : tie.Need-slice-aggregate-put-bytes
+slice-aggregate-put-bytes c = search needs
+
+put-bytes-requires : tie.Need-put-bytes-requires
+unfolding bytes
+put-bytes-requires c κs = rw (keys-none _ (sym (c .before .before .before .key-count .ensures .is) ∙ c .before .before .if1 .taken)) at (c .before .before .before .before .before .pre)
+
+same-length : tie.Need-same-length
+same-length c = search needs
+
+returns : tie.Need-returns
+unfolding bytes
+returns c = rw (keys-none _ (sym (c .before .before .before .before .before .before .key-count .ensures .is) ∙ c .before .before .before .before .before .if1 .taken)) (c .before .before .put-bytes .ensures)
+
+put-each-key-requires : tie.Need-put-each-key-requires
+put-each-key-requires c κs = rw (keys-some _ (λ e. c .before .if1 .left (c .before .before .key-count .ensures .is ∙ e))) at (c .before .before .before .before .pre)
+
+same-length-2 : tie.Need-same-length-2
+same-length-2 c = search needs
+
+returns-2 : tie.Need-returns-2
+returns-2 c = rw (keys-some _ (λ e. c .before .before .before .before .if1 .left (c .before .before .before .before .before .key-count .ensures .is ∙ e))) (c .before .before .put-each-key .ensures)
+
+pub put-keys-spec : {M : Type 1} → statement M
+put-keys-spec =
+    tie.close
+    (tie.spec
+    key-count-requires
+    slice-aggregate-put-bytes
+    put-bytes-requires
+    same-length
+    returns
+    put-each-key-requires
+    same-length-2
+    returns-2)

@@ -1,0 +1,42 @@
+-- `other_lines::put_last_two` meets its contract.
+use borrow.Author.Needs.{needs}
+use native.Mathlib.Omega.{arith}
+use mathlib.Core.List.{_++_}
+use lib.ListN.{length-append}
+use Rattle.model.specs.Text.{bytes}
+use Rattle.model.specs.Print.{decimal}
+use Rattle.print.proofs.Printing.{fits-second, both}
+use Rattle.print.proofs.other_lines.put_last_two.Statement.{statement}
+use Rattle.print.proofs.other_lines.put_last_two.Tie as tie
+
+slice-aggregate-put-number : tie.Need-slice-aggregate-put-number
+slice-aggregate-put-number c = search needs
+
+put-number-requires : tie.Need-put-number-requires
+unfolding bytes
+put-number-requires c κs = omega (arith, c .before .before .before .pre, length-append (bytes " " ++ decimal (c .before .before .before .args .n)) ((bytes " " ++ decimal (c .before .before .before .args .m)) ++ bytes "\n"))
+
+slice-aggregate-put-last : tie.Need-slice-aggregate-put-last
+slice-aggregate-put-last c = search needs
+
+put-last-requires : tie.Need-put-last-requires
+unfolding bytes
+put-last-requires c κs = fits-second (bytes " " ++ decimal (c .before .before .before .before .before .before .before .before .args .n)) ((bytes " " ++ decimal (c .before .before .before .before .before .before .before .before .args .m)) ++ bytes "\n") (c .before .before .before .before .before .before .before .before .pre) (c .before .before .before .before .put-number .ensures)
+
+same-length : tie.Need-same-length
+same-length c = search needs
+
+returns : tie.Need-returns
+unfolding bytes
+returns c = both (bytes " " ++ decimal (c .before .before .before .before .before .before .before .before .before .before .before .args .n)) ((bytes " " ++ decimal (c .before .before .before .before .before .before .before .before .before .before .before .args .m)) ++ bytes "\n") (c .before .before .before .before .before .before .before .before .before .before .before .pre) (c .before .before .before .before .before .before .before .put-number .ensures) (c .before .before .put-last .ensures)
+
+pub put-last-two-spec : {M : Type 1} → statement M
+put-last-two-spec =
+    tie.close
+    (tie.spec
+    slice-aggregate-put-number
+    put-number-requires
+    slice-aggregate-put-last
+    put-last-requires
+    same-length
+    returns)
