@@ -1,3 +1,2 @@
 pub mod Cells
 pub mod Moves
-pub mod Laws

@@ -6,7 +6,7 @@ use Prim.Native.Nat.{ℕ, _+_}
 use lib.ListN.{set, replicate}
 use Rattle.entries.specs.Entries.{Entry}
 use Rattle.model.specs.Calls.{Words, Result, done, Effect, answers, writes, effect}
-use Rattle.model.specs.Cluster.{version, above, Copy, Purpose, recoveryRead, recoveryWrite, check, ownWrite, silent, acknowledged, Round, Server, Message}
+use Rattle.model.specs.Cluster.{version, above, Copy, copyOf, Purpose, recoveryRead, recoveryWrite, check, ownWrite, silent, acknowledged, Round, Server, Message}
 use Rattle.model.specs.Replica.{Request, reading, writing, requestBody}
 use Rattle.model.specs.Leader.{Reaction, cease, fails, broadcast, isOwn, reportTo, oneMore, closes, answerOf, recovered, straight}
 use Rattle.cells.specs.Cells.{Front, Cell, putCell, Move, lift}
@@ -23,7 +23,7 @@ finishing r f c = record { front = f; cell = record { copy = c .copy; round = no
 -- what the sender itself stores of a request
 unfoldable pub keeping : Request → Copy → Copy
 keeping reading old = old
-keeping (writing v t) old = elim (above v (old .version)) [ true ↦ record { version = v; table = t } | false ↦ old ]
+keeping (writing c) old = elim (above (c .version) (old .version)) [ true ↦ c | false ↦ old ]
 
 abbrev pub roundFor : ℕ → ℕ → Purpose → Front → Cell → Round
 roundFor n me u f c =
@@ -60,7 +60,7 @@ openingRound n me b u q next f c =
 
 unfoldable pub doing : ℕ → ℕ → ℕ → Effect → Front → Cell → Move
 doing n me b (answers r) f c = finishing r f c
-doing n me b (writes t) f c = openingRound n me b ownWrite (writing (version (f .number) (c .copy .version .counter + 1)) t) (finishing done) f c
+doing n me b (writes t) f c = openingRound n me b ownWrite (writing (copyOf (version (f .number) (c .copy .version .counter + 1)) t)) (finishing done) f c
 
 unfoldable pub afterReading : ℕ → ℕ → ℕ → Front → Cell → Move
 afterReading n me b f c = elim (c .call) [ none ↦ still f c | some k ↦ doing n me b (effect (k .words) (c .copy .table)) f c ]
@@ -69,7 +69,7 @@ unfoldable pub checkingRound : ℕ → ℕ → ℕ → Front → Cell → Move
 checkingRound n me b f c = openingRound n me b check reading (afterReading n me b) f c
 
 unfoldable pub recoveryOf : ℕ → ℕ → ℕ → List Entry → Front → Cell → Move
-recoveryOf n me b t f c = openingRound n me b recoveryWrite (writing (version (f .number) 1) t) (checkingRound n me b) f c
+recoveryOf n me b t f c = openingRound n me b recoveryWrite (writing (copyOf (version (f .number) 1) t)) (checkingRound n me b) f c
 
 unfoldable pub readingBucket : ℕ → ℕ → ℕ → Front → Cell → Move
 readingBucket n me b f c =

@@ -1,1 +1,1 @@
-// A server seen at one bucket. Definitions and proofs in specs/; there is no code here.
+// A server seen at one bucket. Definitions are in specs/, the laws in proofs/; there is no code here.

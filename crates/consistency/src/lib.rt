@@ -1,1 +1,1 @@
-// Why every script's calls have one order. Definitions and proofs in specs/; there is no code here.
+// Why every script's calls have one order (RULES, One order). The statement is in specs/, its proof in proofs/; there is no code here.

@@ -6,7 +6,7 @@ use mathlib.Core.List.{List, _++_}
 use Prim.Native.Nat.{ℕ, _+_, _≤_, _<_}
 use lib.ListN.{length, take, drop, getD}
 use Rattle.model.specs.Print.{tallyText}
-use Rattle.limits.specs.Always.{Measured}
+use Rattle.limits.specs.Stands.{Measured}
 use Rattle.views.specs.Memory.{Memory, memory, clusterIn}
 use Rattle.runs.specs.declared.Tally.{Tally}
 use Rattle.runs.specs.Meaning.{tallyIn}

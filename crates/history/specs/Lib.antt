@@ -2,12 +2,3 @@ pub mod Version
 pub mod Members
 pub mod History
 pub mod Ordering
-pub mod Quorum
-pub mod Descent
-pub mod Freshness
-pub mod Sequence
-pub mod Places
-pub mod RealTime
-pub mod Order
-pub mod Theorem
-pub mod Example

@@ -3,9 +3,7 @@ pub mod Lists
 pub mod Refusals
 pub mod Tally
 pub mod Measures
-pub mod Tables
-pub mod Rules
-pub mod Always
+pub mod Stands
 pub mod Starts
 pub mod Printed
 pub mod Prints

@@ -6,7 +6,6 @@ use mathlib.Core.Bool.{true}
 use mathlib.Core.Option.{Option, none, some}
 use mathlib.Core.Logic.{_≢_}
 use Prim.Native.Nat.{ℕ, _+_, _*_, _≤_, _<_, min}
-use native.Mathlib.Omega.{arith}
 use lib.ListN.{length}
 use Rattle.entries.specs.Entries.{Entry}
 use Rattle.table.specs.Form.{ValueAtMost, fits}
@@ -15,7 +14,7 @@ use Rattle.model.specs.Calls.{Words, get, set, setif, del, keys, bucketFor, Res
 use Rattle.model.specs.Cluster.{Copy, Stored, Role, follower, candidate, leading, Purpose, recoveryRead, recoveryWrite, check, ownWrite, Round, Call, Volatile, Server, Body, pleaseVote, ackVote, nackVote, replicaWrite, ackWrite, nackWrite, replicaRead, ackRead, nackRead, Message, Cluster, roundAt, callAt, freshCopy}
 use Rattle.model.specs.Replica.{Request, reading, writing}
 use Rattle.model.specs.Leader.{Reaction}
-use Rattle.limits.specs.Lists.{All, all-imply}
+use Rattle.limits.specs.Lists.{All}
 
 -- the greatest election number, the greatest round number and counter, and the greatest number of a call
 pub record Limits : Type 0 where
@@ -27,10 +26,6 @@ pub record Limits : Type 0 where
 -- and the greatest number of a call by at most one, and it makes at most four rounds
 abbrev pub limitsAfter : ℕ → ℕ → Limits
 limitsAfter top k = record { elections = min k top; rounds = 4 * k; calls = k }
-
--- one above a number within the limits is within them after another line, unless it is above the greatest
-pub one-above-within : (top k e : ℕ) → e ≤ limitsAfter top k .elections → e + 1 ≤ top → e + 1 ≤ limitsAfter top (k + 1) .elections
-one-above-within top k e h l = omega arith
 
 -- ---- copies. `q` is the number of rounds that may still be made in the same line: at rest it is 0
 
@@ -128,7 +123,7 @@ pub record ServerWithin (n b : ℕ) (l : Limits) (q : ℕ) (s : Server) : Type 0
 -- what a round asks under number e
 abbrev pub RequestWithin : Limits → (q e : ℕ) → Request → Type 0
 RequestWithin l q e reading = Unit {0}
-RequestWithin l q e (writing v t) = (v .election ≡ e) × CopyWithin l q (record { version = v; table = t })
+RequestWithin l q e (writing c) = (c .version .election ≡ e) × CopyWithin l q c
 
 abbrev pub OfVote : Message → Type 0
 OfVote m = (m .bucket ≡ 0) × (m .round ≡ 0)
@@ -140,11 +135,11 @@ abbrev pub BodyWithin : Limits → Message → Body → Type 0
 BodyWithin l m pleaseVote = OfVote m
 BodyWithin l m ackVote = OfVote m
 BodyWithin l m nackVote = OfVote m
-BodyWithin l m (replicaWrite v t) = OfRound l m × (v .election ≡ m .election) × CopyWithin l 0 (record { version = v; table = t })
+BodyWithin l m (replicaWrite c) = OfRound l m × (c .version .election ≡ m .election) × CopyWithin l 0 c
 BodyWithin l m ackWrite = OfRound l m
 BodyWithin l m nackWrite = OfRound l m
 BodyWithin l m replicaRead = OfRound l m
-BodyWithin l m (ackRead v t) = OfRound l m × CopyWithin l 0 (record { version = v; table = t })
+BodyWithin l m (ackRead c) = OfRound l m × CopyWithin l 0 c
 BodyWithin l m nackRead = OfRound l m
 
 pub record MessageWithin (n b : ℕ) (l : Limits) (m : Message) : Type 0 where
@@ -202,91 +197,3 @@ pub record ClusterWithin (top n b k : ℕ) (c : Cluster) : Type 0 where
   pub calls : c .calls ≤ k
   pub servers : All (ServerWithin n b (limitsAfter top k) 0) (c .servers)
   pub messages : All (MessageWithin n b (limitsAfter top k)) (c .messages)
-
--- ---- everything survives greater limits
-
--- m is no less than l, and leaves p rounds where l leaves q
-pub record Grows (l : Limits) (q : ℕ) (m : Limits) (p : ℕ) : Type 0 where
-  pub elections : l .elections ≤ m .elections
-  pub rounds : l .rounds ≤ m .rounds
-  pub slack : l .rounds + p ≤ m .rounds + q
-  pub calls : l .calls ≤ m .calls
-
--- fewer rounds left under the same limits
-pub fewer : (l : Limits) (q p : ℕ) → p ≤ q → Grows l q l p
-fewer l q p h = omega arith
-
--- another line, with at most four rounds
-pub next-line : (top k q : ℕ) → q ≤ 4 → Grows (limitsAfter top k) 0 (limitsAfter top (k + 1)) q
-next-line top k q h = omega arith
-
--- a greater last election number
-pub wider : (top more k : ℕ) → top ≤ more → Grows (limitsAfter top k) 0 (limitsAfter more k) 0
-wider top more k h = omega arith
-
-module _ {l : Limits} {q : ℕ} {m : Limits} {p : ℕ} (g : Grows l q m p) where
-  pub copy-grows : (c : Copy) → CopyWithin l q c → CopyWithin m p c
-  copy-grows c w = record { election = omega arith; counter = omega arith; unwritten = w .unwritten; written = w .written; empty = w .empty; fitting = w .fitting }
-
-  pub stored-grows : {n b : ℕ} {st : Stored} → StoredWithin n b l q st → StoredWithin n b m p st
-  stored-grows w = record { number = omega arith; vote = omega arith; leader = w .leader; size = w .size; copies = all-imply copy-grows (w .copies) }
-
-  pub frame-grows : {n b number : ℕ} {v : Volatile} → FrameWithin n b l q number v → FrameWithin n b m p number v
-  frame-grows w = record { votes = w .votes; rounds = w .rounds; calls = w .calls; lastRound = omega arith; standing = w .standing }
-
-  pub call-grows : {b i : ℕ} {c : Call} → CallWithin b l i q c → CallWithin b m i p c
-  call-grows w = record { first = w .first; last = omega arith; rounds = omega arith; sizes = w .sizes; bucket = w .bucket }
-
-  same-slack : Grows l 0 m 0
-  same-slack = omega arith
-
-module _ {l : Limits} {m : Limits} (g : Grows l 0 m 0) where
-  pub round-grows : {n number : ℕ} {r : Round} → RoundWithin n l number r → RoundWithin n m number r
-  round-grows w =
-      record {
-        low = w .low;
-        high = omega arith;
-        elected = w .elected;
-        election = omega arith;
-        present = w .present;
-        marks = w .marks;
-        best = copy-grows g _ (w .best);
-        unread = w .unread;
-      }
-
-  body-grows : (x : Message) (body : Body) → BodyWithin l x body → BodyWithin m x body
-  body-grows x pleaseVote w = w
-  body-grows x ackVote w = w
-  body-grows x nackVote w = w
-  body-grows x (replicaWrite v t) w = (omega arith, w .1, copy-grows g _ (w .2))
-  body-grows x ackWrite w = omega arith
-  body-grows x nackWrite w = omega arith
-  body-grows x replicaRead w = omega arith
-  body-grows x (ackRead v t) w = (omega arith, copy-grows g _ (w .1))
-  body-grows x nackRead w = omega arith
-
-  pub message-grows : {n b : ℕ} (x : Message) → MessageWithin n b l x → MessageWithin n b m x
-  message-grows x w =
-      record {
-        sender = w .sender;
-        receiver = w .receiver;
-        apart = w .apart;
-        bucket = w .bucket;
-        elected = w .elected;
-        election = omega arith;
-        body = body-grows x (x .body) (w .body);
-      }
-
-pub slot-grows : {n b : ℕ} {l : Limits} {q : ℕ} {m : Limits} {p : ℕ} → Grows l q m p → {number i : ℕ} {r : Option Round} {c : Option Call} →
-    SlotWithin n b l q number i r c → SlotWithin n b m p number i r c
-slot-grows g idle = idle
-slot-grows g (busy r c) = busy (round-grows (same-slack g) r) (call-grows g c)
-
-pub server-grows : {n b : ℕ} {l : Limits} {q : ℕ} {m : Limits} {p : ℕ} → Grows l q m p → (s : Server) → ServerWithin n b l q s →
-    ServerWithin n b m p s
-server-grows g s w =
-    record {
-      stored = stored-grows g (w .stored);
-      frame = frame-grows g (w .frame);
-      slots = λ i h. slot-grows g (w .slots i h);
-    }

@@ -1,1 +1,1 @@
-// What every script keeps within bounds. Definitions and proofs in specs/; there is no code here.
+// What every script keeps within bounds. Definitions are in specs/, the laws in proofs/; there is no code here.

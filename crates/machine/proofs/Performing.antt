@@ -11,8 +11,9 @@ use lib.ListN.{length}
 use Rattle.entries.specs.Decoded.{tableIn, valueBytes}
 use Rattle.model.specs.Cluster as cluster
 use Rattle.model.specs.Lines as lines
-use Rattle.limits.specs.Refusals.{ComesOut, refused-by, perform-comes-out}
-use Rattle.limits.specs.Always.{Measured, line-keeps-measures}
+use Rattle.limits.proofs.Refusals.{ComesOut, refused-by, perform-comes-out}
+use Rattle.limits.specs.Stands.{Measured}
+use Rattle.limits.proofs.Always.{line-keeps-measures}
 use Rattle.views.specs.Memory.{Memory, Sized, clusterIn}
 use Rattle.views.specs.Changes.{answersRoom, answersAt}
 use Rattle.parse.specs.declared.Line.{Line}

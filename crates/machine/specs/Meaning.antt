@@ -2,7 +2,7 @@
 use mathlib.Core.Path.{_≡_}
 use mathlib.Core.List.{List}
 use Prim.Native.Nat.{ℕ}
-use Rattle.limits.specs.Always.{Measured}
+use Rattle.limits.specs.Stands.{Measured}
 use Rattle.views.specs.Memory.{Memory, clusterIn}
 use Rattle.parse.specs.declared.Line.{Line}
 use Rattle.parse.specs.Meaning.{lineIn}

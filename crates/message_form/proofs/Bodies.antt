@@ -64,15 +64,15 @@ module _ {n b : ℕ} {l : Limits} (small : Small n b l) where
     well-formed pleaseVote v = vote-form pleaseVote (omega arith) (omega arith) v
     well-formed ackVote v = vote-form ackVote (omega arith) (omega arith) v
     well-formed nackVote v = vote-form nackVote (omega arith) (omega arith) v
-    well-formed (replicaWrite v t) r =
-        sym (write-rules (datagramOf (withBody m (replicaWrite v t))) address (omega arith) (omega arith) (omega (arith, r .0 .1, small .rounds)) refl (r .1))
-        ∙ rw (le-leb 1 (m .round) (r .0 .0)) (settled-copy (copyIn (replicaWrite v t)) (r .2))
+    well-formed (replicaWrite c) r =
+        sym (write-rules (datagramOf (withBody m (replicaWrite c))) address (omega arith) (omega arith) (omega (arith, r .0 .1, small .rounds)) refl (r .1))
+        ∙ rw (le-leb 1 (m .round) (r .0 .0)) (settled-copy c (r .2))
     well-formed ackWrite r = plain-form ackWrite (omega arith) (omega arith) (omega arith) (omega arith) r
     well-formed nackWrite r = plain-form nackWrite (omega arith) (omega arith) (omega arith) (omega arith) r
     well-formed replicaRead r = plain-form replicaRead (omega arith) (omega arith) (omega arith) (omega arith) r
-    well-formed (ackRead v t) r =
-        sym (read-rules (datagramOf (withBody m (ackRead v t))) address (omega arith) (omega arith) (omega (arith, r .0 .1, small .rounds)) refl)
-        ∙ rw (le-leb 1 (m .round) (r .0 .0)) (settled-copy (copyIn (ackRead v t)) (r .1))
+    well-formed (ackRead c) r =
+        sym (read-rules (datagramOf (withBody m (ackRead c))) address (omega arith) (omega arith) (omega (arith, r .0 .1, small .rounds)) refl)
+        ∙ rw (le-leb 1 (m .round) (r .0 .0)) (settled-copy c (r .1))
     well-formed nackRead r = plain-form nackRead (omega arith) (omega arith) (omega arith) (omega arith) r
 
     pub table-fits : (body : Body) → BodyWithin l m body → tableFits (datagramOf (withBody m body)) ≡ true
@@ -80,11 +80,11 @@ module _ {n b : ℕ} {l : Limits} (small : Small n b l) where
     table-fits pleaseVote v = refl
     table-fits ackVote v = refl
     table-fits nackVote v = refl
-    table-fits (replicaWrite v t) r = r .2 .fitting
+    table-fits (replicaWrite c) r = r .2 .fitting
     table-fits ackWrite r = refl
     table-fits nackWrite r = refl
     table-fits replicaRead r = refl
-    table-fits (ackRead v t) r = r .1 .fitting
+    table-fits (ackRead c) r = r .1 .fitting
     table-fits nackRead r = refl
 
 -- a datagram carries all that its message has
@@ -93,9 +93,9 @@ unfolding kindNumber copyIn datagramOf carries carried
 all-carried m pleaseVote = refl
 all-carried m ackVote = refl
 all-carried m nackVote = refl
-all-carried m (replicaWrite v t) = refl
+all-carried m (replicaWrite c) = refl
 all-carried m ackWrite = refl
 all-carried m nackWrite = refl
 all-carried m replicaRead = refl
-all-carried m (ackRead v t) = refl
+all-carried m (ackRead c) = refl
 all-carried m nackRead = refl

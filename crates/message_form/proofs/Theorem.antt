@@ -14,9 +14,10 @@ use Rattle.model.specs.Cluster.{Body, pleaseVote, ackVote, nackVote, replicaWri
 use Rattle.model.specs.Measures.{maxElection}
 use Rattle.model.specs.Lines.{initialState, Tally}
 use Rattle.model.specs.Run.{stateAfter}
-use Rattle.limits.specs.Lists.{all-in}
+use Rattle.limits.proofs.Lists.{all-in}
 use Rattle.limits.specs.Measures.{Limits, limitsAfter, MessageWithin}
-use Rattle.limits.specs.Always.{Stands, Measured, within-always}
+use Rattle.limits.specs.Stands.{Stands, Measured}
+use Rattle.limits.proofs.Always.{within-always}
 use Rattle.message_form.specs.Statement.{copyIn, datagramOf, messageBytes, bodyOf, messageOf, HasForm, InFlightHaveForm, MessageBack, OneMessage}
 use Rattle.message_form.proofs.Bodies.{Small, withBody, well-formed, table-fits, all-carried}
 
@@ -49,16 +50,16 @@ in-flight-have-form ls c e m i =
 
 -- ---- back to the message
 
-body-back : (body : Body) → bodyOf (kindNumber body) (copyIn body .version) (copyIn body .table) ≡ body
+body-back : (body : Body) → bodyOf (kindNumber body) (copyIn body) ≡ body
 unfolding kindNumber copyIn bodyOf
 body-back pleaseVote = refl
 body-back ackVote = refl
 body-back nackVote = refl
-body-back (replicaWrite v t) = refl
+body-back (replicaWrite c) = refl
 body-back ackWrite = refl
 body-back nackWrite = refl
 body-back replicaRead = refl
-body-back (ackRead v t) = refl
+body-back (ackRead c) = refl
 body-back nackRead = refl
 
 pub message-back : MessageBack

@@ -7,10 +7,9 @@ use mathlib.Core.Bool.{true}
 use mathlib.Core.Option.{some}
 use Prim.Native.Nat.{ℕ, _-_, _≤_}
 use lib.ListN.{length, getD, drop}
-use Rattle.entries.specs.Entries.{Entry}
 use Rattle.bucket.specs.Answers.{answer}
 use Rattle.fields.specs.Form.{Datagram, version, lengthOf, wellFormed, tableFits, datagramBytes, taken, readDatagram, writeDatagram}
-use Rattle.model.specs.Cluster.{Version, Copy, freshCopy, Body, pleaseVote, ackVote, nackVote, replicaWrite, ackWrite, nackWrite, replicaRead, ackRead, nackRead, kindNumber, Message, Cluster}
+use Rattle.model.specs.Cluster.{Copy, copyOf, freshCopy, Body, pleaseVote, ackVote, nackVote, replicaWrite, ackWrite, nackWrite, replicaRead, ackRead, nackRead, kindNumber, Message, Cluster}
 use Rattle.model.specs.Lines.{initialState}
 use Rattle.model.specs.Run.{stateAfter}
 
@@ -21,11 +20,11 @@ unfoldable pub copyIn : Body → Copy
 copyIn pleaseVote = freshCopy
 copyIn ackVote = freshCopy
 copyIn nackVote = freshCopy
-copyIn (replicaWrite v t) = record { version = v; table = t }
+copyIn (replicaWrite c) = c
 copyIn ackWrite = freshCopy
 copyIn nackWrite = freshCopy
 copyIn replicaRead = freshCopy
-copyIn (ackRead v t) = record { version = v; table = t }
+copyIn (ackRead c) = c
 copyIn nackRead = freshCopy
 
 unfoldable pub datagramOf : Message → Datagram
@@ -48,8 +47,8 @@ messageBytes m = datagramBytes (datagramOf m)
 -- ---- a datagram as a message
 
 -- the kinds from 1 on
-unfoldable pub bodyOf : ℕ → Version → List Entry → Body
-bodyOf kind v t = getD (pleaseVote ∷ ackVote ∷ nackVote ∷ replicaWrite v t ∷ ackWrite ∷ nackWrite ∷ replicaRead ∷ ackRead v t ∷ nackRead ∷ []) (kind - 1) pleaseVote
+unfoldable pub bodyOf : ℕ → Copy → Body
+bodyOf kind c = getD (pleaseVote ∷ ackVote ∷ nackVote ∷ replicaWrite c ∷ ackWrite ∷ nackWrite ∷ replicaRead ∷ ackRead c ∷ nackRead ∷ []) (kind - 1) pleaseVote
 
 unfoldable pub messageOf : Datagram → Message
 messageOf d =
@@ -59,7 +58,7 @@ messageOf d =
       bucket = d .bucket;
       election = d .election;
       round = d .round;
-      body = bodyOf (d .kind) (record { election = d .version .election; counter = d .version .counter }) (d .table);
+      body = bodyOf (d .kind) (copyOf (record { election = d .version .election; counter = d .version .counter }) (d .table));
     }
 
 -- ---- the claims

@@ -12,7 +12,7 @@ use Rattle.entries.specs.Entries.{Entry, valueOf, remove, stored}
 use Rattle.table.specs.Form.{sameValue}
 use Rattle.model.specs.Measures.{maxEntries}
 use Rattle.model.specs.Calls.{Words, set, setif, del, Result, done, mismatch, full, Effect, answers, writes, effectWrites, setting, effect}
-use Rattle.model.specs.Cluster.{copyAt, ownWrite, Call, callAt, Server}
+use Rattle.model.specs.Cluster.{copyOf, copyAt, ownWrite, Call, callAt, Server}
 use Rattle.model.specs.Replica.{writing}
 use Rattle.model.specs.Leader.{Reaction, isOwn, oneMore, opening, openRound, finish, nextVersion, applying, checking, recovered, startRead, straight, startCall}
 
@@ -24,7 +24,7 @@ written-effect (writes u) t e = let same : u ≡ t = cc in ap writes same
 
 -- the own write of table t, under the next version
 abbrev pub ownWriteOf : ℕ → ℕ → ℕ → List Entry → Server → Reaction
-ownWriteOf n me b t s = openRound n me b ownWrite (writing (nextVersion b s) t) (finish b done) s
+ownWriteOf n me b t s = openRound n me b ownWrite (writing (copyOf (nextVersion b s) t)) (finish b done) s
 
 module _ (n me b : ℕ) (words : Words) (s : Server) where
   -- whether the bucket is recovered, and what the call does to the table of the leader's copy
@@ -103,6 +103,6 @@ module _ (n me b : ℕ) (s : Server) (so : recovered (s .stored .number) (copyAt
 -- once its own write is opened as its first round, a call has 1 round and counts as sent: of such a call `ended` makes `unknown 1`
 pub sent-in-one-round : (n me b : ℕ) (s : Server) (t : List Entry) (c : Call) → b < length (s .volatile .calls) → callAt (s .volatile) b ≡ some c
     → c .rounds ≡ 0
-    → callAt (opening n me b ownWrite (writing (nextVersion b s) t) s .volatile) b ≡ some (record { number = c .number; words = c .words; rounds = 1; sent = true })
+    → callAt (opening n me b ownWrite (writing (copyOf (nextVersion b s) t)) s .volatile) b ≡ some (record { number = c .number; words = c .words; rounds = 1; sent = true })
 unfolding opening isOwn oneMore
 sent-in-one-round n me b s t c there taken first = getD-set-same (s .volatile .calls) b _ none there ∙ rw (taken, first)

@@ -1,4 +1,4 @@
--- Laws of majorities, for every number of servers. By the first any two majorities share a server (crates/history/specs/Quorum.antt).
+-- Laws of majorities, for every number of servers. By the first any two majorities share a server (crates/history/proofs/Quorum.antt).
 use Prim.Native.Nat.{ℕ, _*_, _≤_, _<_}
 use native.Mathlib.Omega.{arith}
 use Rattle.model.specs.Measures.{majority}

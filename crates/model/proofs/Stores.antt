@@ -9,11 +9,10 @@ use mathlib.Core.Option.{Option, none}
 use Prim.Native.Nat.{ℕ, zero, suc, _≤_, _<_}
 use native.Mathlib.Omega.{arith}
 use lib.Dec.{ltb, eqb}
-use lib.ListN.{length, take, replicate, set}
+use lib.ListN.{length, take, replicate}
 use borrow.Author.Tests.{eqb-true, eq-eqb, ltb-true, ltb-false, le-ltb}
-use Rattle.entries.specs.Entries.{Entry}
-use Rattle.model.specs.Cluster.{Version, above, Stored, copyAt, Round, Call, Volatile, Server, Body, pleaseVote, ackVote, nackVote, replicaWrite, ackWrite, nackWrite, replicaRead, ackRead, nackRead, Message, freshServer}
-use Rattle.model.specs.Replica.{voting, afterVote, Request, reading, writing, mayAccept, storing, accepting, acknowledging, refusing}
+use Rattle.model.specs.Cluster.{Version, above, Copy, Stored, copyAt, Round, Call, Volatile, Server, Body, pleaseVote, ackVote, nackVote, replicaWrite, ackWrite, nackWrite, replicaRead, ackRead, nackRead, Message, freshServer}
+use Rattle.model.specs.Replica.{voting, afterVote, Request, reading, writing, mayAccept, withCopy, storing, accepting, acknowledging, refusing}
 use Rattle.model.specs.Stores.{Store, voteStore, copyStore, putStore, putStores, voteStores, copyStores, acceptStores, requestStores, pleaseVoteStores, storesOf, isBroadcast, newVoteOldBuckets}
 use Rattle.model.specs.Leader.{Reaction, reaction, withStored, ceased, forgotten, stepDown, replyTo, replying, onPleaseVote, onRequest, handle}
 use Rattle.model.specs.Lines.{cutServer}
@@ -42,22 +41,22 @@ all-of-vote e p st = go (eqb e (st .vote)) refl (eqb p (st .leader)) refl
     go true i true j = same-vote e p st (eqb-true _ _ i) (eqb-true _ _ j)
 
 -- a bucket's store looks at the copies alone
-all-of-copy : (b : ℕ) (v : Version) (t : List Entry) (st u : Stored) → st .copies ≡ u .copies → putStores (copyStores b v t st) u ≡ storing b v t u
+all-of-copy : (b : ℕ) (c : Copy) (st u : Stored) → st .copies ≡ u .copies → putStores (copyStores b c st) u ≡ storing b c u
 unfolding copyStores putStores putStore storing
-all-of-copy b v t st u e = rw e (go (above v (copyAt u b .version)))
+all-of-copy b c st u e = rw e (go (above (c .version) (copyAt u b .version)))
   where
-    go : (a : Bool) → putStores (elim a [ true ↦ copyStore b v t ∷ [] | false ↦ [] ]) u
-        ≡ elim a [ false ↦ u | true ↦ record { number = u .number; vote = u .vote; leader = u .leader; copies = set (u .copies) b (record { version = v; table = t }) } ]
+    go : (a : Bool) → putStores (elim a [ true ↦ copyStore b c ∷ [] | false ↦ [] ]) u
+        ≡ elim a [ false ↦ u | true ↦ withCopy b c u ]
     go true = refl
     go false = refl
 
 all-of-request : (b e p : ℕ) (request : Request) (st : Stored) → putStores (acceptStores b e p request st) st ≡ accepting b e p request st
 unfolding acceptStores accepting
 all-of-request b e p reading st = all-of-vote e p st
-all-of-request b e p (writing v t) st =
-    puts-append (voteStores e p st) (copyStores b v t st) st
-    ∙ ap (putStores (copyStores b v t st)) (all-of-vote e p st)
-    ∙ all-of-copy b v t st (voting e p st) refl
+all-of-request b e p (writing c) st =
+    puts-append (voteStores e p st) (copyStores b c st) st
+    ∙ ap (putStores (copyStores b c st)) (all-of-vote e p st)
+    ∙ all-of-copy b c st (voting e p st) refl
 
 all-of-please-vote : (e p : ℕ) (st : Stored) → putStores (pleaseVoteStores e p st) st ≡ afterVote e p st
 unfolding pleaseVoteStores afterVote putStores putStore
@@ -94,11 +93,11 @@ all-stores n me m s h = go (m .body) refl h
         (all-of-please-vote (m .election) (m .sender) (s .stored) ∙ sym (step-down-keeps (withStored s (afterVote (m .election) (m .sender) (s .stored))) .0))
     go ackVote e i = let z : _≡_ {A = ℕ} 0 1 = cc in absurd (omega arith)
     go nackVote e i = let z : _≡_ {A = ℕ} 0 1 = cc in absurd (omega arith)
-    go (replicaWrite v t) e i = rw (storesOf, handle, e) (request-stored me m (writing v t) s)
+    go (replicaWrite c) e i = rw (storesOf, handle, e) (request-stored me m (writing c) s)
     go ackWrite e i = let z : _≡_ {A = ℕ} 0 1 = cc in absurd (omega arith)
     go nackWrite e i = let z : _≡_ {A = ℕ} 0 1 = cc in absurd (omega arith)
     go replicaRead e i = rw (storesOf, handle, e) (request-stored me m reading s)
-    go (ackRead v t) e i = let z : _≡_ {A = ℕ} 0 1 = cc in absurd (omega arith)
+    go (ackRead c) e i = let z : _≡_ {A = ℕ} 0 1 = cc in absurd (omega arith)
     go nackRead e i = let z : _≡_ {A = ℕ} 0 1 = cc in absurd (omega arith)
 
 -- ---- the stores, by cases
@@ -138,17 +137,17 @@ module _ (m : Message) (st : Stored) (P : List Store → Type 0) where
       go true i false j = q (other-leader j)
 
   -- with the bucket's store the vote's is left out only where the vote stands there
-  write-cases : (v : Version) (t : List Entry) → P [] → (NewVote → P (theVote ∷ []))
-      → (above v (copyAt st (m .bucket) .version) ≡ true → m .election ≡ st .vote → P (copyStore (m .bucket) v t ∷ []))
-      → (NewVote → above v (copyAt st (m .bucket) .version) ≡ true → P (theVote ∷ copyStore (m .bucket) v t ∷ []))
-      → P (voteStores (m .election) (m .sender) st ++ copyStores (m .bucket) v t st)
+  write-cases : (c : Copy) → P [] → (NewVote → P (theVote ∷ []))
+      → (above (c .version) (copyAt st (m .bucket) .version) ≡ true → m .election ≡ st .vote → P (copyStore (m .bucket) c ∷ []))
+      → (NewVote → above (c .version) (copyAt st (m .bucket) .version) ≡ true → P (theVote ∷ copyStore (m .bucket) c ∷ []))
+      → P (voteStores (m .election) (m .sender) st ++ copyStores (m .bucket) c st)
   unfolding voteStores copyStores
-  write-cases v t p q r s = go (eqb (m .election) (st .vote)) refl (eqb (m .sender) (st .leader)) refl (above v (copyAt st (m .bucket) .version)) refl
+  write-cases c p q r s = go (eqb (m .election) (st .vote)) refl (eqb (m .sender) (st .leader)) refl (above (c .version) (copyAt st (m .bucket) .version)) refl
     where
       go : (a : Bool) → eqb (m .election) (st .vote) ≡ a → (b : Bool) → eqb (m .sender) (st .leader) ≡ b
-          → (c : Bool) → above v (copyAt st (m .bucket) .version) ≡ c
+          → (d : Bool) → above (c .version) (copyAt st (m .bucket) .version) ≡ d
           → P ((elim a as (λ _. List Store) [ false ↦ theVote ∷ [] | true ↦ elim b [ true ↦ [] | false ↦ theVote ∷ [] ] ])
-          ++ (elim c as (λ _. List Store) [ true ↦ copyStore (m .bucket) v t ∷ [] | false ↦ [] ]))
+          ++ (elim d as (λ _. List Store) [ true ↦ copyStore (m .bucket) c ∷ [] | false ↦ [] ]))
       go false e b f true i = s (other-number e) i
       go false e b f false i = q (other-number e)
       go true e true f true i = r i (eqb-true _ _ e)
@@ -176,11 +175,11 @@ module _ (m : Message) (st : Stored) (P : List Store → Type 0) where
   stores-cases : P []
       → (m .body ≡ pleaseVote → st .vote < m .election → P (theVote ∷ []))
       → (m .body ≡ replicaRead → st .vote ≤ m .election → NewVote → P (theVote ∷ []))
-      → ((v : Version) (t : List Entry) → m .body ≡ replicaWrite v t → st .vote ≤ m .election → NewVote → P (theVote ∷ []))
-      → ((v : Version) (t : List Entry) → m .body ≡ replicaWrite v t → above v (copyAt st (m .bucket) .version) ≡ true → m .election ≡ st .vote
-      → P (copyStore (m .bucket) v t ∷ []))
-      → ((v : Version) (t : List Entry) → m .body ≡ replicaWrite v t → above v (copyAt st (m .bucket) .version) ≡ true → st .vote ≤ m .election → NewVote
-      → P (theVote ∷ copyStore (m .bucket) v t ∷ []))
+      → ((c : Copy) → m .body ≡ replicaWrite c → st .vote ≤ m .election → NewVote → P (theVote ∷ []))
+      → ((c : Copy) → m .body ≡ replicaWrite c → above (c .version) (copyAt st (m .bucket) .version) ≡ true → m .election ≡ st .vote
+      → P (copyStore (m .bucket) c ∷ []))
+      → ((c : Copy) → m .body ≡ replicaWrite c → above (c .version) (copyAt st (m .bucket) .version) ≡ true → st .vote ≤ m .election → NewVote
+      → P (theVote ∷ copyStore (m .bucket) c ∷ []))
       → P (storesOf m st)
   unfolding storesOf acceptStores
   stores-cases p granted read write copy both = go (m .body) refl
@@ -189,33 +188,33 @@ module _ (m : Message) (st : Stored) (P : List Store → Type 0) where
         | pleaseVote ↦ pleaseVoteStores (m .election) (m .sender) st
         | ackVote ↦ []
         | nackVote ↦ []
-        | replicaWrite v t ↦ requestStores m (writing v t) st
+        | replicaWrite c ↦ requestStores m (writing c) st
         | ackWrite ↦ []
         | nackWrite ↦ []
         | replicaRead ↦ requestStores m reading st
-        | ackRead v t ↦ []
+        | ackRead c ↦ []
         | nackRead ↦ []
       ])
       go pleaseVote e = please-vote-cases p (granted e)
       go ackVote e = p
       go nackVote e = p
-      go (replicaWrite v t) e = request-cases (writing v t) p (λ h. write-cases v t p (write v t e h) (copy v t e) (λ z i. both v t e i h z))
+      go (replicaWrite c) e = request-cases (writing c) p (λ h. write-cases c p (write c e h) (copy c e) (λ z i. both c e i h z))
       go ackWrite e = p
       go nackWrite e = p
       go replicaRead e = request-cases reading p (λ h. vote-cases p (read e h))
-      go (ackRead v t) e = p
+      go (ackRead c) e = p
       go nackRead e = p
 
 -- at most two
 pub few-stores : (m : Message) (st : Stored) → length (storesOf m st) ≤ 2
 few-stores m st =
-    stores-cases m st (λ l. length l ≤ 2) (omega arith) (λ e h. omega arith) (λ e h z. omega arith) (λ v t e h z. omega arith) (λ v t e h i. omega arith)
-    (λ v t e h i z. omega arith)
+    stores-cases m st (λ l. length l ≤ 2) (omega arith) (λ e h. omega arith) (λ e h z. omega arith) (λ c e h z. omega arith) (λ c e h i. omega arith)
+    (λ c e h i z. omega arith)
 
 -- a store is made only where that part changes
 abbrev pub Changes : Stored → Store → Type 0
 Changes st (voteStore e p) = e ≡ st .vote → p ≡ st .leader → ⊥
-Changes st (copyStore b v t) = v ≡ copyAt st b .version → ⊥
+Changes st (copyStore b c) = c .version ≡ copyAt st b .version → ⊥
 
 abbrev pub AllChange : Stored → List Store → Type 0
 AllChange st [] = Unit {0}
@@ -230,8 +229,8 @@ above-differs v w h e = let z : _≡_ {A = ℕ} 0 1 = cc (not-above-itself w, rw
 
 pub each-store-changes : (m : Message) (st : Stored) → AllChange st (storesOf m st)
 each-store-changes m st =
-    stores-cases m st (AllChange st) tt (λ e h. (λ i j. omega arith, tt)) (λ e h z. (z, tt)) (λ v t e h z. (z, tt))
-    (λ v t e h i. (above-differs v _ h, tt)) (λ v t e h i z. (z, (above-differs v _ h, tt)))
+    stores-cases m st (AllChange st) tt (λ e h. (λ i j. omega arith, tt)) (λ e h z. (z, tt)) (λ c e h z. (z, tt))
+    (λ c e h i. (above-differs (c .version) _ h, tt)) (λ c e h i z. (z, (above-differs (c .version) _ h, tt)))
 
 -- ---- cuts
 
@@ -263,20 +262,20 @@ module _ (m : Message) (st : Stored) (P : Stored → Type 0) where
   pub cut-cases : P st
       → (m .body ≡ pleaseVote → st .vote < m .election → P voted)
       → (m .body ≡ replicaRead → st .vote ≤ m .election → P voted)
-      → ((v : Version) (t : List Entry) → m .body ≡ replicaWrite v t → st .vote ≤ m .election → P voted)
-      → ((v : Version) (t : List Entry) → m .body ≡ replicaWrite v t → above v (copyAt st (m .bucket) .version) ≡ true → m .election ≡ st .vote
-      → P (putStore (copyStore (m .bucket) v t) st))
-      → ((v : Version) (t : List Entry) → m .body ≡ replicaWrite v t → above v (copyAt st (m .bucket) .version) ≡ true → st .vote ≤ m .election
-      → P (putStore (copyStore (m .bucket) v t) voted))
+      → ((c : Copy) → m .body ≡ replicaWrite c → st .vote ≤ m .election → P voted)
+      → ((c : Copy) → m .body ≡ replicaWrite c → above (c .version) (copyAt st (m .bucket) .version) ≡ true → m .election ≡ st .vote
+      → P (putStore (copyStore (m .bucket) c) st))
+      → ((c : Copy) → m .body ≡ replicaWrite c → above (c .version) (copyAt st (m .bucket) .version) ≡ true → st .vote ≤ m .election
+      → P (putStore (copyStore (m .bucket) c) voted))
       → (k : ℕ) → P (putStores (take k (storesOf m st)) st)
   unfolding putStore
   cut-cases p granted read write copy both k =
       stores-cases m st (λ l. P (putStores (take k l) st)) (none-made st P p k)
       (λ e h. one-made st P p _ (granted e h) k)
       (λ e h z. one-made st P p _ (read e h) k)
-      (λ v t e h z. one-made st P p _ (write v t e h) k)
-      (λ v t e h i. one-made st P p _ (copy v t e h i) k)
-      (λ v t e h i z. two-made st P p _ _ (write v t e i) (both v t e h i) k)
+      (λ c e h z. one-made st P p _ (write c e h) k)
+      (λ c e h i. one-made st P p _ (copy c e h i) k)
+      (λ c e h i z. two-made st P p _ _ (write c e i) (both c e h i) k)
 
 -- the old state, the new vote with the old buckets, or what all of these stores leave
 abbrev OneOfThree : Stored → List Store → Stored → Type 0
@@ -287,15 +286,15 @@ after-cut : (k : ℕ) (m : Message) (st : Stored) → OneOfThree st (storesOf m 
 unfolding putStores putStore
 after-cut k m st =
     stores-cases m st (λ l. OneOfThree st l (putStores (take k l) st)) (none-made st (OneOfThree st []) (inl refl) k)
-    (λ e h. one _) (λ e h z. one _) (λ v t e h z. one _) (λ v t e h i. one _) (λ v t e h i z. both v t)
+    (λ e h. one _) (λ e h z. one _) (λ c e h z. one _) (λ c e h i. one _) (λ c e h i z. both c)
   where
     one : (x : Store) → OneOfThree st (x ∷ []) (putStores (take k (x ∷ [])) st)
     one x = one-made st (OneOfThree st (x ∷ [])) (inl refl) x (inr (inr refl)) k
 
-    both : (v : Version) (t : List Entry) → let l = voteStore (m .election) (m .sender) ∷ copyStore (m .bucket) v t ∷ [] in OneOfThree st l (putStores (take k l) st)
-    both v t =
+    both : (c : Copy) → let l = voteStore (m .election) (m .sender) ∷ copyStore (m .bucket) c ∷ [] in OneOfThree st l (putStores (take k l) st)
+    both c =
         let x = voteStore (m .election) (m .sender) in
-        let y = copyStore (m .bucket) v t in
+        let y = copyStore (m .bucket) c in
         two-made st (OneOfThree st (x ∷ y ∷ [])) (inl refl) x y (inr (inl refl)) (inr (inr refl)) k
 
 -- after any cut of a message of kind 1, 4 or 7 the stored server holds the old state, the new vote with the old bucket, or the new state

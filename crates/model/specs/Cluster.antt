@@ -29,6 +29,9 @@ pub record Copy : Type 0 where
   pub version : Version
   pub table : List Entry
 
+abbrev pub copyOf : Version → List Entry → Copy
+copyOf v t = record { version = v; table = t }
+
 -- its election number; its vote, the number last voted under; the leader that the vote went to, which means nothing while
 -- the vote is 0; its copies by bucket
 pub record Stored : Type 0 where
@@ -88,27 +91,27 @@ pub record Server : Type 0 where
 
 -- ---- messages
 
--- the nine kinds of datagram (RULES, Datagrams 1), with the version and table that two of them carry
+-- the nine kinds of datagram (RULES, Datagrams 1), with the copy that two of them carry
 pub data Body : Type 0 where
   pleaseVote : Body
   ackVote : Body
   nackVote : Body
-  replicaWrite : Version → List Entry → Body
+  replicaWrite : Copy → Body
   ackWrite : Body
   nackWrite : Body
   replicaRead : Body
-  ackRead : Version → List Entry → Body
+  ackRead : Copy → Body
   nackRead : Body
 
 unfoldable pub kindNumber : Body → ℕ
 kindNumber pleaseVote = 1
 kindNumber ackVote = 2
 kindNumber nackVote = 3
-kindNumber (replicaWrite v t) = 4
+kindNumber (replicaWrite c) = 4
 kindNumber ackWrite = 5
 kindNumber nackWrite = 6
 kindNumber replicaRead = 7
-kindNumber (ackRead v t) = 8
+kindNumber (ackRead c) = 8
 kindNumber nackRead = 9
 
 -- votes carry bucket 0 and round 0
@@ -132,7 +135,7 @@ pub record Cluster : Type 0 where
 -- ---- fresh: all numbers 0, all buckets empty with version (0, 0), no leader
 
 abbrev pub freshCopy : Copy
-freshCopy = record { version = version 0 0; table = [] }
+freshCopy = copyOf (version 0 0) []
 
 unfoldable pub freshServer : ℕ → ℕ → Server
 freshServer n b =

@@ -9,7 +9,7 @@ use lib.ListN.{replicate, getD, set}
 use Rattle.entries.specs.Entries.{Entry}
 use Rattle.model.specs.Measures.{majority}
 use Rattle.model.specs.Calls.{Words, Result, done, notdone, unknown, Effect, answers, writes, effectWrites, effect, Answer}
-use Rattle.model.specs.Cluster.{Version, version, above, Copy, Stored, follower, candidate, leading, Purpose, recoveryRead, recoveryWrite, check, ownWrite, Mark, silent, acknowledged, refused, Round, Call, Volatile, Server, Body, pleaseVote, ackVote, nackVote, replicaWrite, ackWrite, nackWrite, replicaRead, ackRead, nackRead, Message, freshCopy, copyAt, roundAt, callAt, Role}
+use Rattle.model.specs.Cluster.{Version, version, above, Copy, copyOf, Stored, follower, candidate, leading, Purpose, recoveryRead, recoveryWrite, check, ownWrite, Mark, silent, acknowledged, refused, Round, Call, Volatile, Server, Body, pleaseVote, ackVote, nackVote, replicaWrite, ackWrite, nackWrite, replicaRead, ackRead, nackRead, Message, freshCopy, copyAt, roundAt, callAt, Role}
 use Rattle.model.specs.Replica.{grants, afterVote, Request, reading, writing, requestBody, mayAccept, accepting, acknowledging, refusing}
 
 -- what a server's step gives: the server afterwards, the messages it sends, in order, and the answers it prints
@@ -194,7 +194,7 @@ reportTo check c = freshCopy
 reportTo ownWrite c = freshCopy
 
 -- the open round of a broadcast, with the sender's own acknowledgement. It does not ask whether the sender would refuse: a
--- running leader's vote equals its number in every reached state (RoleOk in crates/consistency/specs/Invariant.antt)
+-- running leader's vote equals its number in every reached state (RoleOk in crates/consistency/proofs/Invariant.antt)
 unfoldable pub newRound : ℕ → ℕ → ℕ → Purpose → Server → Round
 newRound n me b purpose s =
     record {
@@ -256,7 +256,7 @@ nextVersion b s = version (s .stored .number) (copyAt (s .stored) b .version .co
 -- Algorithm 5: what is left of a call, from the leader's own copy
 unfoldable pub applying : ℕ → ℕ → ℕ → Effect → Server → Reaction
 applying n me b (answers r) s = finish b r s
-applying n me b (writes t) s = openRound n me b ownWrite (writing (nextVersion b s) t) (finish b done) s
+applying n me b (writes t) s = openRound n me b ownWrite (writing (copyOf (nextVersion b s) t)) (finish b done) s
 
 unfoldable pub afterRead : ℕ → ℕ → ℕ → Server → Reaction
 afterRead n me b s =
@@ -272,7 +272,7 @@ checking n me b s = openRound n me b check reading (afterRead n me b) s
 
 -- Algorithm 4, lines 6 to 10: the greatest version reported is written under (number, 1)
 unfoldable pub recovering : ℕ → ℕ → ℕ → List Entry → Server → Reaction
-recovering n me b t s = openRound n me b recoveryWrite (writing (version (s .stored .number) 1) t) (checking n me b) s
+recovering n me b t s = openRound n me b recoveryWrite (writing (copyOf (version (s .stored .number) 1) t)) (checking n me b) s
 
 -- a bucket is recovered where the version of the leader's copy has the leader's number e
 abbrev pub recovered : ℕ → Copy → Bool
@@ -417,10 +417,10 @@ handle n me m s =
       | pleaseVote ↦ onPleaseVote me m s
       | ackVote ↦ onAckVote n (m .sender) (m .election) s
       | nackVote ↦ noReaction s
-      | replicaWrite v t ↦ onRequest me m (writing v t) s
+      | replicaWrite c ↦ onRequest me m (writing c) s
       | ackWrite ↦ onReply n me m acknowledged freshCopy s
       | nackWrite ↦ onReply n me m refused freshCopy s
       | replicaRead ↦ onRequest me m reading s
-      | ackRead v t ↦ onReply n me m acknowledged (record { version = v; table = t }) s
+      | ackRead c ↦ onReply n me m acknowledged c s
       | nackRead ↦ onReply n me m refused freshCopy s
     ]

@@ -10,7 +10,7 @@ use Rattle.hash.specs.Fnv.{fnv, bucketOf}
 use Rattle.entries.specs.Entries.{Entry, entry, valueOf}
 use Rattle.table.specs.Form.{bucketBytes, readNumber, sameBytes, sameValue}
 use Rattle.model.specs.Measures.{majority, maxEntries, maxValueBytes}
-use Rattle.model.specs.Cluster.{Version, version, copyAt, Server, ackVote, replicaWrite, kindNumber, Message, freshServer}
+use Rattle.model.specs.Cluster.{Version, version, copyOf, copyAt, Server, ackVote, replicaWrite, kindNumber, Message, freshServer}
 use Rattle.model.specs.Lines.{isLeading}
 use Rattle.model.specs.Leader.{Reaction, elect, handle}
 use Rattle.model.specs.Compute.{computing}
@@ -38,13 +38,13 @@ abbrev pub replica : ℕ → Version → Server
 replica vote stored =
     let s = freshServer 3 1 in
     record {
-      stored = record { number = 0; vote = vote; leader = 0; copies = record { version = stored; table = table5 } ∷ [] };
+      stored = record { number = 0; vote = vote; leader = 0; copies = copyOf stored table5 ∷ [] };
       volatile = s .volatile;
       stopped = false;
     }
 
 abbrev pub write : Version → Message
-write v = record { sender = 0; receiver = 1; bucket = 0; election = v .election; round = 1; body = replicaWrite v [] }
+write v = record { sender = 0; receiver = 1; bucket = 0; election = v .election; round = 1; body = replicaWrite (copyOf v []) }
 
 abbrev pub written : ℕ → Version → Version → Reaction
 written vote stored v = handle 3 1 (write v) (replica vote stored)

@@ -4,24 +4,16 @@ use mathlib.Core.List.{List, [], _∷_, _++_}
 use mathlib.Core.Bool.{Bool, true, false}
 use Prim.Native.Nat.{ℕ}
 use lib.Dec.{ltb, eqb}
-use lib.ListN.{set}
-use Rattle.entries.specs.Entries.{Entry}
-use Rattle.model.specs.Cluster.{Version, above, Stored, copyAt, Body, pleaseVote, ackVote, nackVote, replicaWrite, ackWrite, nackWrite, replicaRead, ackRead, nackRead, Message}
-use Rattle.model.specs.Replica.{voting, Request, reading, writing, mayAccept}
+use Rattle.model.specs.Cluster.{above, Copy, Stored, copyAt, Body, pleaseVote, ackVote, nackVote, replicaWrite, ackWrite, nackWrite, replicaRead, ackRead, nackRead, Message}
+use Rattle.model.specs.Replica.{voting, Request, reading, writing, mayAccept, withCopy}
 
 pub data Store : Type 0 where
   voteStore : ℕ → ℕ → Store
-  copyStore : ℕ → Version → List Entry → Store
+  copyStore : ℕ → Copy → Store
 
 unfoldable pub putStore : Store → Stored → Stored
 putStore (voteStore e p) st = voting e p st
-putStore (copyStore b v t) st =
-    record {
-      number = st .number;
-      vote = st .vote;
-      leader = st .leader;
-      copies = set (st .copies) b (record { version = v; table = t });
-    }
+putStore (copyStore b c) st = withCopy b c st
 
 -- one after the other
 unfoldable pub putStores : List Store → Stored → Stored
@@ -37,13 +29,13 @@ voteStores e p st =
           elim (eqb p (st .leader)) [ true ↦ [] | false ↦ voteStore e p ∷ [] ]
     ]
 
-unfoldable pub copyStores : ℕ → Version → List Entry → Stored → List Store
-copyStores b v t u = elim (above v (copyAt u b .version)) [ true ↦ copyStore b v t ∷ [] | false ↦ [] ]
+unfoldable pub copyStores : ℕ → Copy → Stored → List Store
+copyStores b c u = elim (above (c .version) (copyAt u b .version)) [ true ↦ copyStore b c ∷ [] | false ↦ [] ]
 
 -- an accepted request of p under e on bucket b: the vote, then the bucket
 unfoldable pub acceptStores : ℕ → ℕ → ℕ → Request → Stored → List Store
 acceptStores b e p reading st = voteStores e p st
-acceptStores b e p (writing v t) st = voteStores e p st ++ copyStores b v t st
+acceptStores b e p (writing c) st = voteStores e p st ++ copyStores b c st
 
 unfoldable pub requestStores : Message → Request → Stored → List Store
 requestStores m request st =
@@ -59,11 +51,11 @@ storesOf m st =
       | pleaseVote ↦ pleaseVoteStores (m .election) (m .sender) st
       | ackVote ↦ []
       | nackVote ↦ []
-      | replicaWrite v t ↦ requestStores m (writing v t) st
+      | replicaWrite c ↦ requestStores m (writing c) st
       | ackWrite ↦ []
       | nackWrite ↦ []
       | replicaRead ↦ requestStores m reading st
-      | ackRead v t ↦ []
+      | ackRead c ↦ []
       | nackRead ↦ []
     ]
 
@@ -72,11 +64,11 @@ unfoldable pub isBroadcast : Body → Bool
 isBroadcast pleaseVote = true
 isBroadcast ackVote = false
 isBroadcast nackVote = false
-isBroadcast (replicaWrite v t) = true
+isBroadcast (replicaWrite c) = true
 isBroadcast ackWrite = false
 isBroadcast nackWrite = false
 isBroadcast replicaRead = true
-isBroadcast (ackRead v t) = false
+isBroadcast (ackRead c) = false
 isBroadcast nackRead = false
 
 -- the new vote with the old buckets, where `old` is what was stored before a message and `new` what is stored after it

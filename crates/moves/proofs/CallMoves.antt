@@ -18,11 +18,11 @@ use Rattle.model.specs.Leader.{straight, beginCall, acknowledgements, closes, b
 use Rattle.cells.specs.Cells.{Front, Cell}
 use Rattle.cells.specs.Cells as cells
 use Rattle.cells.specs.Moves.{still, finishing, frontAfter, cellAfter, openingRound, doing, afterReading, checkingRound, recoveryOf, readingBucket, startingCall, beginning}
-use Rattle.cells.specs.Laws.{begin-is}
+use Rattle.cells.proofs.Laws.{begin-is}
 use Rattle.server.specs.declared.Version.{Version}
 use Rattle.server.specs.declared.Call.{Call}
 use Rattle.server.specs.declared.Effect.{Effect}
-use Rattle.server.specs.Views.{flagIn, versionIn, among, roundIn, takenIn, callIn, resultIn, effectIn, chosen}
+use Rattle.server.specs.Views.{flagIn, copyIn, among, roundIn, takenIn, callIn, resultIn, effectIn, chosen}
 use Rattle.rounds.specs.Rounds.{noVersion, pickVersion, pickTable}
 use Rattle.open_calls.specs.Calls.{versionOf, nextVersionOf}
 use Rattle.moves.specs.declared.Local.{Local}
@@ -177,7 +177,7 @@ module _ (b : ℕ) (copy : List Entry) (words : calls.Words) where
   unfolding recoveryOf writingMove
   write-alone l o r =
       let v = versionOf (l .head .number) 1 in
-      at-once b cluster.recoveryWrite (writing (versionIn v) copy) (checkingRound 1 0 b) (frontIn 1 (l .head)) (cellWith o l copy words)
+      at-once b cluster.recoveryWrite (writing (copyIn v copy)) (checkingRound 1 0 b) (frontIn 1 (l .head)) (cellWith o l copy words)
       ∙ ap₂ (checkingRound 1 0 b) (front-opened 1 0 l (omega arith) (r .last))
       (recovery-write-cell 1 0 l (omega arith) (r .last) o v copy copy copy words (r .rounds)
       ∙ ap (λ c. cellIn 1 (recoveryMove 0 l .local) c copy words) (same-pick (stores v l) copy))
@@ -270,7 +270,7 @@ doneWith n l copy words v u =
 
 own-write-alone : (b : ℕ) (a : Asked) (r : Local) (t : Tables) (words : calls.Words) (v : List ℕ) (u : List Entry) (o : Option cluster.Round)
     → Room 1 r → r .version .counter + 1 < 2 ^ 32 → among 5 (r .call .kind) ≡ true
-    → openingRound 1 0 b cluster.ownWrite (writing (cluster.version (r .head .number) (r .version .counter + 1)) (t .made)) (finishing calls.done) (frontIn 1 (r .head)) (cellWith o r (t .copy) words)
+    → openingRound 1 0 b cluster.ownWrite (writing (cluster.copyOf (cluster.version (r .head .number) (r .version .counter + 1)) (t .made))) (finishing calls.done) (frontIn 1 (r .head)) (cellWith o r (t .copy) words)
     ≡ moveIn 1 0 b a (ownAlone 0 r) t words v u
 unfolding writingMove finishedMove chosen copyAfter workAfter sendsIn roundIn among resultIn
 own-write-alone b a r t words v u o room counter live =
@@ -279,8 +279,8 @@ own-write-alone b a r t words v u o room counter live =
     let c = cellWith o r (t .copy) words in
     let l = ownWriteMove 0 r .local in
     let z : Tables = record { copy = pickTable (stores w r) (t .made) (t .copy); work = t .made; made = t .made; message = t .message } in
-    ap (λ k. openingRound 1 0 b cluster.ownWrite (writing (cluster.version (r .head .number) k) (t .made)) (finishing calls.done) x c) (sym (mod-eq-of-lt counter))
-    ∙ (at-once b cluster.ownWrite (writing (versionIn w) (t .made)) (finishing calls.done) x c
+    ap (λ k. openingRound 1 0 b cluster.ownWrite (writing (cluster.copyOf (cluster.version (r .head .number) k) (t .made))) (finishing calls.done) x c) (sym (mod-eq-of-lt counter))
+    ∙ (at-once b cluster.ownWrite (writing (copyIn w (t .made))) (finishing calls.done) x c
     ∙ (ap₂ (finishing calls.done) (front-opened 1 0 r (omega arith) (room .last))
     (own-write-cell 1 0 r (omega arith) (room .last) o w (t .made) (t .copy) (t .made) words (room .rounds))
     ∙ (finished 1 0 b a 3 l z words v u (roundIn 1 (l .round) (bestIn (l .round) (t .made))) live refl

@@ -10,7 +10,7 @@ use Rattle.model.specs.Calls as calls
 use Rattle.model.specs.Cluster as cluster
 use Rattle.model.specs.Leader.{Reaction, reaction, noReaction, endings, cease, acts, stepDown}
 use Rattle.cells.specs.Cells.{putCell}
-use Rattle.cells.specs.Laws.{itself}
+use Rattle.cells.proofs.Laws.{itself}
 use Rattle.server.specs.declared.Version.{Version}
 use Rattle.server.specs.Views.{besideIn, roleIn, callIn}
 use Rattle.server.proofs.HeadLaws.{ceased-means}

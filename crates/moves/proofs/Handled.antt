@@ -14,7 +14,7 @@ use Rattle.model.specs.Leader.{Reaction, noReaction, onPleaseVote, onAckVote, o
 use Rattle.server.specs.declared.Version.{Version}
 use Rattle.server.specs.declared.Message.{Message}
 use Rattle.server.specs.declared.Handling.the-variants.{Reply, Other}
-use Rattle.server.specs.Views.{versionIn, markIn, among}
+use Rattle.server.specs.Views.{copyIn, markIn, among}
 use Rattle.rounds.specs.Rounds.{pickVersion, noVersion, pickTable}
 use Rattle.rounds.specs.Kinds.{handlingIn}
 use Rattle.rounds.proofs.KindLaws.{past-votes}
@@ -32,11 +32,11 @@ handleBy n me m s body =
       | cluster.pleaseVote ↦ onPleaseVote me m s
       | cluster.ackVote ↦ onAckVote n (m .sender) (m .election) s
       | cluster.nackVote ↦ noReaction s
-      | cluster.replicaWrite w u ↦ onRequest me m (replica.writing w u) s
+      | cluster.replicaWrite c ↦ onRequest me m (replica.writing c) s
       | cluster.ackWrite ↦ onReply n me m cluster.acknowledged cluster.freshCopy s
       | cluster.nackWrite ↦ onReply n me m cluster.refused cluster.freshCopy s
       | cluster.replicaRead ↦ onRequest me m replica.reading s
-      | cluster.ackRead w u ↦ onReply n me m cluster.acknowledged (record { version = w; table = u }) s
+      | cluster.ackRead c ↦ onReply n me m cluster.acknowledged c s
       | cluster.nackRead ↦ onReply n me m cluster.refused cluster.freshCopy s
     ]
 
@@ -62,7 +62,7 @@ module _ (n me b result : ℕ) (x : Message) (s : cluster.Server) (l : Local) (t
   abbrev pub ReplyMeans : Type 0
   ReplyMeans =
       (mark : ℕ) (reports : Bool) → handlingIn (x .kind) ≡ Reply mark reports
-      → onReply n me (messageIn x (t .message)) (markIn mark) (record { version = versionIn (pickVersion reports (x .version) noVersion); table = pickTable reports (t .message) [] }) s
+      → onReply n me (messageIn x (t .message)) (markIn mark) (copyIn (pickVersion reports (x .version) noVersion) (pickTable reports (t .message) [])) s
       ≡ reactionIn n me b (askedIn x) (replyMove n me result mark (pickVersion reports (x .version) noVersion) x l) t words v u s
 
   module _ (seen : Seen n b s l (t .copy) (t .work) words) (same : b ≡ x .bucket) (replies : ReplyMeans) where

@@ -20,7 +20,7 @@ use Rattle.cells.specs.Cells.{Front, Cell}
 use Rattle.cells.specs.Cells as cells
 use Rattle.cells.specs.Moves.{finishing, keeping, roundFor, frontAfter, cellAfter, openingRound}
 use Rattle.server.specs.declared.Version.{Version}
-use Rattle.server.specs.Views.{markIn, purposeIn, versionIn, among, roundIn, callIn, resultIn, chosen}
+use Rattle.server.specs.Views.{markIn, purposeIn, copyIn, among, roundIn, callIn, resultIn, chosen}
 use Rattle.server.proofs.Counting.{set-viewed, replicate-viewed}
 use Rattle.rounds.specs.Rounds.{openedHead, reported, pickVersion, pickTable}
 use Rattle.open_calls.specs.Calls.{oneMoreOf, versionOf, nextVersionOf}
@@ -65,19 +65,19 @@ made e u best k marks = some (record { number = k; election = e; purpose = u; ma
 
 -- a cell with a local's version and call, whatever its round
 abbrev pub cellWith : Option cluster.Round → Local → List Entry → calls.Words → Cell
-cellWith o l copy words = record { copy = record { version = versionIn (l .version); table = copy }; round = o; call = callIn (l .call) words }
+cellWith o l copy words = record { copy = copyIn (l .version) copy; round = o; call = callIn (l .call) words }
 
 -- what is stored of a write, as the version and the table that are picked
 abbrev copyPicked : Version → List Entry → List Entry → Local → cluster.Copy
-copyPicked v table copy l = record { version = versionIn (pickVersion (stores v l) v (l .version)); table = pickTable (stores v l) table copy }
+copyPicked v table copy l = copyIn (pickVersion (stores v l) v (l .version)) (pickTable (stores v l) table copy)
 
 kept-written : (v : Version) (table copy : List Entry) (l : Local)
-    → keeping (writing (versionIn v) table) (record { version = versionIn (l .version); table = copy }) ≡ copyPicked v table copy l
+    → keeping (writing (copyIn v table)) (copyIn (l .version) copy) ≡ copyPicked v table copy l
 unfolding keeping pickVersion pickTable
 kept-written v table copy l =
     elim (stores v l) as
-    (λ z. _≡_ {A = cluster.Copy} (elim z [ true ↦ record { version = versionIn v; table = table } | false ↦ record { version = versionIn (l .version); table = copy } ])
-    (record { version = versionIn (pickVersion z v (l .version)); table = pickTable z table copy }))
+    (λ z. _≡_ {A = cluster.Copy} (elim z [ true ↦ copyIn v table | false ↦ copyIn (l .version) copy ])
+    (copyIn (pickVersion z v (l .version)) (pickTable z table copy)))
     [ true ↦ refl | false ↦ refl ]
 
 module _ (n me : ℕ) (l : Local) (hi : n ≤ 7) (last : l .head .last + 1 < 2 ^ 32) where
@@ -95,20 +95,20 @@ module _ (n me : ℕ) (l : Local) (hi : n ≤ 7) (last : l .head .last + 1 < 2 ^
       → cellAfter n me cluster.recoveryRead reading (frontIn n (l .head)) (cellWith o l copy words) ≡ cellIn n (readingMove me 1 l .local) copy copy words
   unfolding keeping isOwn readingMove reportTo roundIn among bestIn reported pickVersion pickTable purposeIn
   recovery-read-cell o copy words rounds =
-      let c : cluster.Copy = record { version = versionIn (l .version); table = copy } in
+      let c : cluster.Copy = copyIn (l .version) copy in
       cell-opened false cluster.recoveryRead c c words rounds
 
   pub check-cell : (o : Option cluster.Round) (copy work : List Entry) (words : calls.Words) → l .call .rounds + 1 < 2 ^ 32
       → cellAfter n me cluster.check reading (frontIn n (l .head)) (cellWith o l copy words) ≡ cellIn n (readingMove me 3 l .local) copy work words
   unfolding keeping isOwn readingMove reportTo roundIn among bestIn reported pickVersion pickTable purposeIn
   check-cell o copy work words rounds =
-      cell-opened false cluster.check cluster.freshCopy (record { version = versionIn (l .version); table = copy }) words rounds
+      cell-opened false cluster.check cluster.freshCopy (copyIn (l .version) copy) words rounds
 
   -- the same for a round that writes
   cell-written : (own : Bool) (u : cluster.Purpose) (v : Version) (table copy : List Entry) (words : calls.Words) → l .call .rounds + 1 < 2 ^ 32
       → _≡_ {A = Cell}
       (record {
-        copy = keeping (writing (versionIn v) table) (record { version = versionIn (l .version); table = copy });
+        copy = keeping (writing (copyIn v table)) (copyIn (l .version) copy);
         round = made (l .head .number) u cluster.freshCopy (l .head .last + 1) (set (replicate n cluster.silent) me cluster.acknowledged);
         call = oneMore own (callIn (l .call) words);
       })
@@ -120,13 +120,13 @@ module _ (n me : ℕ) (l : Local) (hi : n ≤ 7) (last : l .head .last + 1 < 2 ^
   cell-written own u v table copy words rounds = rw (kept-written v table copy l) (cell-opened own u cluster.freshCopy (copyPicked v table copy l) words rounds)
 
   pub recovery-write-cell : (o : Option cluster.Round) (v : Version) (table copy work : List Entry) (words : calls.Words) → l .call .rounds + 1 < 2 ^ 32
-      → cellAfter n me cluster.recoveryWrite (writing (versionIn v) table) (frontIn n (l .head)) (cellWith o l copy words)
+      → cellAfter n me cluster.recoveryWrite (writing (copyIn v table)) (frontIn n (l .head)) (cellWith o l copy words)
       ≡ cellIn n (writingMove me 2 v l .local) (pickTable (stores v l) table copy) work words
   unfolding isOwn writingMove reportTo roundIn among bestIn reported pickVersion pickTable purposeIn
   recovery-write-cell o v table copy work words rounds = cell-written false cluster.recoveryWrite v table copy words rounds
 
   pub own-write-cell : (o : Option cluster.Round) (v : Version) (table copy work : List Entry) (words : calls.Words) → l .call .rounds + 1 < 2 ^ 32
-      → cellAfter n me cluster.ownWrite (writing (versionIn v) table) (frontIn n (l .head)) (cellWith o l copy words)
+      → cellAfter n me cluster.ownWrite (writing (copyIn v table)) (frontIn n (l .head)) (cellWith o l copy words)
       ≡ cellIn n (writingMove me 4 v l .local) (pickTable (stores v l) table copy) work words
   unfolding isOwn writingMove reportTo roundIn among bestIn reported pickVersion pickTable purposeIn
   own-write-cell o v table copy work words rounds = cell-written true cluster.ownWrite v table copy words rounds
@@ -198,12 +198,12 @@ module _ (n me b : ℕ) (a : Asked) (l : Local) (t : Tables) (words : calls.Word
 
   -- a recovery writes the working table
   pub recovery-write-waits :
-      openingRound n me b cluster.recoveryWrite (writing (cluster.version (l .head .number) 1) (t .work)) next (frontIn n (l .head)) (cellWith o l (t .copy) words)
+      openingRound n me b cluster.recoveryWrite (writing (cluster.copyOf (cluster.version (l .head .number) 1) (t .work))) next (frontIn n (l .head)) (cellWith o l (t .copy) words)
       ≡ moveIn n me b a (recoveryMove me l) t words v u
   unfolding writingMove chosen copyAfter workAfter sendsIn answersIn requestBody
   recovery-write-waits =
       let w = versionOf (l .head .number) 1 in
-      let q = writing (versionIn w) (t .work) in
+      let q = writing (copyIn w (t .work)) in
       waits n me b cluster.recoveryWrite q next (frontIn n (l .head)) (cellWith o l (t .copy) words) lo mine
       ∙ moved n me b q l last (front-opened n me l hi last)
       (recovery-write-cell n me l hi last o w (t .work) (t .copy) (t .work) words rounds
@@ -211,13 +211,13 @@ module _ (n me b : ℕ) (a : Asked) (l : Local) (t : Tables) (words : calls.Word
 
   -- a call's own write writes the new table
   pub own-write-waits : l .version .counter + 1 < 2 ^ 32
-      → openingRound n me b cluster.ownWrite (writing (cluster.version (l .head .number) (l .version .counter + 1)) (t .made)) next (frontIn n (l .head)) (cellWith o l (t .copy) words)
+      → openingRound n me b cluster.ownWrite (writing (cluster.copyOf (cluster.version (l .head .number) (l .version .counter + 1)) (t .made))) next (frontIn n (l .head)) (cellWith o l (t .copy) words)
       ≡ moveIn n me b a (ownWriteMove me l) t words v u
   unfolding writingMove chosen copyAfter workAfter sendsIn answersIn requestBody
   own-write-waits counter =
       let w = nextVersionOf (l .head .number) (l .version) in
-      let q = writing (versionIn w) (t .made) in
-      ap (λ k. openingRound n me b cluster.ownWrite (writing (cluster.version (l .head .number) k) (t .made)) next (frontIn n (l .head)) (cellWith o l (t .copy) words)) (sym (mod-eq-of-lt counter))
+      let q = writing (copyIn w (t .made)) in
+      ap (λ k. openingRound n me b cluster.ownWrite (writing (cluster.copyOf (cluster.version (l .head .number) k) (t .made))) next (frontIn n (l .head)) (cellWith o l (t .copy) words)) (sym (mod-eq-of-lt counter))
       ∙ (waits n me b cluster.ownWrite q next (frontIn n (l .head)) (cellWith o l (t .copy) words) lo mine
       ∙ moved n me b q l last (front-opened n me l hi last)
       (own-write-cell n me l hi last o w (t .made) (t .copy) (t .made) words rounds

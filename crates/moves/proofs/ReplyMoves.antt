@@ -16,14 +16,14 @@ use Rattle.model.specs.Leader.{Reaction, cease, closes, fails, onReply, countin
 use Rattle.cells.specs.Cells.{Cell, putCell}
 use Rattle.cells.specs.Cells as cells
 use Rattle.cells.specs.Moves.{still, afterReading, checkingRound, recoveryOf, closing, countingReply, reactionTo}
-use Rattle.cells.specs.Laws.{counting-is}
+use Rattle.cells.proofs.Laws.{counting-is}
 use Rattle.server.specs.declared.Version.{Version}
 use Rattle.server.specs.declared.Round.{Round}
 use Rattle.server.specs.declared.Counted.{Counted}
 use Rattle.server.specs.declared.Effect.{Effect}
 use Rattle.server.specs.declared.Message.{Message}
 use Rattle.server.specs.declared.Handling.the-variants.{Reply}
-use Rattle.server.specs.Views.{purposeIn, versionIn, among, openIn, roundIn, markIn, resultIn, effectIn, chosen}
+use Rattle.server.specs.Views.{purposeIn, versionIn, copyIn, among, openIn, roundIn, markIn, resultIn, effectIn, chosen}
 use Rattle.rounds.specs.Rounds.{noVersion, pickVersion, pickTable, improves, isSilent, countedWith, countedOf, matching}
 use Rattle.rounds.proofs.RoundLaws.{fresh-below, counted-means, matching-shut, unmatched, matched}
 use Rattle.moves.specs.declared.Local.{Local}
@@ -160,7 +160,7 @@ module _ (n q mark : ℕ) (reports : Bool) (v : Version) (r : Round) where
       improves-reports reports (r .purpose) v (r .best) (eqb (r .purpose) 1) refl (better-improves n q mark (pickVersion reports v noVersion) r h)
 
   counted-seen : (message work : List Entry)
-      → counted q (markIn mark) (record { version = versionIn (pickVersion reports v noVersion); table = pickTable reports message [] }) (openIn n r (bestIn r work))
+      → counted q (markIn mark) (copyIn (pickVersion reports v noVersion) (pickTable reports message [])) (openIn n r (bestIn r work))
       ≡ openIn n (counts .round) (bestIn (counts .round) (pickTable (counts .better) message work))
   counted-seen message work =
       let report = pickVersion reports v noVersion in
@@ -254,7 +254,7 @@ module _ (n me b : ℕ) (a : Asked) (s : cluster.Server) (l : Local) (t : Tables
     (last : l .head .last + 1 < 2 ^ 32) (rounds : l .call .rounds + 1 < 2 ^ 32) (counter : l .version .counter + 1 < 2 ^ 32) where
   -- the copy that is reported
   abbrev reported : cluster.Copy
-  reported = record { version = versionIn (pickVersion reports (x .version) noVersion); table = pickTable reports (t .message) [] }
+  reported = copyIn (pickVersion reports (x .version) noVersion) (pickTable reports (t .message) [])
 
   abbrev reactsBy : Move → Reaction
   reactsBy y = reactionIn n me b a y t words (valueBytes (f .value)) (tableIn (f .table)) s
@@ -296,6 +296,6 @@ module _ (n me b : ℕ) (a : Asked) (s : cluster.Server) (l : Local) (t : Tables
       (unmatched n me m (markIn mark) reported s (matching-there ∙ e) ∙ quiet-means n me b a s l t words (valueBytes (f .value)) (tableIn (f .table)) seen)
 
   pub reply-means :
-      onReply n me m (markIn mark) (record { version = versionIn (pickVersion reports (x .version) noVersion); table = pickTable reports (t .message) [] }) s
+      onReply n me m (markIn mark) (copyIn (pickVersion reports (x .version) noVersion) (pickTable reports (t .message) [])) s
       ≡ reactionIn n me b a (replyMove n me (f .result) mark (pickVersion reports (x .version) noVersion) x l) t words (valueBytes (f .value)) (tableIn (f .table)) s
   reply-means = reply-by (matching (x .election) (x .round) (roundIn n (l .round) [])) refl

@@ -10,10 +10,10 @@ use Rattle.model.specs.Cluster as cluster
 use Rattle.model.specs.Cluster.{copyAt}
 use Rattle.model.specs.Replica.{grants, mayAccept, Request, reading, writing, accepting, acknowledging, refusing}
 use Rattle.model.specs.Leader.{Reaction, reaction, withStored, stepDown, replying, replyTo, onPleaseVote, onRequest}
-use Rattle.cells.specs.Laws.{copy-there, accepted-is}
+use Rattle.cells.proofs.Laws.{copy-there, accepted-is}
 use Rattle.cells.specs.Moves.{keeping}
 use Rattle.server.specs.declared.Message.{Message}
-use Rattle.server.specs.Views.{besideIn, storedIn, versionIn, chosen}
+use Rattle.server.specs.Views.{besideIn, storedIn, copyIn, chosen}
 use Rattle.server.specs.Heads.{votingHead, afterVoteHead}
 use Rattle.server.proofs.HeadLaws.{after-vote-means}
 use Rattle.rounds.specs.Rounds.{pickVersion, noVersion}
@@ -33,8 +33,8 @@ vote-reply n me b a l t false = refl
 -- the copy that a replica keeps of a write, by whether it is stored
 kept-copy : (x : Message) (l : Local) (t : Tables) (z : Bool)
     → _≡_ {A = cluster.Copy}
-    (elim z [ true ↦ record { version = versionIn (x .version); table = t .message } | false ↦ record { version = versionIn (l .version); table = t .copy } ])
-    (record { version = versionIn (pickVersion z (x .version) (l .version)); table = copyAfter (replyWith 5 noVersion (chosen z 2 0) l) t })
+    (elim z [ true ↦ copyIn (x .version) (t .message) | false ↦ copyIn (l .version) (t .copy) ])
+    (copyIn (pickVersion z (x .version) (l .version)) (copyAfter (replyWith 5 noVersion (chosen z 2 0) l) t))
 unfolding pickVersion copyAfter chosen
 kept-copy x l t true = refl
 kept-copy x l t false = refl
@@ -63,14 +63,14 @@ module _ (n me b : ℕ) (x : Message) (s : cluster.Server) (l : Local) (t : Tabl
       let st = accepting (x .bucket) (x .election) (x .sender) q (s1 .stored) in
       replying (stepDown (withStored s1 st)) (replyTo me (messageIn x (t .message)) (acknowledging (x .bucket) q st))
 
-  copy-read : b ≡ x .bucket → copyAt (placed n b l t words s .stored) (x .bucket) ≡ record { version = versionIn (l .version); table = t .copy }
+  copy-read : b ≡ x .bucket → copyAt (placed n b l t words s .stored) (x .bucket) ≡ copyIn (l .version) (t .copy)
   copy-read same = rw (← same) (copy-there s b (seen .inside) (frontIn n (l .head)) (cellIn n l (t .copy) (t .work) words))
 
   -- a read that is accepted, with the copy that it reports
   abbrev reporting : cluster.Copy → Reaction
   reporting c =
       let r = stepDown (movedServer n b (readRequestMove x l) t words s) in
-      reaction (r .server) (replyIn me (askedIn x) (cluster.ackRead (c .version) (c .table)) ∷ []) (r .answers)
+      reaction (r .server) (replyIn me (askedIn x) (cluster.ackRead c) ∷ []) (r .answers)
 
   read-accepted : b ≡ x .bucket → acceptedBy reading ≡ reactionIn n me b (askedIn x) (steppedDown (readRequestMove x l)) t words v u s
   unfolding accepting acknowledging workAfter copyAfter sendsIn bodyIn
@@ -79,12 +79,12 @@ module _ (n me b : ℕ) (x : Message) (s : cluster.Server) (l : Local) (t : Tabl
       ∙ stepped-down-means n me b (askedIn x) s t words v u 8 (l .version) 0 (withHead (votingHead (x .election) (x .sender) (l .head)) l) (seen .votes) (calls-kept n b s l t words seen)
 
   write-stored : b ≡ x .bucket
-      → accepting (x .bucket) (x .election) (x .sender) (writing (versionIn (x .version)) (t .message)) (placed n b l t words s .stored)
+      → accepting (x .bucket) (x .election) (x .sender) (writing (copyIn (x .version) (t .message))) (placed n b l t words s .stored)
       ≡ movedServer n b (writeRequestMove x l) t words s .stored
   unfolding keeping workAfter copyAfter
   write-stored same =
       rw (← same)
-      (accepted-is s b (seen .inside) (x .election) (x .sender) (writing (versionIn (x .version)) (t .message)) (frontIn n (l .head)) (cellIn n l (t .copy) (t .work) words)
+      (accepted-is s b (seen .inside) (x .election) (x .sender) (writing (copyIn (x .version) (t .message))) (frontIn n (l .head)) (cellIn n l (t .copy) (t .work) words)
       ∙ ap (λ c. record { number = l .head .number; vote = x .election; leader = x .sender; copies = set (s .stored .copies) b c }) (kept-copy x l t (stores (x .version) l)))
 
   -- a write that is accepted, with what its replica then stores
@@ -94,7 +94,7 @@ module _ (n me b : ℕ) (x : Message) (s : cluster.Server) (l : Local) (t : Tabl
       reaction (r .server) (replyIn me (askedIn x) cluster.ackWrite ∷ []) (r .answers)
 
   write-accepted : b ≡ x .bucket
-      → acceptedBy (writing (versionIn (x .version)) (t .message)) ≡ reactionIn n me b (askedIn x) (steppedDown (writeRequestMove x l)) t words v u s
+      → acceptedBy (writing (copyIn (x .version) (t .message))) ≡ reactionIn n me b (askedIn x) (steppedDown (writeRequestMove x l)) t words v u s
   unfolding acknowledging workAfter sendsIn bodyIn
   write-accepted same =
       ap acknowledgingWith (write-stored same)
@@ -118,6 +118,6 @@ module _ (n me b : ℕ) (x : Message) (s : cluster.Server) (l : Local) (t : Tabl
   read-means same = request-by reading false refl (read-accepted same)
 
   pub write-means : b ≡ x .bucket
-      → onRequest me (messageIn x (t .message)) (writing (versionIn (x .version)) (t .message)) s ≡ reactionIn n me b (askedIn x) (requestMove true x l) t words v u s
+      → onRequest me (messageIn x (t .message)) (writing (copyIn (x .version) (t .message))) s ≡ reactionIn n me b (askedIn x) (requestMove true x l) t words v u s
   unfolding refusing chosen serverAfter answersAfter answersIn sendsIn workAfter copyAfter bodyIn
-  write-means same = request-by (writing (versionIn (x .version)) (t .message)) true refl (write-accepted same)
+  write-means same = request-by (writing (copyIn (x .version) (t .message))) true refl (write-accepted same)

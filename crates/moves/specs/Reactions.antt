@@ -18,7 +18,7 @@ use Rattle.server.specs.declared.Round.{Round}
 use Rattle.server.specs.declared.Answer.{Answer}
 use Rattle.server.specs.declared.Effect.{Effect}
 use Rattle.server.specs.declared.Message.{Message}
-use Rattle.server.specs.Views.{flagIn, roleIn, votesIn, versionIn, roundIn, callIn, answerIn, effectIn}
+use Rattle.server.specs.Views.{flagIn, roleIn, votesIn, copyIn, roundIn, callIn, answerIn, effectIn}
 use Rattle.rounds.specs.Rounds.{pickTable}
 use Rattle.moves.specs.declared.Local.{Local}
 use Rattle.moves.specs.declared.Move.{Move}
@@ -46,7 +46,7 @@ bestIn r t = pickTable (eqb (r .purpose) 1) t []
 abbrev pub cellIn : ℕ → Local → List Entry → List Entry → calls.Words → Cell
 cellIn n l copy work words =
     record {
-      copy = record { version = versionIn (l .version); table = copy };
+      copy = copyIn (l .version) copy;
       round = roundIn n (l .round) (bestIn (l .round) work);
       call = callIn (l .call) words;
     }
@@ -96,7 +96,7 @@ bodyIn kind v t =
             | true ↦ cluster.ackVote
             | false ↦
                 elim (eqb kind 4) [
-                  | true ↦ cluster.replicaWrite (versionIn v) t
+                  | true ↦ cluster.replicaWrite (copyIn v t)
                   | false ↦
                       elim (eqb kind 5) [
                         | true ↦ cluster.ackWrite
@@ -108,7 +108,7 @@ bodyIn kind v t =
                                     | true ↦ cluster.replicaRead
                                     | false ↦
                                         elim (eqb kind 8) [
-                                          | true ↦ cluster.ackRead (versionIn v) t
+                                          | true ↦ cluster.ackRead (copyIn v t)
                                           | false ↦
                                               elim (eqb kind 9) [ true ↦ cluster.nackRead | false ↦ cluster.nackVote ]
                                         ]
@@ -154,7 +154,7 @@ sendsIn n me b a m t =
             | true ↦ broadcast n me 0 (m .local .head .number) 0 cluster.pleaseVote
             | false ↦
                 elim (eqb (m .sends) 4) [
-                  | true ↦ broadcast n me b (m .local .head .number) (m .local .head .last) (cluster.replicaWrite (versionIn (m .written)) (workAfter m t))
+                  | true ↦ broadcast n me b (m .local .head .number) (m .local .head .last) (cluster.replicaWrite (copyIn (m .written) (workAfter m t)))
                   | false ↦
                       elim (eqb (m .sends) 7) [
                         | true ↦ broadcast n me b (m .local .head .number) (m .local .head .last) cluster.replicaRead

@@ -5,8 +5,9 @@ use Prim.Native.Nat.{ℕ}
 use Rattle.model.specs.Lines.{State, initialState}
 use Rattle.model.specs.Print.{tallyText}
 use Rattle.model.specs.Run.{linesOf, outcomes, stateAfter}
-use Rattle.limits.specs.Prints.{outcomeTexts, printed-outcomes, run-prints}
-use Rattle.consistency.specs.Theorem.{one-order-for-every-script}
+use Rattle.limits.specs.Prints.{outcomeTexts}
+use Rattle.limits.proofs.Prints.{printed-outcomes, run-prints}
+use Rattle.consistency.proofs.Theorem.{one-order-for-every-script}
 use Rattle.input.specs.Reading.{start, fedText, completeLines}
 use Rattle.input.proofs.Complete.{printed-so-far, state-so-far}
 use Rattle.feed.proofs.Whole.{calls-from-zeros, script-whole}

@@ -14,7 +14,8 @@ use Rattle.model.specs.Cluster.{Copy, freshCopy, acknowledged, refused, Round, 
 use Rattle.model.specs.Replica.{Request, reading, writing}
 use Rattle.model.specs.Leader.{Reaction, replyTo, onPleaseVote, onAckVote, noReaction, onRequest, onReply, handle}
 use Rattle.model.specs.Lines.{serverAt, stoppedAt, Work, afterStep, lostMessage, deliveredTo, delivery}
-use Rattle.limits.specs.Lists.{All, nil, cons, all-append}
+use Rattle.limits.specs.Lists.{All, nil, cons}
+use Rattle.limits.proofs.Lists.{all-append}
 use Rattle.quiet.specs.Statement.{running, Answered}
 use Rattle.quiet.proofs.Counting.{running-set}
 use Rattle.quiet.proofs.Weights.{weighs, weigh, weigh-append, weighs-some}
@@ -72,10 +73,10 @@ module _ (f : Followed) (c : Cluster) (g : Going f c) (m : Message) (ms : List M
       clash e = let z : _≡_ {A = ℕ} 0 1 = cc in absurd (omega arith)
 
       not-this : (b : Body) → OursBody f m b → Concerns q m b → ⊥
-      not-this (replicaWrite v t) h x = clash (rw x up)
+      not-this (replicaWrite copy) h x = clash (rw x up)
       not-this replicaRead h x = clash (rw x up)
       not-this ackWrite h x = clash (rw (h .0) (f .runs))
-      not-this (ackRead v t) h x = clash (rw (h .0) (f .runs))
+      not-this (ackRead copy) h x = clash (rw (h .0) (f .runs))
       not-this pleaseVote h x = h
       not-this ackVote h x = h
       not-this nackVote h x = h
@@ -212,17 +213,17 @@ module _ (f : Followed) (c : Cluster) (g : Going f c) (m : Message) (ms : List M
             | pleaseVote ↦ onPleaseVote (m .receiver) m (serverAt c (m .receiver))
             | ackVote ↦ onAckVote (f .servers) (m .sender) (m .election) (serverAt c (m .receiver))
             | nackVote ↦ noReaction (serverAt c (m .receiver))
-            | replicaWrite v t ↦ onRequest (m .receiver) m (writing v t) (serverAt c (m .receiver))
+            | replicaWrite copy ↦ onRequest (m .receiver) m (writing copy) (serverAt c (m .receiver))
             | ackWrite ↦ onReply (f .servers) (m .receiver) m acknowledged freshCopy (serverAt c (m .receiver))
             | nackWrite ↦ onReply (f .servers) (m .receiver) m refused freshCopy (serverAt c (m .receiver))
             | replicaRead ↦ onRequest (m .receiver) m reading (serverAt c (m .receiver))
-            | ackRead v t ↦ onReply (f .servers) (m .receiver) m acknowledged (record { version = v; table = t }) (serverAt c (m .receiver))
+            | ackRead copy ↦ onReply (f .servers) (m .receiver) m acknowledged copy (serverAt c (m .receiver))
             | nackRead ↦ onReply (f .servers) (m .receiver) m refused freshCopy (serverAt c (m .receiver))
           ]))
-      handed (replicaWrite v t) b k up = asked-onward (writing v t) (k .0) (k .1) (k .2) up (unfold weighs in rw b refl) (rw b (λ q y. y))
+      handed (replicaWrite copy) b k up = asked-onward (writing copy) (k .0) (k .1) (k .2) up (unfold weighs in rw b refl) (rw b (λ q y. y))
       handed replicaRead b k up = asked-onward reading (k .0) (k .1) (k .2) up (unfold weighs in rw b refl) (rw b (λ q y. y))
       handed ackWrite b k up = told-onward freshCopy (k .0) (k .1) (unfold weighs in rw b refl) (rw b (λ q y. y))
-      handed (ackRead v t) b k up = told-onward (record { version = v; table = t }) (k .0) (k .1) (unfold weighs in rw b refl) (rw b (λ q y. y))
+      handed (ackRead copy) b k up = told-onward copy (k .0) (k .1) (unfold weighs in rw b refl) (rw b (λ q y. y))
       handed pleaseVote b k up = absurd k
       handed ackVote b k up = absurd k
       handed nackVote b k up = absurd k

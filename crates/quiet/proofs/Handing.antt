@@ -212,7 +212,7 @@ acknowledging-acks : (b : ℕ) (r : Request) (st : Stored) (m : Message) →
     × ((f : Followed) → m .sender ≡ f .leader → m .receiver < f .servers → OursBody f (replyTo (m .receiver) m body) body)
 unfolding acknowledging weighs
 acknowledging-acks b reading st m = (λ q e. e, refl, λ f e h. (e, h))
-acknowledging-acks b (writing v t) st m = (λ q e. e, refl, λ f e h. (e, h))
+acknowledging-acks b (writing copy) st m = (λ q e. e, refl, λ f e h. (e, h))
 
 -- where its vote is no higher than the number of the request
 pub request-replies : (m : Message) (request : Request) (s : Server) → s .stored .vote ≤ m .election → Replies m s (onRequest (m .receiver) m request s)

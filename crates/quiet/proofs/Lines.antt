@@ -15,9 +15,10 @@ use Rattle.model.specs.Leader.{closes, acknowledgements}
 use Rattle.model.specs.Lines.{Line, deliver, State, printed, messageAt, stoppedAt, dropAt, firstOf, conditions, conditionsUpTo, limitReached, noMessage, work, tallied, LineResult, acceptLine, inClusterUpTo, performUpTo}
 use Rattle.model.specs.Parse.{parse}
 use Rattle.model.specs.Run.{step, stepUpTo}
-use Rattle.limits.specs.Lists.{All, all-head, all-tail, all-append, all-take, all-drop, all-at}
-use Rattle.limits.specs.Refusals.{ComesOut, refused-by, founded, took, comes-out}
-use Rattle.limits.specs.Tally.{none-applies, message-there}
+use Rattle.limits.specs.Lists.{All}
+use Rattle.limits.proofs.Lists.{all-head, all-tail, all-append, all-take, all-drop, all-at}
+use Rattle.limits.proofs.Refusals.{ComesOut, refused-by, founded, took, comes-out}
+use Rattle.limits.proofs.Counting.{none-applies, message-there}
 use Rattle.quiet.specs.Statement.{deliveries, Answered}
 use Rattle.quiet.proofs.Counting.{running-acknowledged}
 use Rattle.quiet.proofs.Weights.{weighs, weigh, length-weigh, weigh-dropAt}

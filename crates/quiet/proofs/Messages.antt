@@ -12,7 +12,7 @@ use Rattle.model.specs.Leader.{broadcast}
 use Rattle.model.specs.Lines.{dropAt}
 use Rattle.model.proofs.Broadcasts.{each-other-in}
 use Rattle.limits.specs.Lists.{All}
-use Rattle.limits.specs.Rules.{all-broadcast}
+use Rattle.limits.proofs.Rules.{all-broadcast}
 use Rattle.quiet.proofs.Weights.{dropAt-later}
 
 -- the call: how many servers there are, the number under which the leader leads, the leader, the bucket and the call's own
@@ -33,11 +33,11 @@ abbrev pub OursBody : Followed → Message → Body → Type 0
 OursBody f m pleaseVote = ⊥
 OursBody f m ackVote = ⊥
 OursBody f m nackVote = ⊥
-OursBody f m (replicaWrite v t) = (m .sender ≡ f .leader) × (m .receiver < f .servers) × (m .receiver ≢ f .leader)
+OursBody f m (replicaWrite copy) = (m .sender ≡ f .leader) × (m .receiver < f .servers) × (m .receiver ≢ f .leader)
 OursBody f m ackWrite = (m .receiver ≡ f .leader) × (m .sender < f .servers)
 OursBody f m nackWrite = ⊥
 OursBody f m replicaRead = (m .sender ≡ f .leader) × (m .receiver < f .servers) × (m .receiver ≢ f .leader)
-OursBody f m (ackRead v t) = (m .receiver ≡ f .leader) × (m .sender < f .servers)
+OursBody f m (ackRead copy) = (m .receiver ≡ f .leader) × (m .sender < f .servers)
 OursBody f m nackRead = ⊥
 
 pub record Ours (f : Followed) (m : Message) : Type 0 where
@@ -50,11 +50,11 @@ abbrev pub Concerns : ℕ → Message → Body → Type 0
 Concerns q m pleaseVote = ⊥
 Concerns q m ackVote = ⊥
 Concerns q m nackVote = ⊥
-Concerns q m (replicaWrite v t) = m .receiver ≡ q
+Concerns q m (replicaWrite copy) = m .receiver ≡ q
 Concerns q m ackWrite = m .sender ≡ q
 Concerns q m nackWrite = ⊥
 Concerns q m replicaRead = m .receiver ≡ q
-Concerns q m (ackRead v t) = m .sender ≡ q
+Concerns q m (ackRead copy) = m .sender ≡ q
 Concerns q m nackRead = ⊥
 
 -- such a message of round k is in flight
@@ -93,7 +93,7 @@ module _ (f : Followed) (r : Request) (v k : ℕ) where
     where
       go : (y : Request) → Concerns q (to x) (requestBody y)
       go reading = sym e
-      go (writing w t) = sym e
+      go (writing copy) = sym e
 
   all-asked : (q : ℕ) {l : List ℕ} → List·Memᴰ q l → Awaited q k (map to l)
   all-asked q (List·Memᴰ·head {x = x} e) = here refl (to-concerns q x e)
@@ -110,7 +110,7 @@ module _ (f : Followed) (r : Request) (v k : ℕ) where
     where
       go : (y : Request) → OursBody f (to q) (requestBody y)
       go reading = (refl, h, λ i. d (sym i))
-      go (writing w t) = (refl, h, λ i. d (sym i))
+      go (writing copy) = (refl, h, λ i. d (sym i))
 
   pub broadcast-ours : v ≡ f .election → All (Ours f) (broadcast (f .servers) (f .leader) (f .bucket) v k (requestBody r))
   broadcast-ours e = all-broadcast (f .servers) (f .leader) (f .bucket) v k (requestBody r) (to-ours e)

@@ -15,13 +15,14 @@ use Rattle.table.specs.Form.{sameValue}
 use Rattle.model.specs.Measures.{maxEntries}
 use Rattle.model.specs.Calls.{Words, get, setif, del, keys, Result, value, listed, done, mismatch, full, notdone, unknown, Effect, answers, writes, setting, effect}
 use Rattle.model.specs.Calls
-use Rattle.model.specs.Cluster.{version, copyAt, Purpose, recoveryRead, recoveryWrite, check, ownWrite, silent, acknowledged, refused, Round, Call, Server, Message, roundAt, callAt}
+use Rattle.model.specs.Cluster.{version, copyOf, copyAt, Purpose, recoveryRead, recoveryWrite, check, ownWrite, silent, acknowledged, refused, Round, Call, Server, Message, roundAt, callAt}
 use Rattle.model.specs.Replica.{Request, reading, writing, requestBody}
 use Rattle.model.specs.Leader.{Reaction, reaction, after, broadcast, refusals, closes, oneMore, isOwn, newRound, opening, openRound, answerOf, finish, nextVersion, applying, afterRead, checking, recovering, recovered, startRead, startCall, beginCall, closed}
 use Rattle.model.proofs.FirstRound.{first-round}
 use Rattle.model.proofs.Replicas.{accepting-keeps}
-use Rattle.limits.specs.Lists.{All, nil, all-append}
-use Rattle.limits.specs.Rules.{left}
+use Rattle.limits.specs.Lists.{All, nil}
+use Rattle.limits.proofs.Lists.{all-append}
+use Rattle.limits.proofs.Rules.{left}
 use Rattle.quiet.specs.Statement.{Answered}
 use Rattle.quiet.proofs.Counting.{refusals-set, refusals-silent}
 use Rattle.quiet.proofs.Weights.{weigh, weigh-append, weigh-broadcast}
@@ -266,7 +267,7 @@ module _ (f : Followed) where
   applying-goes : (e : Effect) → ProperEffect e → {s : Server} → Amid f s → Goes f 1 (applying n p i e s)
   unfolding applying isProper
   applying-goes (answers r) good a = finish-goes 1 r good a
-  applying-goes (writes t) good {s} a = open-goes ownWrite (writing (nextVersion i s) t) (finish i done) (λ u o. finish-goes 0 done refl o) a
+  applying-goes (writes t) good {s} a = open-goes ownWrite (writing (copyOf (nextVersion i s) t)) (finish i done) (λ u o. finish-goes 0 done refl o) a
 
   after-read-goes : {s : Server} → Amid f s → Goes f 1 (afterRead n p i s)
   unfolding afterRead
@@ -278,7 +279,7 @@ module _ (f : Followed) where
 
   recovering-goes : (t : List Entry) {s : Server} → Amid f s → Goes f 3 (recovering n p i t s)
   unfolding recovering
-  recovering-goes t {s} a = open-goes recoveryWrite (writing (version (s .stored .number) 1) t) (checking n p i) (λ u o. checking-goes o) a
+  recovering-goes t {s} a = open-goes recoveryWrite (writing (copyOf (version (s .stored .number) 1) t)) (checking n p i) (λ u o. checking-goes o) a
 
   -- fewer rounds than may be made
   goes-within : {k m : ℕ} {r : Reaction} → owed f k ≤ owed f m → Goes f k r → Goes f m r

@@ -17,9 +17,11 @@ use Rattle.model.specs.Text.{bytes}
 use Rattle.model.specs.Parse.{parse}
 use Rattle.model.specs.Run.{step, stateAfterUpTo, stateAfter, outcomesUpTo, outcomes}
 use Rattle.model.specs.Compute.{computing}
-use Rattle.limits.specs.Lists.{All, nil, cons, all-append, all-at}
-use Rattle.limits.specs.Tally.{none-applies}
-use Rattle.limits.specs.Always.{either-false, server-there, bucket-less, Stands, Measured, within-always}
+use Rattle.limits.specs.Lists.{All, nil, cons}
+use Rattle.limits.proofs.Lists.{all-append, all-at}
+use Rattle.limits.proofs.Counting.{none-applies}
+use Rattle.limits.specs.Stands.{Stands, Measured}
+use Rattle.limits.proofs.Always.{either-false, server-there, bucket-less, within-always}
 use Rattle.quiet.specs.Statement.{serversOf, deliveries, Needed, Drains, drained, oldest, Answered, Ends, Shaped, QuietCall, QuietCallOfAScript, Delivered, nothing, any, Underway, InAnyOrder, InAnyOrderOfAScript}
 use Rattle.quiet.proofs.Counting.{running-set}
 use Rattle.quiet.proofs.Weights.{weigh, weigh-append}

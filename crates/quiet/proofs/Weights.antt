@@ -14,11 +14,11 @@ unfoldable pub weighs : Body → ℕ
 weighs pleaseVote = 2
 weighs ackVote = 1
 weighs nackVote = 1
-weighs (replicaWrite v t) = 2
+weighs (replicaWrite copy) = 2
 weighs ackWrite = 1
 weighs nackWrite = 1
 weighs replicaRead = 2
-weighs (ackRead v t) = 1
+weighs (ackRead copy) = 1
 weighs nackRead = 1
 
 unfoldable pub weigh : List Message → ℕ
@@ -35,11 +35,11 @@ unfolding weighs
 one-or-two pleaseVote = (omega arith, omega arith)
 one-or-two ackVote = (omega arith, omega arith)
 one-or-two nackVote = (omega arith, omega arith)
-one-or-two (replicaWrite v t) = (omega arith, omega arith)
+one-or-two (replicaWrite copy) = (omega arith, omega arith)
 one-or-two ackWrite = (omega arith, omega arith)
 one-or-two nackWrite = (omega arith, omega arith)
 one-or-two replicaRead = (omega arith, omega arith)
-one-or-two (ackRead v t) = (omega arith, omega arith)
+one-or-two (ackRead copy) = (omega arith, omega arith)
 one-or-two nackRead = (omega arith, omega arith)
 
 pub weighs-some : (b : Body) → 1 ≤ weighs b

@@ -92,7 +92,7 @@ pub data Drains : ℕ → State → List Answer → State → Type 0 where
       Drains (suc k) s (out ++ more) t
 
 -- call i has a result other than `notdone` and `unknown` among the answers. It has no other: in a script each call is answered at
--- most once (`answered-once` in crates/consistency/specs/Named.antt)
+-- most once (`answered-once` in crates/consistency/proofs/Named.antt)
 pub record Answered (i : ℕ) (out : List Answer) : Type 0 where
   pub answer : Answer
   pub among : List·Memᴰ answer out

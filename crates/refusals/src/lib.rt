@@ -2,8 +2,8 @@
 // server's head, 12 with the kind of message that is sent.
 use crate::codes::BAD_CUT_OR_START;
 use crate::codes::LINES_SPENT;
-use crate::codes::NONE;
 use crate::codes::NO_SUCH_MESSAGE;
+use crate::codes::NONE;
 use crate::codes::SERVER_STOPPED;
 use memory::Counts;
 use server::Head;

@@ -19,10 +19,10 @@ use Rattle.model.specs.Stores as model
 use Rattle.model.specs.Stores.{Store, voteStore, copyStore, putStore, putStores, voteStores, copyStores, acceptStores, requestStores, pleaseVoteStores, storesOf}
 use Rattle.model.specs.Leader.{reaction, noReaction}
 use Rattle.model.specs.Lines.{cutServer}
-use Rattle.cells.specs.Laws.{copy-there}
+use Rattle.cells.proofs.Laws.{copy-there}
 use Rattle.server.specs.declared.Message.{Message}
 use Rattle.server.specs.declared.Version.{Version}
-use Rattle.server.specs.Views.{versionIn, flagIn, chosen, isBroadcast}
+use Rattle.server.specs.Views.{versionIn, copyIn, flagIn, chosen, isBroadcast}
 use Rattle.server.specs.Heads.{votingHead}
 use Rattle.rounds.specs.Rounds.{pickVersion, noVersion}
 use Rattle.moves.specs.declared.Local.{Local}
@@ -59,7 +59,7 @@ bodyBy w u a c d e f g h i =
             | true ↦ cluster.ackVote
             | false ↦
                 elim d [
-                  | true ↦ cluster.replicaWrite (versionIn w) u
+                  | true ↦ cluster.replicaWrite (copyIn w u)
                   | false ↦
                       elim e [
                         | true ↦ cluster.ackWrite
@@ -70,7 +70,7 @@ bodyBy w u a c d e f g h i =
                                   elim g [
                                     | true ↦ cluster.replicaRead
                                     | false ↦
-                                        elim h [ true ↦ cluster.ackRead (versionIn w) u | false ↦ elim i [ true ↦ cluster.nackRead | false ↦ cluster.nackVote ] ]
+                                        elim h [ true ↦ cluster.ackRead (copyIn w u) | false ↦ elim i [ true ↦ cluster.nackRead | false ↦ cluster.nackVote ] ]
                                   ]
                             ]
                       ]
@@ -103,7 +103,7 @@ module _ (n b : ℕ) (x : Message) (s : cluster.Server) (l : Local) (t : Tables)
   theVote = voteStore (x .election) (x .sender)
 
   abbrev theCopy : Store
-  theCopy = copyStore (x .bucket) (versionIn (x .version)) (t .message)
+  theCopy = copyStore (x .bucket) (copyIn (x .version) (t .message))
 
   abbrev there : cluster.Stored
   there = placed n b l t words s .stored
@@ -148,7 +148,7 @@ module _ (n b : ℕ) (x : Message) (s : cluster.Server) (l : Local) (t : Tables)
   write-made false true true q = refl
   write-made false true false q = refl
 
-  copy-read : copyAt there (x .bucket) ≡ record { version = versionIn (l .version); table = t .copy }
+  copy-read : copyAt there (x .bucket) ≡ copyIn (l .version) (t .copy)
   copy-read = rw (← on) (copy-there s b (seen .inside) (frontIn n (l .head)) (cellIn n l (t .copy) (t .work) words))
 
   -- by the body, and by the number of its kind
@@ -158,11 +158,11 @@ module _ (n b : ℕ) (x : Message) (s : cluster.Server) (l : Local) (t : Tables)
         | cluster.pleaseVote ↦ pleaseVoteStores (x .election) (x .sender) there
         | cluster.ackVote ↦ []
         | cluster.nackVote ↦ []
-        | cluster.replicaWrite w u ↦ requestStores (messageIn x (t .message)) (replica.writing w u) there
+        | cluster.replicaWrite c ↦ requestStores (messageIn x (t .message)) (replica.writing c) there
         | cluster.ackWrite ↦ []
         | cluster.nackWrite ↦ []
         | cluster.replicaRead ↦ requestStores (messageIn x (t .message)) replica.reading there
-        | cluster.ackRead w u ↦ []
+        | cluster.ackRead c ↦ []
         | cluster.nackRead ↦ []
       ]
 
@@ -234,14 +234,14 @@ module _ (n b : ℕ) (x : Message) (s : cluster.Server) (l : Local) (t : Tables)
         leader = elim vote [ true ↦ x .sender | false ↦ l .head .leader ];
         copies =
             set (s .stored .copies) b
-            (elim bucket as (λ _. cluster.Copy) [ true ↦ record { version = versionIn (x .version); table = t .message } | false ↦ record { version = versionIn (l .version); table = t .copy } ]);
+            (elim bucket as (λ _. cluster.Copy) [ true ↦ copyIn (x .version) (t .message) | false ↦ copyIn (l .version) (t .copy) ]);
       }
 
   copied-there : (vote : Bool) → putStore theCopy (cutStored vote false) ≡ cutStored vote true
   unfolding putStore
   copied-there vote =
-      let old : cluster.Copy = record { version = versionIn (l .version); table = t .copy } in
-      let new : cluster.Copy = record { version = versionIn (x .version); table = t .message } in
+      let old : cluster.Copy = copyIn (l .version) (t .copy) in
+      let new : cluster.Copy = copyIn (x .version) (t .message) in
       let copies : set (set (s .stored .copies) b old) (x .bucket) new ≡ set (s .stored .copies) b new =
       ap (λ j. set (set (s .stored .copies) b old) j new) (sym on) ∙ set-set (s .stored .copies) b old new in
       ap (λ z. record { number = l .head .number; vote = elim vote [ true ↦ x .election | false ↦ l .head .vote ]; leader = elim vote [ true ↦ x .sender | false ↦ l .head .leader ]; copies = z }) copies

@@ -12,11 +12,11 @@ unfolding handlingIn handlingOf cluster.kindNumber among
 handling-means cluster.pleaseVote = refl
 handling-means cluster.ackVote = refl
 handling-means cluster.nackVote = refl
-handling-means (cluster.replicaWrite v t) = refl
+handling-means (cluster.replicaWrite c) = refl
 handling-means cluster.ackWrite = refl
 handling-means cluster.nackWrite = refl
 handling-means cluster.replicaRead = refl
-handling-means (cluster.ackRead v t) = refl
+handling-means (cluster.ackRead c) = refl
 handling-means cluster.nackRead = refl
 
 pub among-votes : (k : ℕ) → 1 ≤ k → k ≤ 3 → among 3 k ≡ true

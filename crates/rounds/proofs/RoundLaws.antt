@@ -18,7 +18,7 @@ use Rattle.server.specs.declared.Version.{Version}
 use Rattle.server.specs.declared.Head.{Head}
 use Rattle.server.specs.declared.Round.{Round}
 use Rattle.server.specs.declared.Counted.{Counted}
-use Rattle.server.specs.Views.{Beside, storedIn, serverIn, besideIn, flagIn, roleIn, votesIn, marksIn, purposeIn, markIn, versionIn, among, openIn, roundIn}
+use Rattle.server.specs.Views.{Beside, storedIn, serverIn, besideIn, flagIn, roleIn, votesIn, marksIn, purposeIn, markIn, versionIn, copyIn, among, openIn, roundIn}
 use Rattle.rounds.specs.Rounds.{isSilent, pickVersion, reported, newRoundOf, openedHead, improves, countedWith, countedOf, pickTable, matching}
 use Rattle.server.proofs.Counting.{set-viewed, replicate-viewed}
 
@@ -48,9 +48,9 @@ fresh-below v =
 
 -- ---- a broadcast
 
-reported-copy : (purpose : ℕ) (v : Version) (c : cluster.Copy) (b : Bool) → eqb purpose 1 ≡ b → versionIn v ≡ c .version → record { version = versionIn (reported purpose v); table = reportTo (purposeIn purpose) c .table } ≡ reportTo (purposeIn purpose) c
+reported-copy : (purpose : ℕ) (v : Version) (c : cluster.Copy) (b : Bool) → eqb purpose 1 ≡ b → versionIn v ≡ c .version → copyIn (reported purpose v) (reportTo (purposeIn purpose) c .table) ≡ reportTo (purposeIn purpose) c
 unfolding reported pickVersion
-reported-copy purpose v c true e h = rw (recovery-reports purpose c e, e) (ap (λ w. record { version = w; table = c .table }) h)
+reported-copy purpose v c true e h = rw (recovery-reports purpose c e, e) (ap (λ w. cluster.copyOf w (c .table)) h)
 reported-copy purpose v c false e h = rw (others-do-not purpose c e, e)
 
 abbrev openWith : ℕ → Head → ℕ → List cluster.Mark → cluster.Copy → cluster.Round
@@ -75,7 +75,7 @@ stored-head false st cs = refl
 accepting-head : (b e p : ℕ) (request : Request) (st : cluster.Stored) → withCopies (voting e p st) (accepting b e p request st .copies) ≡ accepting b e p request st
 unfolding accepting storing
 accepting-head b e p reading st = refl
-accepting-head b e p (writing v t) st = stored-head (above v (copyAt st b .version)) (voting e p st) (set (st .copies) b (record { version = v; table = t }))
+accepting-head b e p (writing c) st = stored-head (above (c .version) (copyAt st b .version)) (voting e p st) (set (st .copies) b c)
 
 pub opened-means : (n me b purpose : ℕ) (request : Request) (x : Beside) (h : Head) → h .last + 1 < 2 ^ 32 → serverIn n (besideIn (opening n me b (purposeIn purpose) request (serverIn n x h))) (openedHead me h) ≡ opening n me b (purposeIn purpose) request (serverIn n x h)
 unfolding opening
@@ -96,21 +96,18 @@ others-never purpose report old e = rw (improves, e)
 
 -- the copy that is kept, with its table
 abbrev kept : Bool → Version → List Entry → Version → List Entry → cluster.Copy
-kept z report u old t = record { version = versionIn (pickVersion z report old); table = pickTable z u t }
+kept z report u old t = copyIn (pickVersion z report old) (pickTable z u t)
 
-abbrev copyOf : Version → List Entry → cluster.Copy
-copyOf v t = record { version = versionIn v; table = t }
-
-best-counted : (purpose : ℕ) (report old : Version) (t u : List Entry) (b : Bool) → eqb purpose 1 ≡ b → kept (improves purpose report old) report u old t ≡ better (copyOf old t) (reportTo (purposeIn purpose) (copyOf report u))
+best-counted : (purpose : ℕ) (report old : Version) (t u : List Entry) (b : Bool) → eqb purpose 1 ≡ b → kept (improves purpose report old) report u old t ≡ better (copyIn old t) (reportTo (purposeIn purpose) (copyIn report u))
 unfolding pickVersion pickTable better
 best-counted purpose report old t u true e =
     ap (λ z. kept z report u old t) (recovery-improves purpose report old e)
-    ∙ (elim (above (versionIn report) (versionIn old)) as (λ z. kept z report u old t ≡ elim z [ true ↦ copyOf report u | false ↦ copyOf old t ]) [ true ↦ refl | false ↦ refl ]
-    ∙ sym (ap (better (copyOf old t)) (recovery-reports purpose (copyOf report u) e)))
+    ∙ (elim (above (versionIn report) (versionIn old)) as (λ z. kept z report u old t ≡ elim z [ true ↦ copyIn report u | false ↦ copyIn old t ]) [ true ↦ refl | false ↦ refl ]
+    ∙ sym (ap (better (copyIn old t)) (recovery-reports purpose (copyIn report u) e)))
 best-counted purpose report old t u false e =
     ap (λ z. kept z report u old t) (others-never purpose report old e)
-    ∙ (sym (ap (λ z. elim z as (λ y. cluster.Copy) [ true ↦ freshCopy | false ↦ copyOf old t ]) (fresh-below (versionIn old)))
-    ∙ sym (ap (better (copyOf old t)) (others-do-not purpose (copyOf report u) e)))
+    ∙ (sym (ap (λ z. elim z as (λ y. cluster.Copy) [ true ↦ freshCopy | false ↦ copyIn old t ]) (fresh-below (versionIn old)))
+    ∙ sym (ap (better (copyIn old t)) (others-do-not purpose (copyIn report u) e)))
 
 -- the mark of q, where a server past the first n counts as one that refused
 mark-viewed : (n q : ℕ) (r : Round) → getD (marksIn n r) q cluster.refused ≡ markIn (getD (take n (r .marks)) q 2)
@@ -134,7 +131,7 @@ countedBy z n q mark report r u t =
     let k = elim z as (λ y. Counted) [ true ↦ countedWith r (set (r .marks) q mark) (pickVersion better report (r .best)) better | false ↦ record { round = r; better = false } ] in
     openIn n (k .round) (pickTable (k .better) u t)
 
-counted-by : (k : cluster.Mark) (n q mark : ℕ) (report : Version) (r : Round) (t u : List Entry) → countedBy (isSilent k) n q mark report r u t ≡ countedAt k n q (markIn mark) (copyOf report u) (openIn n r t)
+counted-by : (k : cluster.Mark) (n q mark : ℕ) (report : Version) (r : Round) (t u : List Entry) → countedBy (isSilent k) n q mark report r u t ≡ countedAt k n q (markIn mark) (copyIn report u) (openIn n r t)
 unfolding isSilent pickTable
 counted-by cluster.silent n q mark report r t u =
     ap₂ (λ marks best. record { number = r .number; election = r .election; purpose = purposeIn (r .purpose); marks = marks; best = best })
@@ -142,11 +139,11 @@ counted-by cluster.silent n q mark report r t u =
 counted-by cluster.acknowledged n q mark report r t u = refl
 counted-by cluster.refused n q mark report r t u = refl
 
-pub counted-means : (n q mark : ℕ) (report : Version) (r : Round) (t u : List Entry) → openIn n (countedOf n q mark report r .round) (pickTable (countedOf n q mark report r .better) u t) ≡ counted q (markIn mark) (copyOf report u) (openIn n r t)
+pub counted-means : (n q mark : ℕ) (report : Version) (r : Round) (t u : List Entry) → openIn n (countedOf n q mark report r .round) (pickTable (countedOf n q mark report r .better) u t) ≡ counted q (markIn mark) (copyIn report u) (openIn n r t)
 unfolding countedOf counted markedBy
 counted-means n q mark report r t u =
     counted-by (markIn (getD (take n (r .marks)) q 2)) n q mark report r t u
-    ∙ ap (λ k. countedAt k n q (markIn mark) (copyOf report u) (openIn n r t)) (sym (mark-viewed n q r))
+    ∙ ap (λ k. countedAt k n q (markIn mark) (copyIn report u) (openIn n r t)) (sym (mark-viewed n q r))
 
 -- ---- which replies count
 

@@ -40,9 +40,9 @@ unfoldable pub handlingOf : cluster.Body → Handling
 handlingOf cluster.pleaseVote = Vote 1
 handlingOf cluster.ackVote = Vote 2
 handlingOf cluster.nackVote = Vote 3
-handlingOf (cluster.replicaWrite v t) = Request true
+handlingOf (cluster.replicaWrite c) = Request true
 handlingOf cluster.ackWrite = Reply 1 false
 handlingOf cluster.nackWrite = Reply 2 false
 handlingOf cluster.replicaRead = Request false
-handlingOf (cluster.ackRead v t) = Reply 1 true
+handlingOf (cluster.ackRead c) = Reply 1 true
 handlingOf cluster.nackRead = Reply 2 false

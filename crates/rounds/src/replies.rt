@@ -16,7 +16,7 @@ ghost use mathlib.Core.List.{List, []};
 ghost use Prim.Native.Nat.{ℕ};
 ghost use Rattle.entries.specs.Entries.{Entry};
 ghost use Rattle.model.specs.Leader.{acknowledgements, refusals, closes, fails, counted};
-ghost use Rattle.server.specs.Views.{marksIn, markIn, versionIn, openIn, roundIn, among};
+ghost use Rattle.server.specs.Views.{marksIn, markIn, copyIn, openIn, roundIn, among};
 ghost use Rattle.rounds.specs.Rounds.{isSilent, improves, pickVersion, countedOf, pickTable, matching};
 
 pub fn acknowledgements(n: u32, r: Round) -> u32
@@ -79,7 +79,7 @@ pub fn pick_version(b: bool, v: Version, w: Version) -> Version
 // The round with the reply of q counted: a mark is set once, and what q reported counts only with its mark.
 pub fn counted(n: u32, q: u32, mark: u32, report: Version, r: Round) -> Counted
     ensures is { λ k. ⌜ k ≡ countedOf n q mark report r ⌝ }
-    ensures means { λ k. ⌜ ((t u : List Entry) → openIn n (k .round) (pickTable (k .better) u t) ≡ counted q (markIn mark) (record { version = versionIn report; table = u }) (openIn n r t)) ⌝ }
+    ensures means { λ k. ⌜ ((t u : List Entry) → openIn n (k .round) (pickTable (k .better) u t) ≡ counted q (markIn mark) (copyIn report u) (openIn n r t)) ⌝ }
 {
     let marks = r.marks;
     let old = r.best;

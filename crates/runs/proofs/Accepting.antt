@@ -10,7 +10,7 @@ use Rattle.model.specs.Measures.{maxEntries, maxValueBytes}
 use Rattle.model.specs.Cluster as cluster
 use Rattle.model.specs.Leader.{Reaction}
 use Rattle.model.specs.Lines as lines
-use Rattle.limits.specs.Always.{Stands}
+use Rattle.limits.specs.Stands.{Stands}
 use Rattle.server.specs.declared.Effect.{Effect}
 use Rattle.memory.specs.declared.Counts.{Counts}
 use Rattle.memory.specs.Layout.{countsAt}

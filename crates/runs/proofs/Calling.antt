@@ -16,7 +16,7 @@ use Rattle.model.specs.Leader.{beginCall}
 use Rattle.model.specs.Lines as lines
 use Rattle.model.proofs.FirstRound.{written-effect}
 use Rattle.limits.specs.Measures.{Fits, WordsSized}
-use Rattle.limits.specs.Tables.{EffectWithin, effect-within}
+use Rattle.limits.proofs.Tables.{EffectWithin, effect-within}
 use Rattle.server.specs.declared.Call.{Call}
 use Rattle.server.specs.declared.Words.{Words}
 use Rattle.server.specs.declared.Effect.{Effect}

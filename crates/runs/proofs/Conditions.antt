@@ -10,7 +10,7 @@ use lib.Dec.{leb}
 use borrow.Author.Tests.{leb-false, ne-eqb}
 use Rattle.model.specs.Measures.{maxAccepted}
 use Rattle.model.specs.Lines as lines
-use Rattle.limits.specs.Always.{either-false}
+use Rattle.limits.proofs.Always.{either-false}
 use Rattle.server.specs.declared.Head.{Head}
 use Rattle.server.specs.declared.Effect.{Effect}
 use Rattle.server.specs.Views.{flagIn, chosen}

@@ -13,7 +13,7 @@ use Rattle.table.proofs.Fitting.{within-parts}
 use Rattle.model.specs.Measures.{maxServers, maxBuckets}
 use Rattle.model.specs.Cluster as cluster
 use Rattle.model.specs.Lines as lines
-use Rattle.limits.specs.Lists.{map-replicate}
+use Rattle.limits.proofs.Lists.{map-replicate}
 use Rattle.cells.specs.Cells.{Front, Cell}
 use Rattle.server.specs.declared.Effect.{Effect}
 use Rattle.server.specs.Views.{flagIn, roleIn, among, roundIn, callIn}

@@ -14,12 +14,12 @@ use Rattle.model.specs.Cluster as cluster
 use Rattle.model.specs.Leader.{Reaction, handle, onReply}
 use Rattle.model.specs.Lines as lines
 use Rattle.model.specs.Measures.{maxElection}
-use Rattle.limits.specs.Lists.{all-at}
+use Rattle.limits.proofs.Lists.{all-at}
 use Rattle.limits.specs.Measures.{limitsAfter, Fits, MessageWithin}
-use Rattle.limits.specs.Tables.{EffectWithin, effect-within}
+use Rattle.limits.proofs.Tables.{EffectWithin, effect-within}
 use Rattle.server.specs.declared.Message.{Message}
 use Rattle.server.specs.declared.Effect.{Effect}
-use Rattle.server.specs.Views.{flagIn, among, versionIn, markIn, effectIn, chosen}
+use Rattle.server.specs.Views.{flagIn, among, copyIn, markIn, effectIn, chosen}
 use Rattle.rounds.specs.Rounds.{noVersion, pickVersion, pickTable, matching}
 use Rattle.rounds.proofs.RoundLaws.{matching-shut, unmatched}
 use Rattle.memory.specs.declared.Counts.{Counts}
@@ -139,7 +139,7 @@ module _ {m : Memory} {l : List ℕ} {t : lines.Tally} (ready : Ready m l t) (i 
       abbrev Replied : ℕ → Bool → Type 0
       Replied mark reports =
           let report = pickVersion reports (asked .version) noVersion in
-          onReply n s message (markIn mark) (record { version = versionIn report; table = pickTable reports (tableAt (m .loads) i) [] }) server
+          onReply n s message (markIn mark) (copyIn report (pickTable reports (tableAt (m .loads) i) [])) server
           ≡ reactionIn n s b (askedIn asked) (replyMove n s (f .result) mark report asked here-local) tables (callWordsAt m k) (valueBytes (f .value)) (tableIn (f .table)) server
 
       -- with no round open it changes nothing

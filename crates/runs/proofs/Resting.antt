@@ -10,7 +10,7 @@ use Rattle.entries.specs.Entries.{Entry}
 use Rattle.model.specs.Calls as calls
 use Rattle.model.specs.Cluster as cluster
 use Rattle.model.specs.Lines as lines
-use Rattle.limits.specs.Lists.{all-at}
+use Rattle.limits.proofs.Lists.{all-at}
 use Rattle.model.specs.Measures.{maxElection}
 use Rattle.limits.specs.Measures.{Limits, limitsAfter, Fits, CopyWithin, WordsSized, SlotWithin, idle, busy, ServerWithin, ClusterWithin}
 use Rattle.server.specs.declared.Round.{Round}

@@ -16,7 +16,7 @@ use Rattle.entries.specs.Decoded.{keyBytes, valueBytes, itemIn, absentItem}
 use Rattle.model.specs.Calls as calls
 use Rattle.model.specs.Cluster as cluster
 use Rattle.model.specs.Lines as lines
-use Rattle.limits.specs.Always.{bucket-less}
+use Rattle.limits.proofs.Always.{bucket-less}
 use Rattle.limits.specs.Measures.{KeySized, ValueSized, WordsSized}
 use Rattle.server.specs.declared.Words.{Words}
 use Rattle.server.specs.Views.{among, wordsBy, wordsIn}

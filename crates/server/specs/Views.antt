@@ -60,6 +60,9 @@ chosen b x y = elim b [ true ↦ x | false ↦ y ]
 abbrev pub versionIn : Version → cluster.Version
 versionIn v = cluster.version (v .election) (v .counter)
 
+abbrev pub copyIn : Version → List Entry → cluster.Copy
+copyIn v t = cluster.copyOf (versionIn v) t
+
 -- ---- a server
 
 abbrev pub votesIn : ℕ → Head → List Bool
@@ -103,7 +106,7 @@ openIn n r t =
       election = r .election;
       purpose = purposeIn (r .purpose);
       marks = marksIn n r;
-      best = record { version = versionIn (r .best); table = t };
+      best = copyIn (r .best) t;
     }
 
 unfoldable pub roundIn : ℕ → Round → List Entry → Option cluster.Round

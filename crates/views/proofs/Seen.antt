@@ -6,7 +6,7 @@ use lib.ListN.{length, getD}
 use Rattle.model.specs.Cluster as cluster
 use Rattle.model.specs.Leader.{largerNumber}
 use Rattle.server.specs.Heads.{largerNumberOf}
-use Rattle.server.specs.Views.{flagIn, roleIn, versionIn, roundIn, callIn}
+use Rattle.server.specs.Views.{flagIn, roleIn, copyIn, roundIn, callIn}
 use Rattle.memory.specs.Layout.{headAt, roundAt, callAt, versionAt}
 use Rattle.cells.specs.Cells.{Cell, Inside}
 use Rattle.moves.specs.Reactions.{Seen, bestIn}
@@ -45,7 +45,7 @@ module _ (n most : ℕ) (m : Memory) (s b : ℕ) (h : b < most) where
   cells : ℕ → Cell
   cells b = cellAt n m s (slotOf s b)
 
-  pub copy-there : cluster.copyAt (serverAt n most m s .stored) b ≡ record { version = versionIn (versionAt (m .slots) (slotOf s b)); table = tableAt (m .copies) (slotOf s b) }
+  pub copy-there : cluster.copyAt (serverAt n most m s .stored) b ≡ copyIn (versionAt (m .slots) (slotOf s b)) (tableAt (m .copies) (slotOf s b))
   unfolding serverAt cellAt cells
   copy-there = getD-parts most cells (λ c. c .copy) b cluster.freshCopy h
 

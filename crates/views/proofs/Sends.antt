@@ -15,7 +15,7 @@ use Rattle.model.specs.Cluster as cluster
 use Rattle.model.specs.Leader.{below, without, broadcast}
 use Rattle.model.proofs.Broadcasts.{without-skips, without-takes, length-others}
 use Rattle.server.specs.declared.Message.{Message}
-use Rattle.server.specs.Views.{versionIn, chosen, isBroadcast}
+use Rattle.server.specs.Views.{copyIn, chosen, isBroadcast}
 use Rattle.memory.specs.Layout.{contentAt}
 use Rattle.refusals.specs.Refusals.{sendCount}
 use Rattle.moves.specs.declared.Move.{Move}
@@ -125,7 +125,7 @@ unfolding sendsIn sendCount isBroadcast workAfter
 length-sends n me b a v t among =
     kinds (λ k. length (sendsIn n me b a (sendingKind k v) t) ≡ sendCount n k) refl
     (length-broadcast n me 0 (v .local .head .number) 0 cluster.pleaseVote among)
-    (length-broadcast n me b (v .local .head .number) (v .local .head .last) (cluster.replicaWrite (versionIn (v .written)) (workAfter v t)) among)
+    (length-broadcast n me b (v .local .head .number) (v .local .head .last) (cluster.replicaWrite (copyIn (v .written) (workAfter v t))) among)
     (length-broadcast n me b (v .local .head .number) (v .local .head .last) cluster.replicaRead among)
     (λ k e0 e1 e4 e7. rw (sendsIn, sendCount, isBroadcast, e0, e1, e4, e7))
     (v .sends)

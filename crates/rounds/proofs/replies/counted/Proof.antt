@@ -10,14 +10,14 @@ use Rattle.model.specs.Leader.{counted}
 use Rattle.server.specs.declared.Version.{Version}
 use Rattle.server.specs.declared.Round.{Round}
 use Rattle.server.specs.declared.Counted.{Counted}
-use Rattle.server.specs.Views.{markIn, versionIn, openIn}
+use Rattle.server.specs.Views.{markIn, copyIn, openIn}
 use Rattle.rounds.specs.Rounds.{isSilent, pickVersion, pickTable, countedWith, countedOf}
 use Rattle.rounds.proofs.RoundLaws.{counted-means}
 use Rattle.rounds.proofs.replies.counted.Statement.{statement}
 use Rattle.rounds.proofs.replies.counted.Tie as tie
 
 -- what is counted stands for what the definition counts
-told : (n q mark : ℕ) (report : Version) (r : Round) (k : Counted) → k ≡ countedOf n q mark report r → (k ≡ countedOf n q mark report r) × ((t u : List Entry) → openIn n (k .round) (pickTable (k .better) u t) ≡ counted q (markIn mark) (record { version = versionIn report; table = u }) (openIn n r t))
+told : (n q mark : ℕ) (report : Version) (r : Round) (k : Counted) → k ≡ countedOf n q mark report r → (k ≡ countedOf n q mark report r) × ((t u : List Entry) → openIn n (k .round) (pickTable (k .better) u t) ≡ counted q (markIn mark) (copyIn report u) (openIn n r t))
 told n q mark report r k is = (is, λ t u. ap (λ x. openIn n (x .round) (pickTable (x .better) u t)) is ∙ counted-means n q mark report r t u)
 
 place-at-requires : tie.Need-place-at-requires

@@ -1,0 +1,2 @@
+-- Laws of a server seen at one bucket.
+pub mod Laws
