@@ -1,7 +1,7 @@
 // The calls. The numbers are those of the crates bucket_c and datagram_c: the refusal's, and 255 for `full`; look-ups and
 // lists say 113 and 115 for 13 and 15, and look-ups 254 for an absent key.
 use crate::datagrams;
-use crate::print;
+use crate::showing;
 use crate::words::byte_at;
 use crate::words::from;
 use crate::words::past;
@@ -36,12 +36,12 @@ pub fn run(line: &[u8], a: &[u8], b: &[u8], out: &mut [u8]) {
     let call = place_of(word(line, 0));
     let name = past(line, 4);
     match call {
-        0 => return print::hashed(name, hash::fnv1a(a)),
+        0 => return showing::hashed(name, hash::fnv1a(a)),
         1 => return datagrams::read(name, a),
-        10 => return print::unknown(),
+        10 => return showing::unknown(),
         _ => {
             let n = number(call, a, b, out);
-            return print::answered(name, n, out);
+            return showing::answered(name, n, out);
         }
     }
 }

@@ -1,5 +1,5 @@
 // Datagrams that are read and written.
-use crate::print;
+use crate::showing;
 use crate::words;
 use crate::words::byte_at;
 use crate::words::word;
@@ -14,16 +14,16 @@ ghost use Prim.Native.Nat.{_≤_};
 // A number behind its name.
 fn field(i: usize, n: u32) {
     let names = b"kind from to bucket election round version entries";
-    print::text(b" ");
-    print::text(word(names, i));
-    print::number(n);
+    showing::text(b" ");
+    showing::text(word(names, i));
+    showing::number(n);
 }
 
 // The version of a datagram, and how many entries its table has.
 fn content(d: Datagram) {
     let t = d.table;
     field(6, d.version_election as u32);
-    print::number(d.version_counter);
+    showing::number(d.version_counter);
     field(7, count_of(t) as u32);
 }
 
@@ -41,13 +41,13 @@ pub fn read(name: &[u8], bytes: &[u8]) {
     let r = datagram::read(bytes);
     let d = r.datagram;
     let n = datagram_read(bytes);
-    print::name(name);
-    print::number(n);
+    showing::name(name);
+    showing::number(n);
     if n == 0 {
         header(d);
         content(d);
     }
-    print::text(b"\n");
+    showing::text(b"\n");
 }
 
 fn two_at(s: &[u8], i: usize) -> u16

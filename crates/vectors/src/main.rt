@@ -3,7 +3,7 @@
 // the call answers, and the lent bytes afterwards; `?` for a line of any other form.
 mod calls;
 mod datagrams;
-mod print;
+mod showing;
 mod words;
 
 use words::bytes;
@@ -32,7 +32,7 @@ fn case(line: &[u8]) {
     if n <= 5000 {
         return with_one(line, &a[0..n]);
     }
-    print::unknown();
+    showing::unknown();
 }
 
 fn with_one(line: &[u8], a: &[u8]) {
@@ -41,7 +41,7 @@ fn with_one(line: &[u8], a: &[u8]) {
     if n <= 5000 {
         return with_two(line, a, &b[0..n]);
     }
-    print::unknown();
+    showing::unknown();
 }
 
 fn with_two(line: &[u8], a: &[u8], b: &[u8]) {
@@ -50,5 +50,5 @@ fn with_two(line: &[u8], a: &[u8], b: &[u8]) {
     if n <= 5000 {
         return calls::run(line, a, b, &mut out[0..n]);
     }
-    print::unknown();
+    showing::unknown();
 }

@@ -1,9 +1,9 @@
--- `vectors::print::run` meets its contract: the bytes seen lie within the slice. The measure is what is left of it.
+-- `vectors::showing::run` meets its contract: the bytes seen lie within the slice. The measure is what is left of it.
 use Prim.Native.Nat.{_≤_, _+_, _-_}
 use native.Mathlib.Omega.{arith}
 use lib.ListN.{length}
-use Rattle.vectors.proofs.print.run.Statement.{statement}
-use Rattle.vectors.proofs.print.run.Tie as tie
+use Rattle.vectors.proofs.showing.run.Statement.{statement}
+use Rattle.vectors.proofs.showing.run.Tie as tie
 
 abbrev Inv-loop : tie.InvT-loop
 Inv-loop bytes at first n₀ n = (1 ≤ n) × (at + n ≤ length bytes)

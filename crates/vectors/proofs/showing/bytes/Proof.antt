@@ -1,10 +1,10 @@
--- `vectors::print::bytes` is safe and ends: each run is of one byte or more, and lies within the slice. The measure is what
+-- `vectors::showing::bytes` is safe and ends: each run is of one byte or more, and lies within the slice. The measure is what
 -- is left of it.
 use Prim.Native.Nat.{_≤_, _-_}
 use native.Mathlib.Omega.{arith}
 use lib.ListN.{length}
-use Rattle.vectors.proofs.print.bytes.Statement.{statement}
-use Rattle.vectors.proofs.print.bytes.Tie as tie
+use Rattle.vectors.proofs.showing.bytes.Statement.{statement}
+use Rattle.vectors.proofs.showing.bytes.Tie as tie
 
 abbrev Inv-loop : tie.InvT-loop
 Inv-loop b at₀ at = at ≤ length b
