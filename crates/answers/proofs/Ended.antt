@@ -6,8 +6,7 @@ use Prim.Native.Nat.{ℕ, _+_}
 use native.Mathlib.Numerals.{add-one}
 use Rattle.server.specs.Views.{among}
 use Rattle.open_calls.specs.Calls.{endedOf}
-use Rattle.memory.specs.Layout.{callAt}
-use Rattle.views.specs.Memory.{slotOf}
+use Rattle.memory.specs.Layout.{slotOf, callAt}
 use Rattle.views.specs.Changes.{putAnswer, endedCall, endedCalls}
 use Rattle.answers.specs.Answers.{written}
 

@@ -1,84 +1,84 @@
 // The answers of a step in lent words, in blocks of four: the call's number, its result and its rounds.
-use memory::ANSWER;
+use memory::ANSWER_SIZE;
+use memory::AnswerWords;
+use memory::SlotWords;
+use memory::offsets::ANSWER_CALL;
+use memory::offsets::ANSWER_RESULT;
+use memory::offsets::ANSWER_ROUNDS;
+use memory::slot_of;
 use moves::Move;
 use open_calls::ended;
 use records::slots::load_call;
 use server::Answer;
-use server::Call;
-use server::codes::GET;
-use server::codes::KEYS;
 use server::codes::NO_RESULT;
+use server::kinds::is_open_call;
 ghost use mathlib.Core.Path.{_≡_};
 ghost use Prim.Native.Nat.{_<_, _≤_};
 ghost use Rattle.model.specs.Measures.{maxBuckets, mostAnswers};
 ghost use Rattle.memory.specs.Layout.{serverRoom, slotRoom};
-ghost use Rattle.server.specs.Views.{among};
 ghost use Rattle.views.specs.Changes.{putAnswer, endedCalls, answered};
 ghost use Rattle.answers.specs.Answers.{EndedCall, Listed};
 
-// Answer i.
-fn put_answer(answers: &mut [u32; 32], i: usize, a: Answer)
-    requires { ⌜ i < mostAnswers ⌝ }
-    ensures { λ _. ⌜ now (answers .exit) ≡ putAnswer (now (answers .entry)) i a ⌝ }
+// The answer at this place.
+fn put_answer(answers: &mut AnswerWords, place: usize, answer: Answer)
+    requires { ⌜ place < mostAnswers ⌝ }
+    ensures { λ _. ⌜ now (answers .exit) ≡ putAnswer (now (answers .entry)) place answer ⌝ }
 {
-    let p = i * ANSWER;
-    answers[p + 0] = a.call;
-    answers[p + 1] = a.result;
-    answers[p + 2] = a.rounds;
+    let base = place * ANSWER_SIZE;
+    answers[base + ANSWER_CALL] = answer.call;
+    answers[base + ANSWER_RESULT] = answer.result;
+    answers[base + ANSWER_ROUNDS] = answer.rounds;
 }
 
-fn is_taken(c: Call) -> bool
-    ensures { λ r. ⌜ r ≡ among 5 (c .kind) ⌝ }
+// The call of this slot ends, where one is open; `count` answers were written before.
+fn end_call(answers: &mut AnswerWords, slots: &SlotWords, slot: usize, count: usize) -> usize
+    requires { ⌜ (slot < slotRoom) × (count < mostAnswers) ⌝ }
+    ensures { λ r. ⌜ EndedCall (now (slots .entry)) slot (now (answers .entry)) count (now (answers .exit)) r ⌝ }
 {
-    if c.kind < GET {
-        return false;
-    }
-    c.kind <= KEYS
-}
-
-// The call of slot k ends, where one is open; `count` answers were written before.
-fn end_call(answers: &mut [u32; 32], slots: &[u32; 1792], k: usize, count: usize) -> usize
-    requires { ⌜ (k < slotRoom) × (count < mostAnswers) ⌝ }
-    ensures { λ r. ⌜ EndedCall (now (slots .entry)) k (now (answers .entry)) count (now (answers .exit)) r ⌝ }
-{
-    let c = load_call(slots, k);
-    if is_taken(c) {
-        put_answer(answers, count, ended(c));
+    let call = load_call(slots, slot);
+    if is_open_call(call.kind) {
+        put_answer(answers, count, ended(call));
         return count + 1;
     }
     count
 }
 
-// The open calls of server s end, in bucket order.
-fn end_calls(answers: &mut [u32; 32], slots: &[u32; 1792], s: usize, most: usize) -> u32
-    requires { ⌜ (s < serverRoom) × (most ≤ maxBuckets) ⌝ }
-    ensures { λ r. ⌜ Listed (endedCalls (now (slots .entry)) s most (now (answers .entry))) (now (answers .exit)) r ⌝ }
+// The open calls of this server end, in bucket order.
+fn end_calls(answers: &mut AnswerWords, slots: &SlotWords, server: usize, buckets: usize) -> u32
+    requires { ⌜ (server < serverRoom) × (buckets ≤ maxBuckets) ⌝ }
+    ensures { λ r. ⌜ Listed (endedCalls (now (slots .entry)) server buckets (now (answers .entry))) (now (answers .exit)) r ⌝ }
 {
     let mut count = 0;
-    let mut b = 0;
-    while b < most {
-        count = end_call(answers, slots, s * 8 + b, count);
-        b += 1;
+    let mut bucket = 0;
+    while bucket < buckets {
+        count = end_call(answers, slots, slot_of(server, bucket), count);
+        bucket += 1;
     }
     count as u32
 }
 
 // What a move answers: the call of its slot, or all open calls where leading ends, unless they are forgotten. The slots are those before
 // the move.
-pub fn answer(answers: &mut [u32; 32], slots: &[u32; 1792], s: usize, most: usize, v: Move) -> u32
-    requires { ⌜ (s < serverRoom) × (most ≤ maxBuckets) ⌝ }
-    ensures { λ r. ⌜ Listed (answered (now (slots .entry)) most s v (now (answers .entry))) (now (answers .exit)) r ⌝ }
+pub fn answer(
+    answers: &mut AnswerWords,
+    slots: &SlotWords,
+    server: usize,
+    buckets: usize,
+    next: Move,
+) -> u32
+    requires { ⌜ (server < serverRoom) × (buckets ≤ maxBuckets) ⌝ }
+    ensures { λ r. ⌜ Listed (answered (now (slots .entry)) buckets server next (now (answers .entry))) (now (answers .exit)) r ⌝ }
 {
-    let a = v.answer;
-    if v.ceases {
-        if v.forgets {
+    let own = next.answer;
+    if next.ceases {
+        if next.forgets {
             return 0;
         }
-        return end_calls(answers, slots, s, most);
+        return end_calls(answers, slots, server, buckets);
     }
-    if a.result == NO_RESULT {
+    if own.result == NO_RESULT {
         return 0;
     }
-    put_answer(answers, 0, a);
+    put_answer(answers, 0, own);
     1
 }

@@ -18,13 +18,18 @@ use Rattle.table.specs.Steps.{Bounded, Decodes}
 use Rattle.table.proofs.Reading.{read-taken, read-unfit, bytes-same}
 use Rattle.bucket.specs.declared.Outcome.the-variants.{Accepted, Malformed}
 use Rattle.bucket.specs.declared.Reading.{Reading}
-use Rattle.bucket.specs.Answers.{answer, outcomeNumber, readingOf, tableRead, Read, Refused, writeOf}
+use Rattle.bucket.specs.Answers.{numbered, outcomeNumber, readingOf, tableRead, Read, Refused, writeOf}
 
 -- ---- reading
 
 pub reading-refused : (b : List ℕ) (r : Reading) → Refused r → readBucket 4 16 b ≡ none → Read b r
 unfolding readingOf readNumber tableRead outcomeNumber
 reading-refused b r o e = record { is = rw (readingOf, o .outcome, e); number = rw (o .outcome, readNumber, e); table = rw (tableRead, e) (o .table .table); sound = o .table .sound }
+
+-- a table whose count is 0 can be written as it stands
+pub empty-sound : (t : Decoded) → t .count ≡ 0 → sound t ≡ true
+unfolding sound soundSlots
+empty-sound t e = rw (sound, e, e)
 
 pub reading-taken : (b : List ℕ) (t : Decoded) (u : List Entry) → tableIn t ≡ u → sound t ≡ true → readBucket 4 16 b ≡ some u → Read b (record { outcome = Accepted; table = t })
 unfolding readingOf readNumber tableRead outcomeNumber
@@ -75,18 +80,18 @@ module _ {b : List ℕ} {r : Reading} (c : Read b r) where
 -- ---- writing
 
 module _ (t : Decoded) (out : List ℕ) where
-  pub write-unsound : sound t ≡ false → answer 13 out ≡ writeOf t out
+  pub write-unsound : sound t ≡ false → numbered 13 out ≡ writeOf t out
   unfolding writeOf
   write-unsound h = rw (writeOf, h)
 
-  pub write-unfit : sound t ≡ true → fits 4 16 (tableIn t) ≡ false → answer 13 out ≡ writeOf t out
+  pub write-unfit : sound t ≡ true → fits 4 16 (tableIn t) ≡ false → numbered 13 out ≡ writeOf t out
   unfolding writeOf
   write-unfit h k = rw (writeOf, h, k)
 
-  pub write-short : sound t ≡ true → fits 4 16 (tableIn t) ≡ true → length out < 113 → answer 15 out ≡ writeOf t out
+  pub write-short : sound t ≡ true → fits 4 16 (tableIn t) ≡ true → length out < 113 → numbered 15 out ≡ writeOf t out
   unfolding writeOf
   write-short h k l = rw (writeOf, h, k, lt-leb 113 (length out) l)
 
-  pub write-done : (after : List ℕ) → sound t ≡ true → fits 4 16 (tableIn t) ≡ true → 113 ≤ length out → after ≡ bucketBytes 4 16 (tableIn t) ++ drop 113 out → answer 0 after ≡ writeOf t out
+  pub write-done : (after : List ℕ) → sound t ≡ true → fits 4 16 (tableIn t) ≡ true → 113 ≤ length out → after ≡ bucketBytes 4 16 (tableIn t) ++ drop 113 out → numbered 0 after ≡ writeOf t out
   unfolding writeOf
   write-done after h k l e = rw (writeOf, h, k, le-leb 113 (length out) l, e)

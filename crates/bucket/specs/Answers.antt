@@ -30,12 +30,12 @@ writtenNumber written.Malformed = 13
 writtenNumber written.Short = 15
 
 -- a number, with bytes: those found, or those lent as they are afterwards
-pub record Answer : Type 0 where
+pub record Numbered : Type 0 where
   pub number : ℕ
   pub bytes : List ℕ
 
-abbrev pub answer : ℕ → List ℕ → Answer
-answer n b = record { number = n; bytes = b }
+abbrev pub numbered : ℕ → List ℕ → Numbered
+numbered n b = record { number = n; bytes = b }
 
 -- ---- reading
 
@@ -64,14 +64,14 @@ pub record Refused (r : Reading) : Type 0 where
 -- ---- writing
 
 -- 13 before 15; a refusal changes nothing, and bytes past the form stay
-unfoldable pub writeOf : Decoded → List ℕ → Answer
+unfoldable pub writeOf : Decoded → List ℕ → Numbered
 writeOf t out =
     elim (sound t) [
-      | false ↦ answer 13 out
+      | false ↦ numbered 13 out
       | true ↦
           elim (fits 4 16 (tableIn t)) [
-            | false ↦ answer 13 out
+            | false ↦ numbered 13 out
             | true ↦
-                elim (leb 113 (length out)) [ false ↦ answer 15 out | true ↦ answer 0 (bucketBytes 4 16 (tableIn t) ++ drop 113 out) ]
+                elim (leb 113 (length out)) [ false ↦ numbered 15 out | true ↦ numbered 0 (bucketBytes 4 16 (tableIn t) ++ drop 113 out) ]
           ]
     ]

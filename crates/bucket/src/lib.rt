@@ -2,12 +2,13 @@
 use decoding::decode;
 use encoding::encode;
 use entries::Decoded;
-use entries::slots::blank_slot;
+use entries::slots::no_table;
+use table::BUCKET_SIZE;
 ghost use mathlib.Core.Path.{_≡_};
 ghost use Prim.Native.Nat.{_≤_};
 ghost use lib.ListN.{length, take};
 ghost use Rattle.table.specs.Form.{sameBytes};
-ghost use Rattle.bucket.specs.Answers.{answer, writtenNumber, Empty, Read, Refused, writeOf};
+ghost use Rattle.bucket.specs.Answers.{numbered, writtenNumber, Read, Refused, writeOf};
 
 // Whether bucket bytes are taken (RULES, Bucket bytes 4). The refusal of each case is `outcomeNumber`.
 pub enum Outcome {
@@ -28,13 +29,13 @@ pub struct Reading {
     pub table: Decoded,
 }
 
-// Whether the first n bytes are the same.
-fn same_bytes(a: &[u8], b: &[u8], n: usize) -> bool
-    requires { ⌜ (n ≤ length (now a)) × (n ≤ length (now b)) ⌝ }
-    ensures { λ r. ⌜ r ≡ sameBytes (take n (now (a .entry))) (take n (now (b .entry))) ⌝ }
+// Whether the first `len` bytes are the same.
+fn same_bytes(a: &[u8], b: &[u8], len: usize) -> bool
+    requires { ⌜ (len ≤ length (now a)) × (len ≤ length (now b)) ⌝ }
+    ensures { λ r. ⌜ r ≡ sameBytes (take len (now (a .entry))) (take len (now (b .entry))) ⌝ }
 {
     let mut i = 0;
-    while i < n {
+    while i < len {
         if a[i] != b[i] {
             return false;
         }
@@ -43,23 +44,14 @@ fn same_bytes(a: &[u8], b: &[u8], n: usize) -> bool
     true
 }
 
-// A table of no entries.
-pub fn no_table() -> Decoded
-    ensures { λ r. ⌜ Empty r ⌝ }
-{
-    let s = blank_slot();
-    let slots = [s; 4];
-    Decoded { count: 0, slots }
-}
-
 // Bytes that are not taken.
 fn refused() -> Reading
     ensures { λ r. ⌜ Refused r ⌝ }
 {
-    let t = no_table();
+    let table = no_table();
     Reading {
         outcome: Outcome::Malformed,
-        table: t,
+        table,
     }
 }
 
@@ -67,17 +59,17 @@ fn refused() -> Reading
 pub fn read(bucket: &[u8]) -> Reading
     ensures { λ r. ⌜ Read (now (bucket .entry)) r ⌝ }
 {
-    if bucket.len() != 113 {
+    if bucket.len() != BUCKET_SIZE {
         return refused();
     }
-    let t = decode(bucket);
-    if checks::fits(t) {
-        let mut form = [0u8; 113];
-        encode(t, &mut form);
-        if same_bytes(bucket, &form, 113) {
+    let table = decode(bucket);
+    if checks::fits(table) {
+        let mut form = [0u8; BUCKET_SIZE];
+        encode(table, &mut form);
+        if same_bytes(bucket, &form, BUCKET_SIZE) {
             return Reading {
                 outcome: Outcome::Accepted,
-                table: t,
+                table,
             };
         }
         return refused();
@@ -86,15 +78,15 @@ pub fn read(bucket: &[u8]) -> Reading
 }
 
 // The bucket form of a table, written over the first 113 bytes; 13 where it has none, else 15 where there is no room.
-pub fn write(t: Decoded, out: &mut [u8]) -> Written
-    ensures { λ r. ⌜ answer (writtenNumber r) (now (out .exit)) ≡ writeOf t (now (out .entry)) ⌝ }
+pub fn write(table: Decoded, out: &mut [u8]) -> Written
+    ensures { λ r. ⌜ numbered (writtenNumber r) (now (out .exit)) ≡ writeOf table (now (out .entry)) ⌝ }
 {
-    if checks::sound(t) {
-        if checks::fits(t) {
-            if out.len() < 113 {
+    if checks::sound(table) {
+        if checks::fits(table) {
+            if out.len() < BUCKET_SIZE {
                 return Written::Short;
             }
-            encode(t, out);
+            encode(table, out);
             return Written::Accepted;
         }
         return Written::Malformed;

@@ -14,23 +14,23 @@ use Rattle.entries.specs.Entries.{Entry, valueOf, keysOf}
 use Rattle.entries.specs.Decoded.{keyBytes, blank}
 use Rattle.table.specs.Form.{readBucket}
 use Rattle.table.proofs.Filling.{sets-append}
-use Rattle.bucket.specs.Answers.{Answer, answer}
+use Rattle.bucket.specs.Answers.{Numbered, numbered}
 use Rattle.bucket_calls.specs.Answers.{looked, lookOf, listed, listOf}
 use Rattle.bucket_c.specs.Exports.{writtenOut, absentNumber, getOf, keysBytes, keysOut}
 
 -- ---- bytes, written out
 
 module _ (n : ℕ) (w out : List ℕ) where
-  pub out-short : length out < length w → answer 115 out ≡ writtenOut n w out
+  pub out-short : length out < length w → numbered 115 out ≡ writtenOut n w out
   unfolding writtenOut
   out-short h = rw (writtenOut, lt-leb (length w) (length out) h)
 
   -- a run of stores at the front
-  pub out-done : (after : List ℕ) → length w ≤ length out → after ≡ sets out 0 w → answer n after ≡ writtenOut n w out
+  pub out-done : (after : List ℕ) → length w ≤ length out → after ≡ sets out 0 w → numbered n after ≡ writtenOut n w out
   unfolding writtenOut
   out-done after h e =
       rw (writtenOut, le-leb (length w) (length out) h)
-      (ap (answer n) (e ∙ sets-eq w out 0 (rw zero-add h) ∙ rw zero-add))
+      (ap (numbered n) (e ∙ sets-eq w out 0 (rw zero-add h) ∙ rw zero-add))
 
 -- ---- what a look-up's answer says of the bucket
 
@@ -54,17 +54,17 @@ module _ (b k : List ℕ) (v : Option (List ℕ)) where
       go (some t) q = (t, (refl, ap (λ a. a .value) (rw (lookOf, q) at e)))
 
 module _ (b k : List ℕ) (v : Option (List ℕ)) (out : List ℕ) where
-  pub get-refused : looked 13 v ≡ lookOf b k → answer 113 out ≡ getOf b k out
+  pub get-refused : looked 13 v ≡ lookOf b k → numbered 113 out ≡ getOf b k out
   unfolding getOf
   get-refused e = rw (getOf, look-none b k v e)
 
-  pub get-absent : looked 0 v ≡ lookOf b k → v ≡ none → answer absentNumber out ≡ getOf b k out
+  pub get-absent : looked 0 v ≡ lookOf b k → v ≡ none → numbered absentNumber out ≡ getOf b k out
   unfolding getOf
   get-absent e n =
       let (t, (q, s)) = look-some b k v e in
       rw (getOf, q, ← s, n)
 
-  pub get-found : (u : List ℕ) (a : Answer) → looked 0 v ≡ lookOf b k → v ≡ some u → a ≡ writtenOut (length u) u out → a ≡ getOf b k out
+  pub get-found : (u : List ℕ) (a : Numbered) → looked 0 v ≡ lookOf b k → v ≡ some u → a ≡ writtenOut (length u) u out → a ≡ getOf b k out
   unfolding getOf
   get-found u a e n d =
       let (t, (q, s)) = look-some b k v e in
@@ -92,11 +92,11 @@ module _ (b : List ℕ) (k : List (List ℕ)) where
       go (some t) q = (t, (refl, ap (λ a. a .keys) (rw (listOf, q) at e)))
 
 module _ (b : List ℕ) (k : List (List ℕ)) (out : List ℕ) where
-  pub keys-refused : listed 13 k ≡ listOf b → answer 113 out ≡ keysOut b out
+  pub keys-refused : listed 13 k ≡ listOf b → numbered 113 out ≡ keysOut b out
   unfolding keysOut
   keys-refused e = rw (keysOut, list-none b k e)
 
-  pub keys-listed : (a : Answer) → listed 0 k ≡ listOf b → a ≡ writtenOut (length k) (keysBytes k) out → a ≡ keysOut b out
+  pub keys-listed : (a : Numbered) → listed 0 k ≡ listOf b → a ≡ writtenOut (length k) (keysBytes k) out → a ≡ keysOut b out
   unfolding keysOut
   keys-listed a e d =
       let (t, (q, s)) = list-some b k e in
@@ -170,7 +170,7 @@ module _ {out₀ : List ℕ} {n : ℕ} {l : List Key} {out : List ℕ} {at i : �
           rest = c .rest ∙ ap (sets out at) (next-key (c .passing) h e) ∙ sets-append (set out at m) (suc at) (keyBytes (getD l i (blank .key))) (keysBytes (drop (i + 1) (keysOfSlots n l))) ∙ rw (← add-one at, ← w, ← e);
         }
 
-  pub putting-ends : n ≤ i → answer n out ≡ writtenOut (length (keysOfSlots n l)) (keysBytes (keysOfSlots n l)) out₀
+  pub putting-ends : n ≤ i → numbered n out ≡ writtenOut (length (keysOfSlots n l)) (keysBytes (keysOfSlots n l)) out₀
   unfolding keysBytes
   putting-ends h =
       rw (size-all (c .passing))

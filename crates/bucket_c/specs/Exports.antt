@@ -11,7 +11,7 @@ use Rattle.entries.specs.declared.Slot.{Slot}
 use Rattle.entries.specs.declared.Decoded.{Decoded}
 use Rattle.entries.specs.Entries.{valueOf, keysOf}
 use Rattle.table.specs.Form.{readBucket}
-use Rattle.bucket.specs.Answers.{Answer, answer}
+use Rattle.bucket.specs.Answers.{Numbered, numbered}
 
 -- ---- a table in two slices
 
@@ -36,20 +36,20 @@ tableFrom n h l = record { count = n; slots = slotFrom h l 0 ∷ (slotFrom h l 1
 -- ---- bytes, written out
 
 -- number n, and bytes w before what stood behind them; 115 where there is no room for w, and nothing changes
-unfoldable pub writtenOut : ℕ → List ℕ → List ℕ → Answer
-writtenOut n w out = elim (leb (length w) (length out)) [ false ↦ answer 115 out | true ↦ answer n (w ++ drop (length w) out) ]
+unfoldable pub writtenOut : ℕ → List ℕ → List ℕ → Numbered
+writtenOut n w out = elim (leb (length w) (length out)) [ false ↦ numbered 115 out | true ↦ numbered n (w ++ drop (length w) out) ]
 
 -- an absent key is no refusal: its number is above those of all refusals, and no length of a value
 abbrev pub absentNumber : ℕ
 absentNumber = 254
 
 -- a key's value, written out with its length; 113 where the bucket is refused
-unfoldable pub getOf : List ℕ → List ℕ → List ℕ → Answer
+unfoldable pub getOf : List ℕ → List ℕ → List ℕ → Numbered
 getOf b k out =
     elim (readBucket 4 16 b) [
-      | none ↦ answer 113 out
+      | none ↦ numbered 113 out
       | some t ↦
-          elim (valueOf k t) [ none ↦ answer absentNumber out | some v ↦ writtenOut (length v) v out ]
+          elim (valueOf k t) [ none ↦ numbered absentNumber out | some v ↦ writtenOut (length v) v out ]
     ]
 
 -- each key behind its length
@@ -58,9 +58,9 @@ keysBytes [] = []
 keysBytes (k ∷ l) = length k ∷ (k ++ keysBytes l)
 
 -- the keys, written out with how many they are; 113 where the bucket is refused
-unfoldable pub keysOut : List ℕ → List ℕ → Answer
+unfoldable pub keysOut : List ℕ → List ℕ → Numbered
 keysOut b out =
     elim (readBucket 4 16 b) [
-      | none ↦ answer 113 out
+      | none ↦ numbered 113 out
       | some t ↦ writtenOut (length t) (keysBytes (keysOf t)) out
     ]

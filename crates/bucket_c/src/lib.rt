@@ -12,52 +12,69 @@ use bucket_calls::remove;
 use encoding::put_key;
 use encoding::put_value;
 use entries::Decoded;
+use entries::KEY_ROOM;
 use entries::Key;
 use entries::Slot;
+use entries::VALUE_ROOM;
 use entries::Value;
 use entries::keys::key_length;
 use entries::keys::value_length;
+use entries::keys::wide;
 ghost use mathlib.Core.Path.{_≡_};
 ghost use Prim.Native.Nat.{_≤_, _<_, _+_, _*_};
 ghost use lib.ListN.{length, getD};
 ghost use Rattle.entries.specs.Decoded.{valueBytes};
 ghost use Rattle.table.specs.Form.{readNumber};
-ghost use Rattle.bucket.specs.Answers.{answer, outcomeNumber, writtenNumber, writeOf};
+ghost use Rattle.bucket.specs.Answers.{numbered, outcomeNumber, writtenNumber, writeOf};
 ghost use Rattle.bucket_calls.specs.Answers.{changeNumber, putOf, removeOf, keysIn};
 ghost use Rattle.bucket_c.specs.Exports.{keyFrom, valueFrom, slotFrom, tableFrom, writtenOut, getOf, keysBytes, keysOut};
+
+// The refusals, and the same where the number is else a length or a count, which may be 13 or 15.
+pub const MALFORMED: u32 = 13;
+
+pub const SHORT: u32 = 15;
+
+const HIGH_MALFORMED: u32 = 113;
+
+const HIGH_SHORT: u32 = 115;
 
 // `full` and an absent key are no refusals: their numbers are above those of all refusals.
 const FULL: u32 = 255;
 
 const ABSENT: u32 = 254;
 
+// Of each entry that is handed over: how many lengths, and the room of its key and its value.
+const LENGTHS: usize = 2;
+
+const ENTRY_ROOM: usize = KEY_ROOM + VALUE_ROOM;
+
 // The numbers of the answers.
-fn outcome_number(o: Outcome) -> u32
-    ensures { λ r. ⌜ r ≡ outcomeNumber o ⌝ }
+fn outcome_number(outcome: Outcome) -> u32
+    ensures { λ r. ⌜ r ≡ outcomeNumber outcome ⌝ }
 {
-    match o {
+    match outcome {
         Outcome::Accepted => 0,
-        Outcome::Malformed => 13,
+        Outcome::Malformed => MALFORMED,
     }
 }
 
-fn written_number(w: Written) -> u32
-    ensures { λ r. ⌜ r ≡ writtenNumber w ⌝ }
+fn written_number(written: Written) -> u32
+    ensures { λ r. ⌜ r ≡ writtenNumber written ⌝ }
 {
-    match w {
+    match written {
         Written::Accepted => 0,
-        Written::Malformed => 13,
-        Written::Short => 15,
+        Written::Malformed => MALFORMED,
+        Written::Short => SHORT,
     }
 }
 
-fn change_number(c: Change) -> u32
-    ensures { λ r. ⌜ r ≡ changeNumber c ⌝ }
+fn change_number(change: Change) -> u32
+    ensures { λ r. ⌜ r ≡ changeNumber change ⌝ }
 {
-    match c {
+    match change {
         Change::Done => 0,
         Change::Full => FULL,
-        Change::Malformed => 13,
+        Change::Malformed => MALFORMED,
     }
 }
 
@@ -66,54 +83,47 @@ fn change_number(c: Change) -> u32
 pub extern "C" fn bucket_read(bucket: &[u8]) -> u32
     ensures { λ r. ⌜ r ≡ readNumber 4 16 (now (bucket .entry)) ⌝ }
 {
-    let r = read(bucket);
-    let o = r.outcome;
-    outcome_number(o)
+    let reading = read(bucket);
+    let outcome = reading.outcome;
+    outcome_number(outcome)
 }
 
 // The byte at i, 0 where there is none.
-fn byte_at(s: &[u8], i: usize) -> u8
-    ensures { λ r. ⌜ r ≡ getD (now (s .entry)) i 0 ⌝ }
+pub fn byte_at(bytes: &[u8], i: usize) -> u8
+    ensures { λ r. ⌜ r ≡ getD (now (bytes .entry)) i 0 ⌝ }
 {
-    if i < s.len() {
-        return s[i];
+    if i < bytes.len() {
+        return bytes[i];
     }
     0
 }
 
-// A byte as a number to count with.
-fn wide(x: u8) -> usize
-    ensures { λ r. ⌜ r ≡ x ⌝ }
-{
-    x as usize
-}
-
 // Eight bytes from `at` on, with a length that may be any.
-fn key_from(s: &[u8], at: usize, len: usize) -> Key
+fn key_from(bytes: &[u8], at: usize, len: usize) -> Key
     requires { ⌜ at ≤ 96 ⌝ }
-    ensures { λ r. ⌜ r ≡ keyFrom (now (s .entry)) at len ⌝ }
+    ensures { λ r. ⌜ r ≡ keyFrom (now (bytes .entry)) at len ⌝ }
 {
-    let mut b = [0u8; 8];
+    let mut kept = [0u8; KEY_ROOM];
     let mut i = 0;
-    while i < 8 {
-        b[i] = byte_at(s, at + i);
+    while i < KEY_ROOM {
+        kept[i] = byte_at(bytes, at + i);
         i += 1;
     }
-    Key { bytes: b, len }
+    Key { bytes: kept, len }
 }
 
 // Sixteen bytes from `at` on, with a length that may be any.
-fn value_from(s: &[u8], at: usize, len: usize) -> Value
+fn value_from(bytes: &[u8], at: usize, len: usize) -> Value
     requires { ⌜ at ≤ 96 ⌝ }
-    ensures { λ r. ⌜ r ≡ valueFrom (now (s .entry)) at len ⌝ }
+    ensures { λ r. ⌜ r ≡ valueFrom (now (bytes .entry)) at len ⌝ }
 {
-    let mut b = [0u8; 16];
+    let mut kept = [0u8; VALUE_ROOM];
     let mut i = 0;
-    while i < 16 {
-        b[i] = byte_at(s, at + i);
+    while i < VALUE_ROOM {
+        kept[i] = byte_at(bytes, at + i);
         i += 1;
     }
-    Value { bytes: b, len }
+    Value { bytes: kept, len }
 }
 
 // Entry i of two slices.
@@ -121,10 +131,10 @@ fn slot_from(lengths: &[u8], bytes: &[u8], i: usize) -> Slot
     requires { ⌜ i < 4 ⌝ }
     ensures { λ r. ⌜ r ≡ slotFrom (now (lengths .entry)) (now (bytes .entry)) i ⌝ }
 {
-    let k = wide(byte_at(lengths, 2 * i));
-    let v = wide(byte_at(lengths, 2 * i + 1));
-    let key = key_from(bytes, 24 * i, k);
-    let value = value_from(bytes, 24 * i + 8, v);
+    let key_len = wide(byte_at(lengths, LENGTHS * i));
+    let value_len = wide(byte_at(lengths, LENGTHS * i + 1));
+    let key = key_from(bytes, ENTRY_ROOM * i, key_len);
+    let value = value_from(bytes, ENTRY_ROOM * i + KEY_ROOM, value_len);
     Slot { key, value }
 }
 
@@ -132,11 +142,11 @@ fn slot_from(lengths: &[u8], bytes: &[u8], i: usize) -> Slot
 pub fn table_from(count: usize, lengths: &[u8], bytes: &[u8]) -> Decoded
     ensures { λ r. ⌜ r ≡ tableFrom count (now (lengths .entry)) (now (bytes .entry)) ⌝ }
 {
-    let a = slot_from(lengths, bytes, 0);
-    let b = slot_from(lengths, bytes, 1);
-    let c = slot_from(lengths, bytes, 2);
-    let d = slot_from(lengths, bytes, 3);
-    let slots = [a, b, c, d];
+    let first = slot_from(lengths, bytes, 0);
+    let second = slot_from(lengths, bytes, 1);
+    let third = slot_from(lengths, bytes, 2);
+    let fourth = slot_from(lengths, bytes, 3);
+    let slots = [first, second, third, fourth];
     Decoded { count, slots }
 }
 
@@ -144,117 +154,117 @@ pub fn table_from(count: usize, lengths: &[u8], bytes: &[u8]) -> Decoded
 // at 24i of `bytes` and its value at 24i + 8; missing bytes are 0.
 #[no_mangle]
 pub extern "C" fn bucket_write(count: usize, lengths: &[u8], bytes: &[u8], out: &mut [u8]) -> u32
-    ensures { λ r. ⌜ answer r (now (out .exit)) ≡ writeOf (tableFrom count (now (lengths .entry)) (now (bytes .entry))) (now (out .entry)) ⌝ }
+    ensures { λ r. ⌜ numbered r (now (out .exit)) ≡ writeOf (tableFrom count (now (lengths .entry)) (now (bytes .entry))) (now (out .entry)) ⌝ }
 {
-    let t = table_from(count, lengths, bytes);
-    let w = write(t, out);
-    written_number(w)
+    let table = table_from(count, lengths, bytes);
+    let written = write(table, out);
+    written_number(written)
 }
 
 // A value, written to `out`: its length, 115 where `out` is too short.
-fn put_found(v: Value, out: &mut [u8]) -> u32
-    ensures { λ r. ⌜ answer r (now (out .exit)) ≡ writtenOut (length (valueBytes v)) (valueBytes v) (now (out .entry)) ⌝ }
+fn put_found(value: Value, out: &mut [u8]) -> u32
+    ensures { λ r. ⌜ numbered r (now (out .exit)) ≡ writtenOut (length (valueBytes value)) (valueBytes value) (now (out .entry)) ⌝ }
 {
-    let n = value_length(v);
-    if out.len() < n {
-        return 115;
+    let len = value_length(value);
+    if out.len() < len {
+        return HIGH_SHORT;
     }
-    put_value(out, 0, v);
-    n as u32
+    put_value(out, 0, value);
+    len as u32
 }
 
 // The value of a key, written to `out`: its length, 254 where the key is absent, 113 where the bucket is refused, 115 where
 // `out` is too short.
 #[no_mangle]
 pub extern "C" fn bucket_get(bucket: &[u8], key: &[u8], out: &mut [u8]) -> u32
-    ensures { λ r. ⌜ answer r (now (out .exit)) ≡ getOf (now (bucket .entry)) (now (key .entry)) (now (out .entry)) ⌝ }
+    ensures { λ r. ⌜ numbered r (now (out .exit)) ≡ getOf (now (bucket .entry)) (now (key .entry)) (now (out .entry)) ⌝ }
 {
-    let f = look_up(bucket, key);
-    let i = f.item;
-    let o = f.outcome;
-    match o {
+    let found = look_up(bucket, key);
+    let item = found.item;
+    let outcome = found.outcome;
+    match outcome {
         Outcome::Accepted => {
-            if i.there {
-                return put_found(i.value, out);
+            if item.there {
+                return put_found(item.value, out);
             }
             ABSENT
         }
-        Outcome::Malformed => 113,
+        Outcome::Malformed => HIGH_MALFORMED,
     }
 }
 
 // A key's new value, which may have no bytes: 0, or 255 where there is no room, or 13.
 #[no_mangle]
 pub extern "C" fn bucket_put(bucket: &mut [u8], key: &[u8], value: &[u8]) -> u32
-    ensures { λ r. ⌜ answer r (now (bucket .exit)) ≡ putOf (now (bucket .entry)) (now (key .entry)) (now (value .entry)) ⌝ }
+    ensures { λ r. ⌜ numbered r (now (bucket .exit)) ≡ putOf (now (bucket .entry)) (now (key .entry)) (now (value .entry)) ⌝ }
 {
-    let c = put(bucket, key, value);
-    change_number(c)
+    let change = put(bucket, key, value);
+    change_number(change)
 }
 
 // The bucket without a key: 0 or 13.
 #[no_mangle]
 pub extern "C" fn bucket_remove(bucket: &mut [u8], key: &[u8]) -> u32
-    ensures { λ r. ⌜ answer r (now (bucket .exit)) ≡ removeOf (now (bucket .entry)) (now (key .entry)) ⌝ }
+    ensures { λ r. ⌜ numbered r (now (bucket .exit)) ≡ removeOf (now (bucket .entry)) (now (key .entry)) ⌝ }
 {
-    let o = remove(bucket, key);
-    outcome_number(o)
+    let outcome = remove(bucket, key);
+    outcome_number(outcome)
 }
 
 // How many bytes the keys take, each behind its length.
-fn keys_room(l: Listing) -> usize
-    requires { ⌜ l .count ≤ 4 ⌝ }
-    ensures { λ r. ⌜ r ≡ length (keysBytes (keysIn l)) ⌝ }
+fn keys_room(listing: Listing) -> usize
+    requires { ⌜ listing .count ≤ 4 ⌝ }
+    ensures { λ r. ⌜ r ≡ length (keysBytes (keysIn listing)) ⌝ }
 {
-    let n = l.count;
-    let keys = l.keys;
+    let count = listing.count;
+    let keys = listing.keys;
     let mut room = 0;
     let mut i = 0;
-    while i < n {
-        let k = keys[i];
-        let m = key_length(k);
-        room = room + 1 + m;
+    while i < count {
+        let key = keys[i];
+        let len = key_length(key);
+        room = room + 1 + len;
         i += 1;
     }
     room
 }
 
 // The keys, each behind its length, written to `out`. The answer is how many they are.
-fn put_keys(out: &mut [u8], l: Listing) -> u32
-    requires { ⌜ (l .count ≤ 4) × (length (keysBytes (keysIn l)) ≤ length (now out)) ⌝ }
-    ensures { λ r. ⌜ answer r (now (out .exit)) ≡ writtenOut (length (keysIn l)) (keysBytes (keysIn l)) (now (out .entry)) ⌝ }
+fn put_keys(out: &mut [u8], listing: Listing) -> u32
+    requires { ⌜ (listing .count ≤ 4) × (length (keysBytes (keysIn listing)) ≤ length (now out)) ⌝ }
+    ensures { λ r. ⌜ numbered r (now (out .exit)) ≡ writtenOut (length (keysIn listing)) (keysBytes (keysIn listing)) (now (out .entry)) ⌝ }
 {
-    let n = l.count;
-    let keys = l.keys;
+    let count = listing.count;
+    let keys = listing.keys;
     let mut at = 0;
     let mut i = 0;
-    while i < n {
-        let k = keys[i];
-        let m = key_length(k);
-        out[at] = m as u8;
-        put_key(out, at + 1, k);
-        at = at + 1 + m;
+    while i < count {
+        let key = keys[i];
+        let len = key_length(key);
+        out[at] = len as u8;
+        put_key(out, at + 1, key);
+        at = at + 1 + len;
         i += 1;
     }
-    n as u32
+    count as u32
 }
 
 // All keys, rising, each behind its length, written to `out`: how many they are, 113 where the bucket is refused, 115 where
 // they do not fit. 36 bytes are room enough for any bucket's keys.
 #[no_mangle]
 pub extern "C" fn bucket_keys(bucket: &[u8], out: &mut [u8]) -> u32
-    ensures { λ r. ⌜ answer r (now (out .exit)) ≡ keysOut (now (bucket .entry)) (now (out .entry)) ⌝ }
+    ensures { λ r. ⌜ numbered r (now (out .exit)) ≡ keysOut (now (bucket .entry)) (now (out .entry)) ⌝ }
 {
-    let l = list_keys(bucket);
-    let o = l.outcome;
-    match o {
+    let listing = list_keys(bucket);
+    let outcome = listing.outcome;
+    match outcome {
         Outcome::Accepted => {
-            let room = keys_room(l);
+            let room = keys_room(listing);
             if out.len() < room {
-                return 115;
+                return HIGH_SHORT;
             }
-            put_keys(out, l)
+            put_keys(out, listing)
         }
-        Outcome::Malformed => 113,
+        Outcome::Malformed => HIGH_MALFORMED,
     }
 }

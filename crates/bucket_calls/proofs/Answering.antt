@@ -23,7 +23,7 @@ use Rattle.entries.proofs.Changes.{by-order, absent-value, absent-remove}
 use Rattle.table.specs.Form.{maxKey, bucketSize, within, bucketBytes, readBucket, readNumber}
 use Rattle.table.proofs.Fitting.{within-parts, within-from, fits-parts}
 use Rattle.table.proofs.Reading.{Capped, sized-capped, length-bucket, one-form}
-use Rattle.bucket.specs.Answers.{answer, tableRead}
+use Rattle.bucket.specs.Answers.{numbered, tableRead}
 use Rattle.bucket_calls.specs.Answers.{looked, lookOf, fullNumber, storable, putIn, putOf, removeOf, listed, listOf, TrimmedKey, KeysTaken}
 
 -- ---- bytes that are taken
@@ -105,19 +105,19 @@ module _ {k : List ℕ} {v : Option (List ℕ)} {t : Decoded} (s : Stored) (c : 
   was-stored h = sym (c .is) ∙ rw (storedIn, h)
 
 module _ (b k v : List ℕ) where
-  pub put-refused : readBucket 4 16 b ≡ none → answer 13 b ≡ putIn b k v
+  pub put-refused : readBucket 4 16 b ≡ none → numbered 13 b ≡ putIn b k v
   unfolding putIn
   put-refused e = rw (putIn, e)
 
-  pub put-full : (t : List Entry) → readBucket 4 16 b ≡ some t → stored 4 k (some v) t ≡ none → answer fullNumber b ≡ putIn b k v
+  pub put-full : (t : List Entry) → readBucket 4 16 b ≡ some t → stored 4 k (some v) t ≡ none → numbered fullNumber b ≡ putIn b k v
   unfolding putIn
   put-full t e s = rw (putIn, e, s)
 
-  pub put-done : (t u : List Entry) (after : List ℕ) → readBucket 4 16 b ≡ some t → stored 4 k (some v) t ≡ some u → after ≡ bucketBytes 4 16 u ++ drop 113 b → answer 0 after ≡ putIn b k v
+  pub put-done : (t u : List Entry) (after : List ℕ) → readBucket 4 16 b ≡ some t → stored 4 k (some v) t ≡ some u → after ≡ bucketBytes 4 16 u ++ drop 113 b → numbered 0 after ≡ putIn b k v
   unfolding putIn
   put-done t u after e s w = rw (putIn, e, s, w, over-all b (bucketBytes 4 16 u) t e)
 
-  pub put-unstorable : storable k v ≡ false → answer 13 b ≡ putOf b k v
+  pub put-unstorable : storable k v ≡ false → numbered 13 b ≡ putOf b k v
   unfolding putOf
   put-unstorable h = rw (putOf, h)
 
@@ -129,19 +129,19 @@ module _ (b k v : List ℕ) where
       rw (putOf, h, e, f, take-all 8 k m, take-all 16 v n)
 
 module _ (b k : List ℕ) where
-  pub remove-refused : readBucket 4 16 b ≡ none → answer 13 b ≡ removeOf b k
+  pub remove-refused : readBucket 4 16 b ≡ none → numbered 13 b ≡ removeOf b k
   unfolding removeOf
   remove-refused e = rw (removeOf, e)
 
-  pub remove-done : (t u : List Entry) (after : List ℕ) → readBucket 4 16 b ≡ some t → u ≡ remove k t → after ≡ bucketBytes 4 16 u ++ drop 113 b → answer 0 after ≡ removeOf b k
+  pub remove-done : (t u : List Entry) (after : List ℕ) → readBucket 4 16 b ≡ some t → u ≡ remove k t → after ≡ bucketBytes 4 16 u ++ drop 113 b → numbered 0 after ≡ removeOf b k
   unfolding removeOf
   remove-done t u after e s w = rw (removeOf, e, w, over-all b (bucketBytes 4 16 u) t e, s)
 
-  pub remove-long : (t : List Entry) → readBucket 4 16 b ≡ some t → 8 < length k → answer 0 b ≡ removeOf b k
+  pub remove-long : (t : List Entry) → readBucket 4 16 b ≡ some t → 8 < length k → numbered 0 b ≡ removeOf b k
   unfolding removeOf
   remove-long t e h =
       rw (removeOf, e, absent-remove k t (long-not-held b k t e h))
-      (ap (answer 0) (one-form 4 16 b t e .0))
+      (ap (numbered 0) (one-form 4 16 b t e .0))
 
 -- ---- listing
 

@@ -12,7 +12,7 @@ use Rattle.entries.specs.declared.Slot.{Slot}
 use Rattle.entries.specs.Entries.{valueOf, remove, stored, keysOf}
 use Rattle.entries.specs.Decoded.{keyBytes, itemIn}
 use Rattle.table.specs.Form.{maxKey, within, bucketBytes, readBucket}
-use Rattle.bucket.specs.Answers.{Answer, answer, outcomeNumber}
+use Rattle.bucket.specs.Answers.{Numbered, numbered, outcomeNumber}
 use Rattle.bucket_calls.specs.declared.Change.{Change}
 use Rattle.bucket_calls.specs.declared.Change.the-variants.{Done, Full, Malformed}
 use Rattle.bucket_calls.specs.declared.Found.{Found}
@@ -59,19 +59,19 @@ unfoldable pub storable : List ℕ → List ℕ → Bool
 storable k v = elim (within maxKey (length k)) [ false ↦ false | true ↦ leb (length v) 16 ]
 
 -- `set` on bucket b, with a value that is there and may have no bytes
-unfoldable pub putIn : List ℕ → List ℕ → List ℕ → Answer
+unfoldable pub putIn : List ℕ → List ℕ → List ℕ → Numbered
 putIn b k v =
     elim (readBucket 4 16 b) [
-      | none ↦ answer 13 b
+      | none ↦ numbered 13 b
       | some t ↦
-          elim (stored 4 k (some v) t) [ none ↦ answer fullNumber b | some u ↦ answer 0 (bucketBytes 4 16 u) ]
+          elim (stored 4 k (some v) t) [ none ↦ numbered fullNumber b | some u ↦ numbered 0 (bucketBytes 4 16 u) ]
     ]
 
-unfoldable pub putOf : List ℕ → List ℕ → List ℕ → Answer
-putOf b k v = elim (storable k v) [ false ↦ answer 13 b | true ↦ putIn b k v ]
+unfoldable pub putOf : List ℕ → List ℕ → List ℕ → Numbered
+putOf b k v = elim (storable k v) [ false ↦ numbered 13 b | true ↦ putIn b k v ]
 
-unfoldable pub removeOf : List ℕ → List ℕ → Answer
-removeOf b k = elim (readBucket 4 16 b) [ none ↦ answer 13 b | some t ↦ answer 0 (bucketBytes 4 16 (remove k t)) ]
+unfoldable pub removeOf : List ℕ → List ℕ → Numbered
+removeOf b k = elim (readBucket 4 16 b) [ none ↦ numbered 13 b | some t ↦ numbered 0 (bucketBytes 4 16 (remove k t)) ]
 
 -- ---- listing
 

@@ -4,8 +4,11 @@ use bucket::read;
 use encoding::encode;
 use entries::Decoded;
 use entries::Item;
+use entries::KEY_ROOM;
 use entries::Key;
 use entries::Slot;
+use entries::TABLE_ROOM;
+use entries::VALUE_ROOM;
 use entries::Value;
 use entries::keys::key_length;
 use entries::keys::key_of;
@@ -18,7 +21,7 @@ use entries::slots::find;
 use entries::slots::store;
 ghost use mathlib.Core.Path.{_≡_};
 ghost use Rattle.entries.specs.Decoded.{keyBytes, valueBytes};
-ghost use Rattle.bucket.specs.Answers.{answer, outcomeNumber};
+ghost use Rattle.bucket.specs.Answers.{numbered, outcomeNumber};
 ghost use Rattle.bucket_calls.specs.Answers.{changeNumber, LookedUp, TrimmedItem, storable, putIn, putOf, removeOf, TrimmedKey, KeysTaken, KeysListed};
 
 // What became of a change. The number for each case is `changeNumber`.
@@ -38,18 +41,18 @@ pub struct Found {
 pub struct Listing {
     pub outcome: Outcome,
     pub count: usize,
-    pub keys: [Key; 4],
+    pub keys: [Key; TABLE_ROOM],
 }
 
 // The same value, its length within its bytes.
-fn trimmed_item(i: Item) -> Item
-    ensures { λ r. ⌜ TrimmedItem i r ⌝ }
+fn trimmed_item(item: Item) -> Item
+    ensures { λ r. ⌜ TrimmedItem item r ⌝ }
 {
-    let v = i.value;
-    let n = value_length(v);
-    let b = v.bytes;
-    let value = Value { bytes: b, len: n };
-    let there = i.there;
+    let whole = item.value;
+    let len = value_length(whole);
+    let bytes = whole.bytes;
+    let value = Value { bytes, len };
+    let there = item.there;
     Item { value, there }
 }
 
@@ -57,21 +60,21 @@ fn trimmed_item(i: Item) -> Item
 pub fn look_up(bucket: &[u8], key: &[u8]) -> Found
     ensures { λ r. ⌜ LookedUp (now (bucket .entry)) (now (key .entry)) r ⌝ }
 {
-    let r = read(bucket);
-    let outcome = r.outcome;
-    let t = r.table;
-    if 8 < key.len() {
+    let reading = read(bucket);
+    let outcome = reading.outcome;
+    let table = reading.table;
+    if KEY_ROOM < key.len() {
         let item = absent();
         return Found { outcome, item };
     }
-    let item = trimmed_item(find(t, key_of(key)));
+    let item = trimmed_item(find(table, key_of(key)));
     Found { outcome, item }
 }
 
 // A key's new value, in place; it may have no bytes. 13 where the bucket is refused, or the key or the value has a length
 // that no bucket holds.
 pub fn put(bucket: &mut [u8], key: &[u8], value: &[u8]) -> Change
-    ensures { λ r. ⌜ answer (changeNumber r) (now (bucket .exit)) ≡ putOf (now (bucket .entry)) (now (key .entry)) (now (value .entry)) ⌝ }
+    ensures { λ r. ⌜ numbered (changeNumber r) (now (bucket .exit)) ≡ putOf (now (bucket .entry)) (now (key .entry)) (now (value .entry)) ⌝ }
 {
     if storable(key, value) {
         return put_in(bucket, key_of(key), value_of(value));
@@ -86,28 +89,28 @@ fn storable(key: &[u8], value: &[u8]) -> bool
     if key.len() == 0 {
         return false;
     }
-    if 8 < key.len() {
+    if KEY_ROOM < key.len() {
         return false;
     }
-    value.len() <= 16
+    value.len() <= VALUE_ROOM
 }
 
 // The same, for a key and a value by value.
 fn put_in(bucket: &mut [u8], key: Key, value: Value) -> Change
-    ensures { λ r. ⌜ answer (changeNumber r) (now (bucket .exit)) ≡ putIn (now (bucket .entry)) (keyBytes key) (valueBytes value) ⌝ }
+    ensures { λ r. ⌜ numbered (changeNumber r) (now (bucket .exit)) ≡ putIn (now (bucket .entry)) (keyBytes key) (valueBytes value) ⌝ }
 {
-    let r = read(bucket);
-    let t = r.table;
-    let o = r.outcome;
-    match o {
+    let reading = read(bucket);
+    let table = reading.table;
+    let outcome = reading.outcome;
+    match outcome {
         Outcome::Accepted => {
             let item = Item { there: true, value };
-            let s = store(t, key, item);
-            if s.full {
+            let stored = store(table, key, item);
+            if stored.full {
                 return Change::Full;
             }
-            let u = s.table;
-            encode(u, bucket);
+            let changed = stored.table;
+            encode(changed, bucket);
             Change::Done
         }
         Outcome::Malformed => Change::Malformed,
@@ -116,18 +119,18 @@ fn put_in(bucket: &mut [u8], key: Key, value: Value) -> Change
 
 // The bucket without a key, in place; 13 where the bucket is refused.
 pub fn remove(bucket: &mut [u8], key: &[u8]) -> Outcome
-    ensures { λ r. ⌜ answer (outcomeNumber r) (now (bucket .exit)) ≡ removeOf (now (bucket .entry)) (now (key .entry)) ⌝ }
+    ensures { λ r. ⌜ numbered (outcomeNumber r) (now (bucket .exit)) ≡ removeOf (now (bucket .entry)) (now (key .entry)) ⌝ }
 {
-    let r = read(bucket);
-    let t = r.table;
-    let o = r.outcome;
-    match o {
+    let reading = read(bucket);
+    let table = reading.table;
+    let outcome = reading.outcome;
+    match outcome {
         Outcome::Accepted => {
-            if 8 < key.len() {
+            if KEY_ROOM < key.len() {
                 return Outcome::Accepted;
             }
-            let u = slots::remove(t, key_of(key));
-            encode(u, bucket);
+            let changed = slots::remove(table, key_of(key));
+            encode(changed, bucket);
             Outcome::Accepted
         }
         Outcome::Malformed => Outcome::Malformed,
@@ -135,39 +138,39 @@ pub fn remove(bucket: &mut [u8], key: &[u8]) -> Outcome
 }
 
 // The key of a slot, its length within its bytes: a slot that is not in use may hold any.
-fn trimmed_key(s: Slot) -> Key
-    ensures { λ r. ⌜ TrimmedKey (s .key) r ⌝ }
+fn trimmed_key(slot: Slot) -> Key
+    ensures { λ r. ⌜ TrimmedKey (slot .key) r ⌝ }
 {
-    let k = s.key;
-    let n = key_length(k);
-    let b = k.bytes;
-    Key { bytes: b, len: n }
+    let key = slot.key;
+    let len = key_length(key);
+    let bytes = key.bytes;
+    Key { bytes, len }
 }
 
 // The keys of the four slots.
-fn keys_of(t: Decoded) -> [Key; 4]
-    ensures { λ r. ⌜ KeysTaken (t .slots) r ⌝ }
+fn keys_of(table: Decoded) -> [Key; TABLE_ROOM]
+    ensures { λ r. ⌜ KeysTaken (table .slots) r ⌝ }
 {
-    let slots = t.slots;
-    let a = trimmed_key(slots[0]);
-    let b = trimmed_key(slots[1]);
-    let c = trimmed_key(slots[2]);
-    let d = trimmed_key(slots[3]);
-    [a, b, c, d]
+    let slots = table.slots;
+    let first = trimmed_key(slots[0]);
+    let second = trimmed_key(slots[1]);
+    let third = trimmed_key(slots[2]);
+    let fourth = trimmed_key(slots[3]);
+    [first, second, third, fourth]
 }
 
 // All keys, rising; 13 where the bucket is refused, which is read as a table of no entries.
 pub fn list_keys(bucket: &[u8]) -> Listing
     ensures { λ r. ⌜ KeysListed (now (bucket .entry)) r ⌝ }
 {
-    let r = read(bucket);
-    let outcome = r.outcome;
-    let t = r.table;
-    let n = count_of(t);
-    let keys = keys_of(t);
+    let reading = read(bucket);
+    let outcome = reading.outcome;
+    let table = reading.table;
+    let count = count_of(table);
+    let keys = keys_of(table);
     Listing {
         outcome,
-        count: n,
+        count,
         keys,
     }
 }

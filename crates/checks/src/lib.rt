@@ -1,7 +1,10 @@
 // Tests on decoded tables: whether one has a bucket form, and whether its own numbers are within its arrays.
 use entries::Decoded;
+use entries::KEY_ROOM;
 use entries::Order;
 use entries::Slot;
+use entries::TABLE_ROOM;
+use entries::VALUE_ROOM;
 use entries::keys::compare;
 use entries::keys::key_length;
 use entries::slots::count_of;
@@ -12,10 +15,10 @@ ghost use Rattle.table.specs.Form.{sized, rising, fits};
 ghost use Rattle.checks.specs.Tests.{soundSlots, sound, Sized};
 
 // A key of 1 to 8 bytes; no value has more than 16.
-fn entry_sized(s: Slot) -> bool
-    ensures { λ r. ⌜ r ≡ sized 16 (entryIn s ∷ []) ⌝ }
+fn entry_sized(slot: Slot) -> bool
+    ensures { λ r. ⌜ r ≡ sized 16 (entryIn slot ∷ []) ⌝ }
 {
-    let key = s.key;
+    let key = slot.key;
     if key_length(key) == 0 {
         return false;
     }
@@ -23,15 +26,15 @@ fn entry_sized(s: Slot) -> bool
 }
 
 // The same of every entry.
-fn all_sized(t: Decoded) -> bool
-    ensures { λ r. ⌜ Sized (tableIn t) r ⌝ }
+fn all_sized(table: Decoded) -> bool
+    ensures { λ r. ⌜ Sized (tableIn table) r ⌝ }
 {
-    let n = count_of(t);
-    let slots = t.slots;
+    let count = count_of(table);
+    let slots = table.slots;
     let mut i = 0;
-    while i < n {
-        let s = slots[i];
-        if entry_sized(s) {
+    while i < count {
+        let slot = slots[i];
+        if entry_sized(slot) {
             i += 1;
         } else {
             return false;
@@ -41,19 +44,19 @@ fn all_sized(t: Decoded) -> bool
 }
 
 // Each key is before the next.
-fn all_rising(t: Decoded) -> bool
-    ensures { λ r. ⌜ r ≡ rising (tableIn t) ⌝ }
+fn all_rising(table: Decoded) -> bool
+    ensures { λ r. ⌜ r ≡ rising (tableIn table) ⌝ }
 {
-    let n = count_of(t);
-    let slots = t.slots;
+    let count = count_of(table);
+    let slots = table.slots;
     let mut i = 0;
-    while i + 1 < n {
-        let a = slots[i];
-        let b = slots[i + 1];
-        let ka = a.key;
-        let kb = b.key;
-        let o = compare(ka, kb);
-        match o {
+    while i + 1 < count {
+        let slot = slots[i];
+        let next = slots[i + 1];
+        let key = slot.key;
+        let next_key = next.key;
+        let order = compare(key, next_key);
+        match order {
             Order::Before => {
                 i += 1;
             }
@@ -65,43 +68,43 @@ fn all_rising(t: Decoded) -> bool
 }
 
 // Whether a decoded table has a bucket form.
-pub fn fits(t: Decoded) -> bool
-    ensures { λ r. ⌜ r ≡ fits 4 16 (tableIn t) ⌝ }
+pub fn fits(table: Decoded) -> bool
+    ensures { λ r. ⌜ r ≡ fits 4 16 (tableIn table) ⌝ }
 {
-    if all_sized(t) {
-        return all_rising(t);
+    if all_sized(table) {
+        return all_rising(table);
     }
     false
 }
 
 // Whether the numbers of a slot are within its arrays.
-fn slot_sound(s: Slot) -> bool
-    ensures { λ r. ⌜ r ≡ soundSlots (s ∷ []) ⌝ }
+fn slot_sound(slot: Slot) -> bool
+    ensures { λ r. ⌜ r ≡ soundSlots (slot ∷ []) ⌝ }
 {
-    let key = s.key;
-    let value = s.value;
-    if 8 < key.len {
+    let key = slot.key;
+    let value = slot.value;
+    if KEY_ROOM < key.len {
         return false;
     }
-    if 16 < value.len {
+    if VALUE_ROOM < value.len {
         return false;
     }
     true
 }
 
 // Whether the count and the lengths in use are within the arrays.
-pub fn sound(t: Decoded) -> bool
-    ensures { λ r. ⌜ r ≡ sound t ⌝ }
+pub fn sound(table: Decoded) -> bool
+    ensures { λ r. ⌜ r ≡ sound table ⌝ }
 {
-    let n = t.count;
-    if 4 < n {
+    let count = table.count;
+    if TABLE_ROOM < count {
         return false;
     }
-    let slots = t.slots;
+    let slots = table.slots;
     let mut i = 0;
-    while i < n {
-        let s = slots[i];
-        if slot_sound(s) {
+    while i < count {
+        let slot = slots[i];
+        if slot_sound(slot) {
             i += 1;
         } else {
             return false;

@@ -6,7 +6,8 @@ use native.Mathlib.Omega.{arith}
 use lib.Dec.{ltb, eqb}
 use borrow.Author.Tests.{ltb-true, ltb-false, eqb-true, eqb-false}
 use Rattle.model.specs.Cluster.{Version, above}
-use Rattle.history.specs.Version.{_≼_, _≺_, lt-not-le}
+use Rattle.history.specs.Version.{_≼_, _≺_}
+use Rattle.history.proofs.VersionLaws.{lt-not-le}
 
 pub above-lt : (v w : Version) → above v w ≡ true → w ≺ v
 unfolding above

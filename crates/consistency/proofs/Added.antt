@@ -3,7 +3,7 @@ use mathlib.Core.Path.{_≡_, refl}
 use mathlib.Core.Logic.{inl, inr}
 use mathlib.Core.Option.{some}
 use Prim.Native.Nat.{ℕ}
-use Rattle.history.specs.Members.{each-cons}
+use Rattle.history.proofs.MemberLaws.{each-cons}
 use Rattle.consistency.proofs.Log.{Vote, Win, Write, Accept, Report, Opened, Check, Begun, Ended, Log}
 use Rattle.consistency.proofs.Claims.{Won}
 use Rattle.consistency.proofs.Growth.{Adds, TakenAt}

@@ -11,7 +11,8 @@ use Rattle.entries.specs.Entries.{Entry}
 use Rattle.model.specs.Calls.{Words}
 use Rattle.model.specs.Cluster.{copyAt, Copy, leading, Round, Call, roundAt, callAt, Server}
 use Rattle.model.specs.Leader.{beginCall}
-use Rattle.history.specs.Members.{_∈_, first-in}
+use Rattle.history.specs.Members.{_∈_}
+use Rattle.history.proofs.MemberLaws.{first-in}
 use Rattle.consistency.proofs.Log.{Write, Begun, Log}
 use Rattle.consistency.proofs.Claims.{Chosen}
 use Rattle.consistency.proofs.Invariant.{Unwritten, Unended, Makes, kept, changed, LogOk, BucketOk, ServerOk}

@@ -8,9 +8,10 @@ use native.Mathlib.Omega.{arith}
 use Rattle.entries.specs.Entries.{Entry}
 use Rattle.model.specs.Calls.{Result, done, answers, writes, effect}
 use Rattle.model.specs.Cluster.{Version}
-use Rattle.history.specs.Members.{_∈_, clash}
+use Rattle.history.specs.Members.{_∈_}
 use Rattle.history.specs.Version.{_≼_}
 use Rattle.history.specs.History.{Quorums, Write, Accept, Report, Check, End, answered, Call, History, Holds, Chosen, Makes, Origin, Succeeds, ByWrite, ByCheck, Facts}
+use Rattle.history.proofs.MemberLaws.{clash}
 use Rattle.consistency.proofs.Majorities.{quorums}
 use Rattle.consistency.proofs.Log.{Log}
 use Rattle.consistency.proofs.Log

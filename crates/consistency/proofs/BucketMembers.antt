@@ -4,8 +4,9 @@ use mathlib.Core.List.{List, [], _∷_, map, List·Memᴰ·head, List·Memᴰ·t
 use Prim.Native.Nat.{ℕ}
 use native.Mathlib.Decide.{ℕ-discrete}
 use Rattle.model.specs.Calls.{Result, value, listed, done, mismatch, full, notdone, unknown}
-use Rattle.history.specs.Members.{_∈_, first-in, none-in, each-cons}
+use Rattle.history.specs.Members.{_∈_}
 use Rattle.history.specs.History.{End, never, answered}
+use Rattle.history.proofs.MemberLaws.{first-in, none-in, each-cons}
 use Rattle.consistency.proofs.Log.{Ended}
 use Rattle.consistency.proofs.OneBucket.{plain, putIf, inBucket, endBy, orElse, endOf}
 

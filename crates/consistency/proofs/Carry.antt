@@ -6,7 +6,8 @@ use mathlib.Core.Option.{Option}
 use Prim.Native.Nat.{ℕ, _≤_}
 use Rattle.entries.specs.Entries.{Entry}
 use Rattle.model.specs.Cluster.{Version}
-use Rattle.history.specs.Members.{_∈_, each-cons}
+use Rattle.history.specs.Members.{_∈_}
+use Rattle.history.proofs.MemberLaws.{each-cons}
 use Rattle.consistency.proofs.Log.{Vote, Win, Write, Accept, Report, Opened, Check, Begun, Ended, Log, _⊆_, Grows}
 use Rattle.consistency.proofs.Claims.{Holds, later}
 use Rattle.consistency.proofs.Claims

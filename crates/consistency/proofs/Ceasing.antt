@@ -12,7 +12,8 @@ use Rattle.model.specs.Calls.{notdone, unknown}
 use Rattle.model.specs.Cluster.{Stored, copyAt, Role, follower, candidate, leading, Purpose, recoveryRead, recoveryWrite, check, ownWrite, Round, Call, Volatile, roundAt, callAt, Copy, Version, Server}
 use Rattle.model.specs.Leader.{noReaction, ended, endings, ceased, cease, acts, stepDown}
 use Rattle.model.proofs.Replicas.{step-down-cases}
-use Rattle.history.specs.Members.{_∈_, none-in}
+use Rattle.history.specs.Members.{_∈_}
+use Rattle.history.proofs.MemberLaws.{none-in}
 use Rattle.consistency.proofs.Log.{Ended, Log, Grows, _⊆_}
 use Rattle.consistency.proofs.Invariant.{Unwritten, LogOk, EndOk, undone, unsure, StoredOk, CallOk, PhaseOk, BucketOk, Idle, RoleOk, Shape, ServerOk}
 use Rattle.consistency.proofs.Growth.{won-grows, holds-grows, Adds}

@@ -16,8 +16,10 @@ use Rattle.model.specs.Cluster.{Version, version, above, Copy, copyOf, copyAt, 
 use Rattle.model.specs.Replica.{reading, writing, requestBody, accepting}
 use Rattle.model.specs.Leader.{Reaction, isOwn, reportTo, newRound, closes, opening, openRound, broadcast, finish, nextVersion, applying, afterRead, checking, recovering, recovered, startRead, startCall, closed}
 use Rattle.model.proofs.FirstRound.{first-round}
-use Rattle.history.specs.Members.{_∈_, first-in, none-in, each-cons}
-use Rattle.history.specs.Version.{_≼_, _≺_, lt-of-le-lt}
+use Rattle.history.specs.Members.{_∈_}
+use Rattle.history.specs.Version.{_≼_, _≺_}
+use Rattle.history.proofs.MemberLaws.{first-in, none-in, each-cons}
+use Rattle.history.proofs.VersionLaws.{lt-of-le-lt}
 use Rattle.consistency.proofs.Majorities.{MajorityOf}
 use Rattle.consistency.proofs.Log.{Write, Opened, Check, Log}
 use Rattle.consistency.proofs.Claims.{Holds, first, later, Chosen, Reported, MessageOk}

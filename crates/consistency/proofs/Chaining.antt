@@ -4,7 +4,8 @@ use mathlib.Core.List.{List, []}
 use Prim.Native.Nat.{ℕ}
 use Rattle.model.specs.Cluster.{Server, Message}
 use Rattle.model.specs.Leader.{Reaction, reaction, after}
-use Rattle.history.specs.Members.{_∈_, none-in, each-append}
+use Rattle.history.specs.Members.{_∈_}
+use Rattle.history.proofs.MemberLaws.{none-in, each-append}
 use Rattle.consistency.proofs.Log.{Log}
 use Rattle.consistency.proofs.Claims.{MessageOk}
 use Rattle.consistency.proofs.Invariant.{LogOk, ServerOk}

@@ -13,7 +13,7 @@ use Rattle.model.specs.Stores.{copyStore, putStore}
 use Rattle.model.proofs.Stores.{cut-cases}
 use Rattle.model.specs.Leader.{reaction, ceased, forgotten}
 use Rattle.model.specs.Lines.{halted, cutServer, restarted}
-use Rattle.history.specs.Members.{none-in}
+use Rattle.history.proofs.MemberLaws.{none-in}
 use Rattle.consistency.proofs.Log.{Log}
 use Rattle.consistency.proofs.Claims.{Won, later, BodyOk, MessageOk}
 use Rattle.consistency.proofs.Invariant.{LogOk, StoredOk, AnyServerOk}

@@ -15,7 +15,8 @@ use Rattle.model.specs.Cluster.{Version, Copy, Stored, copyAt, Role, follower, 
 use Rattle.model.specs.Replica.{voting}
 use Rattle.model.specs.Leader.{noReaction, withStored, withVolatile, broadcast, ceased, cease, votesFor, standing, nextNumber, raisedTo, elect, onAckVote}
 use Rattle.model.proofs.Elections.{above-the-number, above-the-vote, stood, always-stands}
-use Rattle.history.specs.Members.{_∈_, first-in, none-in, each-cons}
+use Rattle.history.specs.Members.{_∈_}
+use Rattle.history.proofs.MemberLaws.{first-in, none-in, each-cons}
 use Rattle.history.proofs.Quorum.{count}
 use Rattle.consistency.proofs.Majorities.{passing, passing-majority, passing-passes}
 use Rattle.consistency.proofs.Log.{Win, Write, Log}

@@ -16,7 +16,8 @@ use Rattle.model.specs.Lines.{initialState}
 use Rattle.model.specs.Text.{bytes}
 use Rattle.model.specs.Run.{stateAfter, linesOf, run}
 use Rattle.model.specs.Compute.{computing}
-use Rattle.history.specs.Members.{_∈_, none-in, each-cons, clash}
+use Rattle.history.specs.Members.{_∈_}
+use Rattle.history.proofs.MemberLaws.{none-in, each-cons, clash}
 use Rattle.consistency.specs.Statement.{Begin, End, same, lookup, alike, stands, without, plainSet, plain, meaning, beginsFrom, endsFrom, begins, ends, Distinct, Before, Fed, OneOrder}
 use Rattle.consistency.proofs.Reached.{serverIn, LeadsIn}
 use Rattle.consistency.proofs.Theorem.{one-order-for-every-script}

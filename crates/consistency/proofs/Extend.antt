@@ -7,8 +7,9 @@ use Prim.Native.Nat.{ℕ, suc, _≤_, _<_}
 use native.Mathlib.Omega.{arith}
 use Rattle.entries.specs.Entries.{Entry}
 use Rattle.model.specs.Cluster.{Version, check}
-use Rattle.history.specs.Members.{_∈_, each-cons}
+use Rattle.history.specs.Members.{_∈_}
 use Rattle.history.specs.Version.{_≼_}
+use Rattle.history.proofs.MemberLaws.{each-cons}
 use Rattle.consistency.proofs.Majorities.{MajorityOf}
 use Rattle.consistency.proofs.Log.{Vote, Win, Write, Accept, Report, Opened, Check, Begun, Ended, Log}
 use Rattle.consistency.proofs.Claims.{Won, Holds, later, Reported}

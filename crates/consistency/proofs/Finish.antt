@@ -8,7 +8,7 @@ use lib.Seq.{getD-set-same, getD-set-other}
 use Rattle.model.specs.Calls.{Result}
 use Rattle.model.specs.Cluster.{copyAt, Call, roundAt, callAt, Server}
 use Rattle.model.specs.Leader.{answerOf, finish}
-use Rattle.history.specs.Members.{none-in, each-cons}
+use Rattle.history.proofs.MemberLaws.{none-in, each-cons}
 use Rattle.consistency.proofs.Log.{Ended, Log}
 use Rattle.consistency.proofs.Claims.{Chosen}
 use Rattle.consistency.proofs.Invariant.{LogOk, EndOk, CallOk}

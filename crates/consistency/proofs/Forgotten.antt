@@ -10,6 +10,7 @@ use native.Mathlib.Omega.{arith}
 use lib.Dec.{eqb}
 use lib.ListN.{length, getD, set, List·getD-map}
 use Rattle.entries.specs.Entries.{Entry}
+use Rattle.model.specs.Measures.{maxElection}
 use Rattle.model.specs.Calls.{Words, Result, done, Effect, answers, writes, effect, bucketFor, Answer}
 use Rattle.model.specs.Cluster.{Copy, freshCopy, Stored, copyAt, Role, follower, candidate, leading, Purpose, recoveryRead, recoveryWrite, check, ownWrite, Mark, acknowledged, refused, Round, Call, roundAt, callAt, Server, Body, pleaseVote, ackVote, nackVote, replicaWrite, ackWrite, nackWrite, replicaRead, ackRead, nackRead, Message, Cluster, freshServer}
 use Rattle.model.specs.Replica.{Request, reading, writing, mayAccept, accepting, acknowledging, refusing}
@@ -21,7 +22,8 @@ use Rattle.model.specs.Run.{step, stateAfter, stateAfterUpTo, outcomes, outcome
 use Rattle.model.proofs.Elections.{always-stands}
 use Rattle.model.proofs.FirstRound.{first-round}
 use Rattle.model.proofs.Replicas.{step-down-cases}
-use Rattle.history.specs.Members.{_∈_, none-in, clash}
+use Rattle.history.specs.Members.{_∈_}
+use Rattle.history.proofs.MemberLaws.{none-in, clash}
 use Rattle.limits.specs.Lists.{All, nil, cons}
 use Rattle.limits.proofs.Counting.{none-applies}
 use Rattle.limits.proofs.Refusals.{ComesOut, refused-by, founded, took, comes-out}
@@ -326,7 +328,7 @@ module _ (x : ℕ) where
   unfolding outcomesUpTo endsFrom
   lines-unanswered s [] h line e m i = none-in m
   lines-unanswered s (l ∷ ls) h line e m i =
-      let (k, u) = line-passes s (parse l) (step s l) (comes-out s l) h in
+      let (k, u) = line-passes s (parse l) (step s l) (comes-out maxElection s l) h in
       lines-unanswered (step s l .state) ls k (line + 1) e (line-unanswered line (step s l .outcome) u (outcomes (step s l .state) ls) e i m) i
 
 -- what a script prints is printed by its first part or after it
@@ -412,4 +414,4 @@ pub never-answered : (ls ms : List (List ℕ)) (l : List ℕ) (s b : ℕ) (k : C
     → step (stateAfter initialState ls) l .outcome ≡ printed []
     → (e : End) → e ∈ ends (ls ++ (l ∷ ms)) → e .number ≡ k .number → ⊥
 never-answered ls ms l s b k e there f =
-    stopped-never-answers ls (l ∷ ms) s b k there (start-stopped (reached ls) (parse l) (step (reached ls) l) s (comes-out (reached ls) l) e f)
+    stopped-never-answers ls (l ∷ ms) s b k there (start-stopped (reached ls) (parse l) (step (reached ls) l) s (comes-out maxElection (reached ls) l) e f)

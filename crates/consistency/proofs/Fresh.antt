@@ -12,8 +12,9 @@ use Rattle.model.specs.Calls.{done, notdone, unknown, answers, effect}
 use Rattle.model.specs.Cluster.{Version, copyAt, Cluster}
 use Rattle.model.specs.Lines.{initialState}
 use Rattle.model.specs.Run.{stateAfter}
-use Rattle.history.specs.Members.{_∈_, none-in, clash}
+use Rattle.history.specs.Members.{_∈_}
 use Rattle.history.specs.Version.{_≼_}
+use Rattle.history.proofs.MemberLaws.{none-in, clash}
 use Rattle.history.proofs.Freshness.{fresh}
 use Rattle.consistency.proofs.Majorities.{MajorityOf, quorums}
 use Rattle.consistency.specs.Statement.{Begin, End, begins, ends, OneOrder}

@@ -8,7 +8,8 @@ use lib.Seq.{getD-set-same, getD-set-other}
 use Rattle.model.specs.Cluster.{Server, Message, Cluster, freshServer}
 use Rattle.model.specs.Leader.{Reaction}
 use Rattle.model.specs.Lines.{serverAt, afterStep}
-use Rattle.history.specs.Members.{_∈_, each-append}
+use Rattle.history.specs.Members.{_∈_}
+use Rattle.history.proofs.MemberLaws.{each-append}
 use Rattle.consistency.proofs.Log.{Log, _⊆_}
 use Rattle.consistency.proofs.Claims.{MessageOk}
 use Rattle.consistency.proofs.Invariant.{LogOk, AnyServerOk}

@@ -5,7 +5,7 @@ use Prim.Native.Nat.{ℕ}
 use Rattle.model.specs.Cluster.{Server, Body, pleaseVote, ackVote, nackVote, replicaWrite, ackWrite, nackWrite, replicaRead, ackRead, nackRead, Message, freshCopy, acknowledged, refused}
 use Rattle.model.specs.Replica.{reading, writing}
 use Rattle.model.specs.Leader.{Reaction, noReaction, onAckVote, onPleaseVote, onRequest, onReply, handle}
-use Rattle.history.specs.Members.{none-in}
+use Rattle.history.proofs.MemberLaws.{none-in}
 use Rattle.consistency.proofs.Log.{Log}
 use Rattle.consistency.proofs.Claims.{MessageOk}
 use Rattle.consistency.proofs.Invariant.{LogOk, ServerOk}

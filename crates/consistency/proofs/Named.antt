@@ -12,7 +12,8 @@ use Rattle.model.specs.Leader.{withStored, nextNumber, replyTo, onRequest}
 use Rattle.model.specs.Lines.{initialState}
 use Rattle.model.specs.Run.{stateAfter}
 use Rattle.model.proofs.Replicas.{step-down-keeps}
-use Rattle.history.specs.Version.{_≼_, lt-not-le}
+use Rattle.history.specs.Version.{_≼_}
+use Rattle.history.proofs.VersionLaws.{lt-not-le}
 use Rattle.consistency.specs.Statement.{_∈_, Begin, End, Distinct, begins, ends}
 use Rattle.consistency.proofs.Claims.{Holds}
 use Rattle.consistency.proofs.Growth.{won-grows, holds-grows, one-winner}

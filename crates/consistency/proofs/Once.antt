@@ -9,7 +9,8 @@ use lib.ListN.{length, getD}
 use Rattle.model.specs.Calls.{Answer}
 use Rattle.model.specs.Cluster.{Call, Server}
 use Rattle.model.specs.Leader.{Reaction, ended, endings}
-use Rattle.history.specs.Members.{_∈_, none-in}
+use Rattle.history.specs.Members.{_∈_}
+use Rattle.history.proofs.MemberLaws.{none-in}
 use Rattle.consistency.specs.Statement.{Distinct}
 use Rattle.consistency.proofs.Log.{Log}
 use Rattle.consistency.proofs.Invariant.{LogOk, ServerOk}

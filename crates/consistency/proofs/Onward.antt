@@ -22,7 +22,8 @@ use Rattle.model.proofs.Elections.{above-the-number, always-stands}
 use Rattle.model.proofs.FirstRound.{first-round}
 use Rattle.model.proofs.Replicas.{step-down-cases}
 use Rattle.model.proofs.Stores.{cut-cases}
-use Rattle.history.specs.Version.{_≼_, _≺_, le-refl, le-trans, le-of-lt}
+use Rattle.history.specs.Version.{_≼_, _≺_}
+use Rattle.history.proofs.VersionLaws.{le-refl, le-trans, le-of-lt}
 use Rattle.consistency.proofs.Above.{above-lt}
 use Rattle.consistency.proofs.Storing.{storing-cases}
 

@@ -11,8 +11,10 @@ use lib.Seq.{getD-set-same, getD-set-other}
 use Rattle.model.specs.Cluster.{Version, copyAt, Purpose, recoveryRead, check, silent, acknowledged, Call, roundAt, callAt, Server}
 use Rattle.model.specs.Replica.{reading, accepting, voting}
 use Rattle.model.specs.Leader.{isOwn, oneMore, newRound, opening, reportTo}
-use Rattle.history.specs.Members.{_∈_, first-in, each-cons}
-use Rattle.history.specs.Version.{_≼_, le-refl}
+use Rattle.history.specs.Members.{_∈_}
+use Rattle.history.specs.Version.{_≼_}
+use Rattle.history.proofs.MemberLaws.{first-in, each-cons}
+use Rattle.history.proofs.VersionLaws.{le-refl}
 use Rattle.consistency.proofs.Log.{Write, Report, Opened, Log}
 use Rattle.consistency.proofs.Claims.{Chosen}
 use Rattle.consistency.proofs.Invariant.{Unwritten, LogOk, StoredOk, CallOk, RoundOk, Shape}

@@ -6,13 +6,15 @@ use mathlib.Core.Option.{Option, none, some}
 use Prim.Native.Nat.{ℕ, zero, suc, _+_}
 use native.Mathlib.Omega.{arith}
 use lib.ListN.{length, getD, set, replicate}
+use Rattle.model.specs.Measures.{maxElection}
 use Rattle.model.specs.Calls.{bucketFor}
 use Rattle.model.specs.Cluster.{Copy, freshCopy, copyAt, leading, Server, Message, Cluster, freshServer, freshCluster}
 use Rattle.model.specs.Leader.{handle}
 use Rattle.model.specs.Lines.{Line, cluster, elect, call, deliver, copy, lose, timeout, stop, cut, start, State, LineResult, Work, serverAt, messageAt, dropAt, stoppedAt, lostMessage, deliveredTo, delivery, work}
 use Rattle.model.specs.Parse.{parse}
 use Rattle.model.specs.Run.{step, stateAfter, stateAfterUpTo}
-use Rattle.history.specs.Version.{_≼_, le-refl}
+use Rattle.history.specs.Version.{_≼_}
+use Rattle.history.proofs.VersionLaws.{le-refl}
 use Rattle.limits.proofs.Refusals.{ComesOut, refused-by, founded, took, comes-out}
 use Rattle.consistency.proofs.Onward.{Onward, onward-refl, onward-trans, set-either, cut-onward, start-onward, beginCall-moves, cease-goes, elect-goes, handle-goes}
 
@@ -85,7 +87,7 @@ line-onward s o x (took c l i e f room) p = subst⁻¹ (λ k. Onward (serverOf k
 pub lines-onward : (s : State) (ls : List (List ℕ)) (p : ℕ) → Onward (serverIn s p) (serverIn (stateAfter s ls) p)
 unfolding stateAfterUpTo
 lines-onward s [] p = onward-refl _
-lines-onward s (l ∷ ls) p = onward-trans (line-onward s (parse l) (step s l) (comes-out s l) p) (lines-onward (step s l .state) ls p)
+lines-onward s (l ∷ ls) p = onward-trans (line-onward s (parse l) (step s l) (comes-out maxElection s l) p) (lines-onward (step s l .state) ls p)
 
 pub after-both : (s : State) (ls ms : List (List ℕ)) → stateAfter s (ls ++ ms) ≡ stateAfter (stateAfter s ls) ms
 unfolding stateAfterUpTo

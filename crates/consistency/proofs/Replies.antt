@@ -13,8 +13,10 @@ use lib.Seq.{getD-set-same, getD-set-other}
 use borrow.Author.Tests.{eqb-true}
 use Rattle.model.specs.Cluster.{Version, version, above, Copy, freshCopy, copyAt, Role, follower, candidate, leading, Purpose, recoveryRead, recoveryWrite, check, ownWrite, Mark, silent, acknowledged, refused, Round, Call, roundAt, callAt, Server, Message, ackWrite, ackRead}
 use Rattle.model.specs.Leader.{Reaction, noReaction, closes, fails, cease, closed, better, markedBy, reportTo, counted, withRound, counting, onReply}
-use Rattle.history.specs.Members.{_∈_, none-in}
-use Rattle.history.specs.Version.{_≼_, le-refl, le-trans, le-of-lt}
+use Rattle.history.specs.Members.{_∈_}
+use Rattle.history.specs.Version.{_≼_}
+use Rattle.history.proofs.MemberLaws.{none-in}
+use Rattle.history.proofs.VersionLaws.{le-refl, le-trans, le-of-lt}
 use Rattle.consistency.proofs.Log.{Opened, Log}
 use Rattle.consistency.proofs.Claims.{Holds, first, RoundOf, Reported, Accepted, MessageOk, BodyOk}
 use Rattle.consistency.proofs.Claims

@@ -6,7 +6,7 @@ use native.Mathlib.Omega.{arith}
 use lib.ListN.{length}
 use Rattle.model.specs.Cluster.{Stored, Role, follower, candidate, leading, Call, Volatile, Server, Message}
 use Rattle.model.specs.Leader.{withStored, stepDown, replying}
-use Rattle.history.specs.Members.{none-in, each-cons}
+use Rattle.history.proofs.MemberLaws.{none-in, each-cons}
 use Rattle.consistency.proofs.Log.{Log}
 use Rattle.consistency.proofs.Claims.{Won, MessageOk}
 use Rattle.consistency.proofs.Invariant.{LogOk, StoredOk, RoleOk, ServerOk}

@@ -10,7 +10,7 @@ use borrow.Author.Tests.{ltb-false}
 use Rattle.model.specs.Cluster.{Copy, copyAt, Server, Body, replicaWrite, replicaRead, Message}
 use Rattle.model.specs.Replica.{voting, Request, reading, writing, mayAccept, storing, accepting, acknowledging, refusing}
 use Rattle.model.specs.Leader.{reaction, withStored, stepDown, replyTo, replying, onRequest}
-use Rattle.history.specs.Members.{first-in, none-in, each-cons}
+use Rattle.history.proofs.MemberLaws.{first-in, none-in, each-cons}
 use Rattle.consistency.proofs.Log.{Log}
 use Rattle.consistency.proofs.Claims.{Won, later, BodyOk, MessageOk}
 use Rattle.consistency.proofs.Invariant.{LogOk, ServerOk}

@@ -7,13 +7,15 @@ use Prim.Native.Nat.{ℕ, zero, suc, _+_, _≤_, _<_}
 use native.Mathlib.Omega.{arith}
 use native.Mathlib.Numerals.{add-one}
 use lib.ListN.{length, getD, take, replicate, length-replicate}
+use Rattle.model.specs.Measures.{maxElection}
 use Rattle.model.specs.Calls.{Answer}
 use Rattle.model.specs.Cluster.{freshCopy, freshServer, freshCluster, Cluster, Round, Call, Message}
 use Rattle.model.specs.Lines.{Line, cluster, elect, call, deliver, copy, lose, timeout, stop, cut, start, State, initialState, Outcome, printed, LineResult, Work, serverAt, messageAt, dropAt, stoppedAt, lostMessage, deliveredTo, delivery, work, firstOf, conditions, conditionsUpTo}
 use Rattle.model.specs.Leader.{handle}
 use Rattle.model.specs.Parse.{parse}
 use Rattle.model.specs.Run.{step, stateAfter, stateAfterUpTo, outcomes, outcomesUpTo}
-use Rattle.history.specs.Members.{_∈_, none-in, each-append}
+use Rattle.history.specs.Members.{_∈_}
+use Rattle.history.proofs.MemberLaws.{none-in, each-append}
 use Rattle.limits.proofs.Counting.{none-applies}
 use Rattle.limits.proofs.Refusals.{ComesOut, refused-by, founded, took, comes-out}
 use Rattle.limits.specs.Stands.{Measured}
@@ -409,7 +411,7 @@ run-goes [] now count b s log bs es m h same =
     go (suc k) = passed-first now count b (omega arith) (grows-refl log) h
 run-goes (l ∷ ls) now count b s log bs es m h same =
     leaves-cons count b h
-    (line-goes ls (run-goes ls) l now count b s log bs es m h same (step s l) (comes-out s l) (line-keeps-measures s (parse l) (step s l) (comes-out s l) m))
+    (line-goes ls (run-goes ls) l now count b s log bs es m h same (step s l) (comes-out maxElection s l) (line-keeps-measures maxElection s (parse l) (step s l) (comes-out maxElection s l) m))
 
 -- ---- every script, run from nothing
 

@@ -11,7 +11,8 @@ use Rattle.model.specs.Calls.{Words, bucketFor}
 use Rattle.model.specs.Cluster.{Role, follower, candidate, leading, Message, Cluster, Call, callAt}
 use Rattle.model.specs.Leader.{Reaction, handle}
 use Rattle.model.specs.Lines.{Line, cluster, elect, call, deliver, copy, lose, timeout, stop, cut, start, Tally, conditions, conditionsUpTo, serverAt, messageAt, dropAt, stoppedAt, isLeading, present, byLine, lostMessage, deliveredTo, delivery, work}
-use Rattle.history.specs.Members.{_∈_, none-in, each-append}
+use Rattle.history.specs.Members.{_∈_}
+use Rattle.history.proofs.MemberLaws.{none-in, each-append}
 use Rattle.limits.specs.Lists.{All, nil, cons}
 use Rattle.limits.proofs.Lists.{all-at}
 use Rattle.limits.proofs.Counting.{message-there}

@@ -10,8 +10,9 @@ use lib.ListN.{length, getD, set, length-set}
 use lib.Seq.{getD-set-same, getD-set-other}
 use Rattle.model.specs.Cluster.{Version, above, Copy, freshCopy, Stored, copyAt}
 use Rattle.model.specs.Replica.{voting, withCopy, storing}
-use Rattle.history.specs.Members.{each-cons}
-use Rattle.history.specs.Version.{_≼_, _≺_, le-refl, le-trans, le-of-lt}
+use Rattle.history.specs.Version.{_≼_, _≺_}
+use Rattle.history.proofs.MemberLaws.{each-cons}
+use Rattle.history.proofs.VersionLaws.{le-refl, le-trans, le-of-lt}
 use Rattle.consistency.proofs.Log.{Accept, Report, Log}
 use Rattle.consistency.proofs.Claims.{Won, Holds}
 use Rattle.consistency.proofs.Invariant.{StoredOk}

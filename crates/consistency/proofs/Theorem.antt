@@ -6,11 +6,12 @@ use Prim.Native.Nat.{ℕ}
 use Rattle.entries.specs.Entries.{Entry}
 use Rattle.model.specs.Calls.{Result, value, listed, done, mismatch, full, notdone, unknown}
 use Rattle.model.specs.Cluster.{Cluster}
-use Rattle.history.specs.Members.{_∈_, none-in}
+use Rattle.history.specs.Members.{_∈_}
 use Rattle.history.specs.History.{Call, answered}
 use Rattle.history.specs.History as H
 use Rattle.history.specs.Ordering.{Ordering, by-unknown, by-notdone, by-answer, EndedIn}
 use Rattle.history.specs.Ordering as O
+use Rattle.history.proofs.MemberLaws.{none-in}
 use Rattle.consistency.specs.Statement.{Begin, End, begins, ends, Distinct, Fed, OneOrder}
 use Rattle.consistency.proofs.Log.{Begun, Log}
 use Rattle.consistency.proofs.OneBucket.{historyOf, callOf, endBy}

@@ -9,7 +9,8 @@ use borrow.Author.Tests.{ltb-true, ltb-false, eqb-true}
 use Rattle.model.specs.Cluster.{Stored, Server, ackVote, nackVote, Message}
 use Rattle.model.specs.Replica.{voting, grants, afterVote}
 use Rattle.model.specs.Leader.{withStored, stepDown, replyTo, replying, onPleaseVote}
-use Rattle.history.specs.Members.{_∈_, first-in, each-cons}
+use Rattle.history.specs.Members.{_∈_}
+use Rattle.history.proofs.MemberLaws.{first-in, each-cons}
 use Rattle.consistency.proofs.Log.{Vote, Log}
 use Rattle.consistency.proofs.Claims.{Won, MessageOk}
 use Rattle.consistency.proofs.Invariant.{LogOk, StoredOk, ServerOk}

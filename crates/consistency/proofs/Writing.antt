@@ -13,8 +13,10 @@ use Rattle.entries.specs.Entries.{Entry}
 use Rattle.model.specs.Cluster.{Version, version, above, Copy, copyOf, Stored, freshCopy, copyAt, Purpose, check, Call, roundAt, callAt, Server}
 use Rattle.model.specs.Replica.{writing, accepting, storing, voting}
 use Rattle.model.specs.Leader.{isOwn, oneMore, newRound, opening}
-use Rattle.history.specs.Members.{_∈_, first-in, each-cons}
-use Rattle.history.specs.Version.{_≼_, _≺_, le-refl, le-of-lt}
+use Rattle.history.specs.Members.{_∈_}
+use Rattle.history.specs.Version.{_≼_, _≺_}
+use Rattle.history.proofs.MemberLaws.{first-in, each-cons}
+use Rattle.history.proofs.VersionLaws.{le-refl, le-of-lt}
 use Rattle.consistency.proofs.Log.{Write, Accept, Opened, Log, Grows}
 use Rattle.consistency.proofs.Claims.{later}
 use Rattle.consistency.proofs.Invariant.{Unwritten, LogOk, Origin, Succeeds, StoredOk, MarksAccepted, PhaseOk, CallOk, CopyNewest, ServerOk}

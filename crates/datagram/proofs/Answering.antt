@@ -12,7 +12,7 @@ use Rattle.entries.specs.Decoded.{tableIn}
 use Rattle.table.specs.Form.{fits, bucketBytes}
 use Rattle.checks.specs.Tests.{sound}
 use Rattle.bucket.specs.Answers as bucket
-use Rattle.bucket.specs.Answers.{answer}
+use Rattle.bucket.specs.Answers.{numbered}
 use Rattle.datagram.specs.declared.Datagram as code
 use Rattle.datagram.specs.declared.Outcome.the-variants.{Accepted, BadBucket, BadDatagram}
 use Rattle.datagram.specs.declared.Reading.{Reading}
@@ -54,19 +54,19 @@ unfolding headerBytes versionBytes big
 length-front d v = refl
 
 -- what the bucket writer does to the part that it is lent
-part-written : (t : Decoded) (part after : List ℕ) (n : ℕ) → (sound t && fits 4 16 (tableIn t)) ≡ true → 113 ≤ length part → answer n after ≡ bucket.writeOf t part → after ≡ bucketBytes 4 16 (tableIn t) ++ drop 113 part
+part-written : (t : Decoded) (part after : List ℕ) (n : ℕ) → (sound t && fits 4 16 (tableIn t)) ≡ true → 113 ≤ length part → numbered n after ≡ bucket.writeOf t part → after ≡ bucketBytes 4 16 (tableIn t) ++ drop 113 part
 unfolding bucket.writeOf
 part-written t part after n f l e = go (sound t) refl (fits 4 16 (tableIn t)) refl
   where
     go : (p : Bool) → sound t ≡ p → (q : Bool) → fits 4 16 (tableIn t) ≡ q → after ≡ bucketBytes 4 16 (tableIn t) ++ drop 113 part
     go true p true q =
-        let w : bucket.writeOf t part ≡ answer 0 (bucketBytes 4 16 (tableIn t) ++ drop 113 part) = rw (bucket.writeOf, p, q, le-leb 113 (length part) l) in
+        let w : bucket.writeOf t part ≡ numbered 0 (bucketBytes 4 16 (tableIn t) ++ drop 113 part) = rw (bucket.writeOf, p, q, le-leb 113 (length part) l) in
         ap (λ a. a .bytes) (e ∙ w)
     go true p false q = let z : _≡_ {A = ℕ} 0 1 = cc (rw (p, q) at f) in absurd (omega arith)
     go false p q r = let z : _≡_ {A = ℕ} 0 1 = cc (rw p at f) in absurd (omega arith)
 
 -- the whole, after the part from byte 16 on has come back
-pub full-stored : (d : code.Datagram) (out front after : List ℕ) (n : ℕ) → 129 ≤ length out → (sound (d .table) && fits 4 16 (tableIn (d .table))) ≡ true → front ≡ sets (sets out 0 (headerBytes (meant d))) 10 (versionBytes (meant d .version)) → answer n after ≡ bucket.writeOf (d .table) (take (length front - 16) (drop 16 front)) → take 16 front ++ (after ++ drop (length front - 16) (drop 16 front)) ≡ fullBytes (meant d) ++ drop 129 out
+pub full-stored : (d : code.Datagram) (out front after : List ℕ) (n : ℕ) → 129 ≤ length out → (sound (d .table) && fits 4 16 (tableIn (d .table))) ≡ true → front ≡ sets (sets out 0 (headerBytes (meant d))) 10 (versionBytes (meant d .version)) → numbered n after ≡ bucket.writeOf (d .table) (take (length front - 16) (drop 16 front)) → take 16 front ++ (after ++ drop (length front - 16) (drop 16 front)) ≡ fullBytes (meant d) ++ drop 129 out
 unfolding fullBytes meant
 full-stored d out front after n l f w e =
     let x = headerBytes (meant d) in
@@ -95,27 +95,27 @@ module _ (d : code.Datagram) (out : List ℕ) where
     unfolding tableFits meant
     fits-none = rw (tableFits, c)
 
-    pub write-plain-wrong : wellFormed (meant d) ≡ false → answer 14 out ≡ writeOf d out
+    pub write-plain-wrong : wellFormed (meant d) ≡ false → numbered 14 out ≡ writeOf d out
     unfolding writeOf writeDatagram
     write-plain-wrong h = rw (writeOf, c, writeDatagram, fits-none, h)
 
     module _ (h : wellFormed (meant d) ≡ true) where
-      pub write-plain-short : length out < 10 → answer 15 out ≡ writeOf d out
+      pub write-plain-short : length out < 10 → numbered 15 out ≡ writeOf d out
       unfolding writeOf writeDatagram meant
       write-plain-short l = rw (writeOf, c, writeDatagram, fits-none, h, plain-length (d .kind) c, lt-leb 10 (length out) l)
 
-      pub write-plain-done : (after : List ℕ) → 10 ≤ length out → after ≡ sets out 0 (headerBytes (meant d)) → answer 0 after ≡ writeOf d out
+      pub write-plain-done : (after : List ℕ) → 10 ≤ length out → after ≡ sets out 0 (headerBytes (meant d)) → numbered 0 after ≡ writeOf d out
       unfolding writeOf writeDatagram meant
       write-plain-done after l e =
           rw (writeOf, c, writeDatagram, fits-none, h, plain-length (d .kind) c, le-leb 10 (length out) l, plain-length (d .kind) c, plain-bytes (meant d) c)
-          (ap (answer 0) (e ∙ header-stored (meant d) out l))
+          (ap (numbered 0) (e ∙ header-stored (meant d) out l))
 
   module _ (c : carries (d .kind) ≡ true) where
-    pub write-unfit : (sound (d .table) && fits 4 16 (tableIn (d .table))) ≡ false → answer 13 out ≡ writeOf d out
+    pub write-unfit : (sound (d .table) && fits 4 16 (tableIn (d .table))) ≡ false → numbered 13 out ≡ writeOf d out
     unfolding writeOf writeDatagram tableFits meant
     write-unfit f = go (sound (d .table)) refl
       where
-        go : (p : Bool) → sound (d .table) ≡ p → answer 13 out ≡ writeOf d out
+        go : (p : Bool) → sound (d .table) ≡ p → numbered 13 out ≡ writeOf d out
         go true p = rw (writeOf, c, p, writeDatagram, tableFits, c, rw p at f)
         go false p = rw (writeOf, c, p)
 
@@ -127,15 +127,15 @@ module _ (d : code.Datagram) (out : List ℕ) where
       unfolding tableFits meant
       fits-carried = rw (tableFits, c) (and-parts (sound (d .table)) _ f .1)
 
-      pub write-full-wrong : wellFormed (meant d) ≡ false → answer 14 out ≡ writeOf d out
+      pub write-full-wrong : wellFormed (meant d) ≡ false → numbered 14 out ≡ writeOf d out
       unfolding writeOf writeDatagram
       write-full-wrong h = rw (writeOf, c, was-sound, writeDatagram, fits-carried, h)
 
       module _ (h : wellFormed (meant d) ≡ true) where
-        pub write-full-short : length out < 129 → answer 15 out ≡ writeOf d out
+        pub write-full-short : length out < 129 → numbered 15 out ≡ writeOf d out
         unfolding writeOf writeDatagram meant
         write-full-short l = rw (writeOf, c, was-sound, writeDatagram, fits-carried, h, full-length (d .kind) c, lt-leb 129 (length out) l)
 
-        pub write-full-done : (after : List ℕ) → 129 ≤ length out → after ≡ fullBytes (meant d) ++ drop 129 out → answer 0 after ≡ writeOf d out
+        pub write-full-done : (after : List ℕ) → 129 ≤ length out → after ≡ fullBytes (meant d) ++ drop 129 out → numbered 0 after ≡ writeOf d out
         unfolding writeOf writeDatagram meant
         write-full-done after l e = rw (writeOf, c, was-sound, writeDatagram, fits-carried, h, full-length (d .kind) c, le-leb 129 (length out) l, full-length (d .kind) c, full-bytes (meant d) c, e)

@@ -6,7 +6,7 @@ use Prim.Native.Nat.{ℕ}
 use Rattle.entries.specs.declared.Decoded.{Decoded}
 use Rattle.entries.specs.Decoded.{tableIn}
 use Rattle.checks.specs.Tests.{sound}
-use Rattle.bucket.specs.Answers.{Answer, answer}
+use Rattle.bucket.specs.Answers.{Numbered, numbered}
 use Rattle.datagram.specs.declared.Datagram as code
 use Rattle.datagram.specs.declared.Reading.{Reading}
 use Rattle.datagram.specs.declared.Outcome.{Outcome}
@@ -77,10 +77,10 @@ pub record Made (d : Datagram) (t : Decoded) (r : code.Datagram) : Type 0 where
 -- ---- writing
 
 -- A table whose count or lengths are above its arrays has no bucket form, and gives 13 as any other such table.
-unfoldable pub writeOf : code.Datagram → List ℕ → Answer
+unfoldable pub writeOf : code.Datagram → List ℕ → Numbered
 writeOf d out =
     elim (carries (d .kind)) [
       | false ↦ writeDatagram (meant d) out
       | true ↦
-          elim (sound (d .table)) [ false ↦ answer 13 out | true ↦ writeDatagram (meant d) out ]
+          elim (sound (d .table)) [ false ↦ numbered 13 out | true ↦ writeDatagram (meant d) out ]
     ]

@@ -1,4 +1,6 @@
 // The calls on datagrams for programs in other languages: numbers and slices only.
+use bucket_c::MALFORMED;
+use bucket_c::SHORT;
 use bucket_c::table_from;
 use datagram::Datagram;
 use datagram::Outcome;
@@ -6,30 +8,33 @@ use datagram::Written;
 use datagram::read;
 use datagram::write;
 ghost use mathlib.Core.Path.{_≡_};
-ghost use Rattle.bucket.specs.Answers.{answer};
+ghost use Rattle.bucket.specs.Answers.{numbered};
 ghost use Rattle.bucket_c.specs.Exports.{tableFrom};
 ghost use Rattle.fields.specs.Form.{readDatagram};
 ghost use Rattle.datagram.specs.Answers.{outcomeNumber, writtenNumber, writeOf};
 ghost use Rattle.datagram_c.specs.Exports.{parsedNumber, rewritten};
 
-fn outcome_number(o: Outcome) -> u32
-    ensures { λ r. ⌜ r ≡ outcomeNumber o ⌝ }
+// The refusal that buckets do not have.
+const BAD_DATAGRAM: u32 = 14;
+
+fn outcome_number(outcome: Outcome) -> u32
+    ensures { λ r. ⌜ r ≡ outcomeNumber outcome ⌝ }
 {
-    match o {
+    match outcome {
         Outcome::Accepted => 0,
-        Outcome::BadBucket => 13,
-        Outcome::BadDatagram => 14,
+        Outcome::BadBucket => MALFORMED,
+        Outcome::BadDatagram => BAD_DATAGRAM,
     }
 }
 
-fn written_number(w: Written) -> u32
-    ensures { λ r. ⌜ r ≡ writtenNumber w ⌝ }
+fn written_number(written: Written) -> u32
+    ensures { λ r. ⌜ r ≡ writtenNumber written ⌝ }
 {
-    match w {
+    match written {
         Written::Accepted => 0,
-        Written::BadBucket => 13,
-        Written::BadDatagram => 14,
-        Written::Short => 15,
+        Written::BadBucket => MALFORMED,
+        Written::BadDatagram => BAD_DATAGRAM,
+        Written::Short => SHORT,
     }
 }
 
@@ -38,26 +43,26 @@ fn written_number(w: Written) -> u32
 pub extern "C" fn datagram_read(bytes: &[u8]) -> u32
     ensures { λ r. ⌜ r ≡ parsedNumber (readDatagram (now (bytes .entry))) ⌝ }
 {
-    let r = read(bytes);
-    let o = r.outcome;
-    outcome_number(o)
+    let reading = read(bytes);
+    let outcome = reading.outcome;
+    outcome_number(outcome)
 }
 
 // What is read is written to `out`: 0, else 13 or 14, else 15 where `out` is shorter than its 10 or 129 bytes.
 #[no_mangle]
 pub extern "C" fn datagram_rewrite(bytes: &[u8], out: &mut [u8]) -> u32
-    ensures { λ r. ⌜ answer r (now (out .exit)) ≡ rewritten (readDatagram (now (bytes .entry))) (now (out .entry)) ⌝ }
+    ensures { λ r. ⌜ numbered r (now (out .exit)) ≡ rewritten (readDatagram (now (bytes .entry))) (now (out .entry)) ⌝ }
 {
-    let r = read(bytes);
-    let d = r.datagram;
-    let o = r.outcome;
-    match o {
+    let reading = read(bytes);
+    let datagram = reading.datagram;
+    let outcome = reading.outcome;
+    match outcome {
         Outcome::Accepted => {
-            let w = write(d, out);
-            written_number(w)
+            let written = write(datagram, out);
+            written_number(written)
         }
-        Outcome::BadBucket => 13,
-        Outcome::BadDatagram => 14,
+        Outcome::BadBucket => MALFORMED,
+        Outcome::BadDatagram => BAD_DATAGRAM,
     }
 }
 
@@ -78,10 +83,10 @@ pub extern "C" fn datagram_write(
     bytes: &[u8],
     out: &mut [u8],
 ) -> u32
-    ensures { λ r. ⌜ answer r (now (out .exit)) ≡ writeOf (record { kind = kind; from = from; to = to; bucket = bucket; election = election; round = round; «version_election» = number; «version_counter» = counter; table = tableFrom count (now (lengths .entry)) (now (bytes .entry)) }) (now (out .entry)) ⌝ }
+    ensures { λ r. ⌜ numbered r (now (out .exit)) ≡ writeOf (record { kind = kind; from = from; to = to; bucket = bucket; election = election; round = round; «version_election» = number; «version_counter» = counter; table = tableFrom count (now (lengths .entry)) (now (bytes .entry)) }) (now (out .entry)) ⌝ }
 {
     let table = table_from(count, lengths, bytes);
-    let d = Datagram {
+    let datagram = Datagram {
         kind,
         from,
         to,
@@ -92,6 +97,6 @@ pub extern "C" fn datagram_write(
         version_counter: counter,
         table,
     };
-    let w = write(d, out);
-    written_number(w)
+    let written = write(datagram, out);
+    written_number(written)
 }

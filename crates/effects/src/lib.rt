@@ -3,18 +3,22 @@ use entries::Decoded;
 use entries::Item;
 use entries::Key;
 use entries::Value;
+use entries::keys::no_value;
 use entries::keys::value_length;
 use entries::slots::absent;
-use entries::slots::empty_value;
 use entries::slots::find;
 use entries::slots::store;
 use server::Effect;
 use server::Words;
 use server::codes::ABSENT;
+use server::codes::DEL;
 use server::codes::FULL;
+use server::codes::GET;
 use server::codes::LISTED;
 use server::codes::MISMATCH;
 use server::codes::NO_RESULT;
+use server::codes::SET;
+use server::codes::SETIF;
 use server::codes::VALUE;
 ghost use mathlib.Core.Path.{_≡_};
 ghost use Prim.Native.Nat.{ℕ};
@@ -28,24 +32,24 @@ ghost use Rattle.server.specs.Views.{wordsIn, effectIn};
 pub fn same_value(a: Value, b: Value) -> bool
     ensures { λ r. ⌜ r ≡ sameBytes (valueBytes a) (valueBytes b) ⌝ }
 {
-    let n = value_length(a);
-    let m = value_length(b);
-    let x = a.bytes;
-    let y = b.bytes;
+    let a_len = value_length(a);
+    let b_len = value_length(b);
+    let a_bytes = a.bytes;
+    let b_bytes = b.bytes;
     let mut i = 0;
-    while i < n {
-        if m <= i {
+    while i < a_len {
+        if b_len <= i {
             return false;
         }
-        if x[i] < y[i] {
+        if a_bytes[i] < b_bytes[i] {
             return false;
         }
-        if y[i] < x[i] {
+        if b_bytes[i] < a_bytes[i] {
             return false;
         }
         i += 1;
     }
-    if n < m { false } else { true }
+    if a_len < b_len { false } else { true }
 }
 
 // Whether two values are the same; an absent one is the same as an absent one alone.
@@ -62,45 +66,45 @@ fn same_item(a: Item, b: Item) -> bool
 }
 
 // `get K`
-fn getting(k: Key, t: Decoded) -> Effect
-    ensures { λ r. ⌜ effectIn r ≡ effect (calls.get (keyBytes k)) (tableIn t) ⌝ }
+fn getting(key: Key, table: Decoded) -> Effect
+    ensures { λ r. ⌜ effectIn r ≡ effect (calls.get (keyBytes key)) (tableIn table) ⌝ }
 {
-    let found = find(t, k);
+    let found = find(table, key);
     let value = found.value;
     if found.there {
         return Effect {
             result: VALUE,
             value,
-            table: t,
+            table,
         };
     }
     Effect {
         result: ABSENT,
         value,
-        table: t,
+        table,
     }
 }
 
 // `keys`
-fn listing(t: Decoded) -> Effect
-    ensures { λ r. ⌜ ((b : ℕ) → effectIn r ≡ effect (calls.keys b) (tableIn t)) ⌝ }
+fn listing(table: Decoded) -> Effect
+    ensures { λ r. ⌜ ((b : ℕ) → effectIn r ≡ effect (calls.keys b) (tableIn table)) ⌝ }
 {
-    let value = empty_value();
+    let value = no_value();
     Effect {
         result: LISTED,
         value,
-        table: t,
+        table,
     }
 }
 
 // `set K V`: the new table is to be written, or there is no room.
-pub fn setting(k: Key, v: Item, t: Decoded) -> Effect
-    ensures { λ r. ⌜ effectIn r ≡ setting (keyBytes k) (itemIn v) (tableIn t) ⌝ }
+pub fn setting(key: Key, item: Item, old: Decoded) -> Effect
+    ensures { λ r. ⌜ effectIn r ≡ setting (keyBytes key) (itemIn item) (tableIn old) ⌝ }
 {
-    let value = empty_value();
-    let s = store(t, k, v);
-    let table = s.table;
-    if s.full {
+    let value = no_value();
+    let stored = store(old, key, item);
+    let table = stored.table;
+    if stored.full {
         return Effect {
             result: FULL,
             value,
@@ -115,42 +119,42 @@ pub fn setting(k: Key, v: Item, t: Decoded) -> Effect
 }
 
 // `setif K E V`: the present value is looked at before there is found to be no room.
-fn setting_if(k: Key, e: Item, v: Item, t: Decoded) -> Effect
-    ensures { λ r. ⌜ effectIn r ≡ effect (calls.setif (keyBytes k) (itemIn e) (itemIn v)) (tableIn t) ⌝ }
+fn setting_if(key: Key, expected: Item, item: Item, table: Decoded) -> Effect
+    ensures { λ r. ⌜ effectIn r ≡ effect (calls.setif (keyBytes key) (itemIn expected) (itemIn item)) (tableIn table) ⌝ }
 {
-    let present = find(t, k);
-    if same_item(present, e) {
-        return setting(k, v, t);
+    let present = find(table, key);
+    if same_item(present, expected) {
+        return setting(key, item, table);
     }
-    let value = empty_value();
+    let value = no_value();
     Effect {
         result: MISMATCH,
         value,
-        table: t,
+        table,
     }
 }
 
 // `del K`: as `set K -`.
-fn deleting(k: Key, t: Decoded) -> Effect
-    ensures { λ r. ⌜ effectIn r ≡ effect (calls.del (keyBytes k)) (tableIn t) ⌝ }
+fn deleting(key: Key, table: Decoded) -> Effect
+    ensures { λ r. ⌜ effectIn r ≡ effect (calls.del (keyBytes key)) (tableIn table) ⌝ }
 {
     let nothing = absent();
-    setting(k, nothing, t)
+    setting(key, nothing, table)
 }
 
 // What is left to do of a call once its bucket's table is read.
-pub fn effect(w: Words, t: Decoded) -> Effect
-    ensures { λ r. ⌜ effectIn r ≡ effect (wordsIn w) (tableIn t) ⌝ }
+pub fn effect(words: Words, table: Decoded) -> Effect
+    ensures { λ r. ⌜ effectIn r ≡ effect (wordsIn words) (tableIn table) ⌝ }
 {
-    let kind = w.kind;
-    let key = w.key;
-    let value = w.value;
-    let expected = w.expected;
+    let kind = words.kind;
+    let key = words.key;
+    let value = words.value;
+    let expected = words.expected;
     match kind {
-        1 => getting(key, t),
-        2 => setting(key, value, t),
-        3 => setting_if(key, expected, value, t),
-        4 => deleting(key, t),
-        _ => listing(t),
+        GET => getting(key, table),
+        SET => setting(key, value, table),
+        SETIF => setting_if(key, expected, value, table),
+        DEL => deleting(key, table),
+        _ => listing(table),
     }
 }

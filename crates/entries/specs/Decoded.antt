@@ -22,9 +22,18 @@ valueBytes v = take (v .len) (v .bytes)
 unfoldable pub itemIn : Item → Option (List ℕ)
 itemIn i = elim (i .there) [ true ↦ some (valueBytes (i .value)) | false ↦ none ]
 
--- the absent value that the code makes
+-- what the code makes where there is no key, no value, an absent value, or nothing in a slot
+abbrev pub noKey : Key
+noKey = record { bytes = replicate 8 0; len = 0 }
+
+abbrev pub noValue : Value
+noValue = record { bytes = replicate 16 0; len = 0 }
+
 abbrev pub absentItem : Item
-absentItem = record { value = record { bytes = replicate 16 0; len = 0 }; there = false }
+absentItem = record { value = noValue; there = false }
+
+abbrev pub noSlot : Slot
+noSlot = record { key = noKey; value = noValue }
 
 unfoldable pub entryIn : Slot → Entry
 entryIn s = entry (keyBytes (s .key)) (valueBytes (s .value))

@@ -2,6 +2,13 @@
 pub mod keys;
 pub mod slots;
 
+// The most bytes of a key and of a value, and the most keys of a table.
+pub const KEY_ROOM: usize = 8;
+
+pub const VALUE_ROOM: usize = 16;
+
+pub const TABLE_ROOM: usize = 4;
+
 // How one key stands to another.
 pub enum Order {
     Before,
@@ -11,13 +18,13 @@ pub enum Order {
 
 // A key: the first `len` of eight bytes.
 pub struct Key {
-    pub bytes: [u8; 8],
+    pub bytes: [u8; KEY_ROOM],
     pub len: usize,
 }
 
 // A value: the first `len` of sixteen bytes.
 pub struct Value {
-    pub bytes: [u8; 16],
+    pub bytes: [u8; VALUE_ROOM],
     pub len: usize,
 }
 
@@ -36,7 +43,7 @@ pub struct Slot {
 // A table: the first `count` of four slots.
 pub struct Decoded {
     pub count: usize,
-    pub slots: [Slot; 4],
+    pub slots: [Slot; TABLE_ROOM],
 }
 
 // Where a key stands in a table, or would stand.

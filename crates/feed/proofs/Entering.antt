@@ -152,19 +152,19 @@ finished-waits : (w : Session) (out : List ℕ) → length out < finishRoom → 
 finished-waits w out h =
     record { waits = λ g. record { same = refl; kept = refl; zero = refl }; leaves = λ g. absurd (omega arith); means = λ g. absurd (omega arith) }
 
-module _ (counts heads slots copies works texts queue loads answers reader line : List ℕ) (t : Tally) (out : List ℕ) where
+module _ (counts heads slots copies working texts queue payloads answers reader line : List ℕ) (t : Tally) (out : List ℕ) where
   pub end-waits : length out < finishRoom
-      → Finishes counts heads slots copies works texts queue loads answers reader line t out counts heads slots copies works texts queue loads answers reader line t out 0
+      → Finishes counts heads slots copies working texts queue payloads answers reader line t out counts heads slots copies working texts queue payloads answers reader line t out 0
   end-waits h = record { does = finished-waits _ out h; rests = λ g. refl; wrote = λ g. absurd (omega arith) }
 
-  pub end-finished : (counts′ heads′ slots′ copies′ works′ texts′ queue′ loads′ answers′ reader′ line′ feed part : List ℕ) (p : Progress) (out′ : List ℕ) (r : ℕ)
+  pub end-finished : (counts′ heads′ slots′ copies′ working′ texts′ queue′ payloads′ answers′ reader′ line′ feed part : List ℕ) (p : Progress) (out′ : List ℕ) (r : ℕ)
       → length reader ≡ 3 → length line ≡ 121 → finishRoom ≤ length out
-      → PartFed (session (memory counts heads slots copies works texts queue loads) answers t (getD reader 0 0) (held line (getD reader 1 0))) feed (take lineRoom out) (session (memory counts′ heads′ slots′ copies′ works′ texts′ queue′ loads′) answers′ (p .tally) (p .lines) (held line′ (p .held))) part (p .taken) (p .written)
+      → PartFed (session (memory counts heads slots copies working texts queue payloads) answers t (getD reader 0 0) (held line (getD reader 1 0))) feed (take lineRoom out) (session (memory counts′ heads′ slots′ copies′ working′ texts′ queue′ payloads′) answers′ (p .tally) (p .lines) (held line′ (p .held))) part (p .taken) (p .written)
       → feed ≡ lastFeed (getD reader 1 0) → length part ≡ length (take lineRoom out)
       → Printed (tallyText (tallyIn (p .tally))) (part ++ drop lineRoom out) (p .written) out′ r
       → reader′ ≡ set (set (set reader 0 (p .lines)) 1 (p .held)) 2 r
-      → Finishes counts heads slots copies works texts queue loads answers reader line t out counts′ heads′ slots′ copies′ works′ texts′ queue′ loads′ answers′ reader′ line′ (p .tally) out′ r
-  end-finished counts′ heads′ slots′ copies′ works′ texts′ queue′ loads′ answers′ reader′ line′ feed part p out′ r q s h k f z g e =
+      → Finishes counts heads slots copies working texts queue payloads answers reader line t out counts′ heads′ slots′ copies′ working′ texts′ queue′ payloads′ answers′ reader′ line′ (p .tally) out′ r
+  end-finished counts′ heads′ slots′ copies′ working′ texts′ queue′ payloads′ answers′ reader′ line′ feed part p out′ r q s h k f z g e =
       record {
         does = rw (e, word-0 reader (p .lines) (p .held) r q, word-1 reader (p .lines) (p .held) r q) (finished-told _ out _ part (p .taken) (p .written) out′ r s h (rw f at k) z g);
         rests = λ i. absurd (omega arith);

@@ -52,11 +52,11 @@ pub line-means : (v u : Session) (more : List ℕ) → Ready v → LineEnded v u
 unfolding presentLine
 line-means v u more r e =
     let x : step (stateIn (v .memory) (tallyIn (v .tally))) (presentLine (v .held)) ≡ record { state = stateIn (u .memory) (tallyIn (e .told .tally)); outcome = outcomeIn (e .told .report) (u .answers) } =
-    step-read _ _ ∙ e .runs .performs .means (r .measured) in
+    step-read _ _ ∙ e .performs .means (r .measured) in
     (rw (x, e .next, e .counted, e .clear), rw (x, e .printed))
 
 pub line-ready : (v u : Session) (more : List ℕ) → Ready v → LineEnded v u more → Ready u
-line-ready v u more r e = record { measured = rw (e .counted) (e .runs .performs .measured (r .measured)); size = rw (e .clear) (r .size) }
+line-ready v u more r e = record { measured = rw (e .counted) (e .performs .measured (r .measured)); size = rw (e .clear) (r .size) }
 
 pub fed-means : (w : Session) (room : ℕ) {input text : List ℕ} {v : Session} → Ready w → Fed w room input text v → Means w input text v
 unfolding fed fedText

@@ -10,10 +10,10 @@ use Rattle.lines.specs.Sessions.{presentLine, readingIn}
 use Rattle.feed.specs.Whole.{zeros}
 use Rattle.feed.specs.Entry.{MeasuredIn}
 
-pub zeros-start : (heads slots copies works texts queue loads answers line : List ℕ) → readingIn (zeros heads slots copies works texts queue loads answers line) ≡ start
+pub zeros-start : (heads slots copies working texts queue payloads answers line : List ℕ) → readingIn (zeros heads slots copies working texts queue payloads answers line) ≡ start
 unfolding clusterIn standing presentLine countsAt within
-zeros-start heads slots copies works texts queue loads answers line = refl
+zeros-start heads slots copies working texts queue payloads answers line = refl
 
-pub zeros-measured : (heads slots copies works texts queue loads answers line : List ℕ) → MeasuredIn (zeros heads slots copies works texts queue loads answers line)
+pub zeros-measured : (heads slots copies working texts queue payloads answers line : List ℕ) → MeasuredIn (zeros heads slots copies working texts queue payloads answers line)
 unfolding clusterIn standing countsAt within
-zeros-measured heads slots copies works texts queue loads answers line = refl
+zeros-measured heads slots copies working texts queue payloads answers line = refl

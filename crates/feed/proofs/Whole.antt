@@ -36,18 +36,18 @@ calls-mean w m (feeds {script = script} {text = text} {v = v} c input out u out�
       measured = p .measured;
     }
 
-pub calls-from-zeros : (heads slots copies works texts queue loads answers line : List ℕ) {script text : List ℕ} {v : Session}
-    → Calls (zeros heads slots copies works texts queue loads answers line) script text v → CallsMean start script text v
-calls-from-zeros heads slots copies works texts queue loads answers line c =
-    rw (← zeros-start heads slots copies works texts queue loads answers line)
-    (calls-mean (zeros heads slots copies works texts queue loads answers line) (zeros-measured heads slots copies works texts queue loads answers line) c)
+pub calls-from-zeros : (heads slots copies working texts queue payloads answers line : List ℕ) {script text : List ℕ} {v : Session}
+    → Calls (zeros heads slots copies working texts queue payloads answers line) script text v → CallsMean start script text v
+calls-from-zeros heads slots copies working texts queue payloads answers line c =
+    rw (← zeros-start heads slots copies working texts queue payloads answers line)
+    (calls-mean (zeros heads slots copies working texts queue payloads answers line) (zeros-measured heads slots copies working texts queue payloads answers line) c)
 
-pub script-whole : (heads slots copies works texts queue loads answers line : List ℕ) {script text : List ℕ} {v : Session}
-    → Calls (zeros heads slots copies works texts queue loads answers line) script text v
+pub script-whole : (heads slots copies working texts queue payloads answers line : List ℕ) {script text : List ℕ} {v : Session}
+    → Calls (zeros heads slots copies working texts queue payloads answers line) script text v
     → (out : List ℕ) (u : Session) (out′ : List ℕ) (r : ℕ) → finishRoom ≤ length out → Finished v out u out′ r
     → Whole script (text ++ take r out′) u
-script-whole heads slots copies works texts queue loads answers line {script} {text} {v} c out u out′ r room f =
-    let k = calls-from-zeros heads slots copies works texts queue loads answers line c in
+script-whole heads slots copies working texts queue payloads answers line {script} {text} {v} c out u out′ r room f =
+    let k = calls-from-zeros heads slots copies working texts queue payloads answers line c in
     let m = f .means room (k .measured) in
     let last : take r out′ ≡ finishedText (readingIn v) = rw (m .wrote, m .count) (take-append-seam (finishedText (readingIn v)) (drop (length (finishedText (readingIn v))) out)) in
     record {

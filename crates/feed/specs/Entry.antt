@@ -36,13 +36,13 @@ pub record SessionFed (w : Session) (input out : List ℕ) (w′ : Session) (out
   pub means : MeasuredIn w → PartMeans w (take taken input) w′ (leaves .text)
 
 -- t and t′: the tally before and after
-abbrev pub Feeds : (counts heads slots copies works texts queue loads answers reader line : List ℕ) → Tally → (input out : List ℕ) → (counts′ heads′ slots′ copies′ works′ texts′ queue′ loads′ answers′ reader′ line′ : List ℕ) → Tally → (out′ : List ℕ) (taken : ℕ) → Type 0
-Feeds counts heads slots copies works texts queue loads answers reader line t input out counts′ heads′ slots′ copies′ works′ texts′ queue′ loads′ answers′ reader′ line′ t′ out′ taken =
+abbrev pub Feeds : (counts heads slots copies working texts queue payloads answers reader line : List ℕ) → Tally → (input out : List ℕ) → (counts′ heads′ slots′ copies′ working′ texts′ queue′ payloads′ answers′ reader′ line′ : List ℕ) → Tally → (out′ : List ℕ) (taken : ℕ) → Type 0
+Feeds counts heads slots copies working texts queue payloads answers reader line t input out counts′ heads′ slots′ copies′ working′ texts′ queue′ payloads′ answers′ reader′ line′ t′ out′ taken =
     SessionFed
-    (sessionIn (memory counts heads slots copies works texts queue loads) answers reader line t)
+    (sessionIn (memory counts heads slots copies working texts queue payloads) answers reader line t)
     input
     out
-    (sessionIn (memory counts′ heads′ slots′ copies′ works′ texts′ queue′ loads′) answers′ reader′ line′ t′)
+    (sessionIn (memory counts′ heads′ slots′ copies′ working′ texts′ queue′ payloads′) answers′ reader′ line′ t′)
     out′
     taken
     (getD reader′ 2 0)
@@ -78,11 +78,11 @@ pub record Finished (w : Session) (out : List ℕ) (w′ : Session) (out′ : Li
   pub means : finishRoom ≤ length out → MeasuredIn w → FinishMeans w out w′ out′ r
 
 -- the words of the reader: as they were where nothing happens, else with what was written
-pub record Finishes (counts heads slots copies works texts queue loads answers reader line : List ℕ) (t : Tally) (out : List ℕ) (counts′ heads′ slots′ copies′ works′ texts′ queue′ loads′ answers′ reader′ line′ : List ℕ) (t′ : Tally) (out′ : List ℕ) (r : ℕ) : Type 0 where
+pub record Finishes (counts heads slots copies working texts queue payloads answers reader line : List ℕ) (t : Tally) (out : List ℕ) (counts′ heads′ slots′ copies′ working′ texts′ queue′ payloads′ answers′ reader′ line′ : List ℕ) (t′ : Tally) (out′ : List ℕ) (r : ℕ) : Type 0 where
   pub does : Finished
-      (sessionIn (memory counts heads slots copies works texts queue loads) answers reader line t)
+      (sessionIn (memory counts heads slots copies working texts queue payloads) answers reader line t)
       out
-      (sessionIn (memory counts′ heads′ slots′ copies′ works′ texts′ queue′ loads′) answers′ reader′ line′ t′)
+      (sessionIn (memory counts′ heads′ slots′ copies′ working′ texts′ queue′ payloads′) answers′ reader′ line′ t′)
       out′
       r
   pub rests : length out < finishRoom → reader′ ≡ reader

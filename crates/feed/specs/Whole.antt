@@ -16,9 +16,9 @@ abbrev pub noTally : Tally
 noTally = record { sent = 0; copied = 0; delivered = 0; lost = 0; flight = 0 }
 
 -- whatever the other arrays hold
-abbrev pub zeros : (heads slots copies works texts queue loads answers line : List ℕ) → Session
-zeros heads slots copies works texts queue loads answers line =
-    sessionIn (memory (replicate 8 0) heads slots copies works texts queue loads) answers (replicate 3 0) line noTally
+abbrev pub zeros : (heads slots copies working texts queue payloads answers line : List ℕ) → Session
+zeros heads slots copies working texts queue payloads answers line =
+    sessionIn (memory (replicate 8 0) heads slots copies working texts queue payloads) answers (replicate 3 0) line noTally
 
 -- ---- the calls
 

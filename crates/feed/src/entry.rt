@@ -1,10 +1,25 @@
 // The public calls: a part of the input, and its end, on lent arrays. They are given the tally by value, and answer what is to be added
 // to it.
-use crate::Answer;
+use crate::FedEnd;
+use crate::FedPart;
 use lines::feeding::feed_part;
+use memory::AnswerWords;
+use memory::CopyBytes;
+use memory::CountWords;
+use memory::HeadWords;
+use memory::PayloadBytes;
+use memory::QueueWords;
+use memory::SlotWords;
+use memory::TextBytes;
+use memory::WorkingBytes;
 use output::put_end;
 use print::LINE_ROOM;
 use print::TALLY_ROOM;
+use progress::BYTES_KEPT;
+use progress::KeptLine;
+use progress::LINE_FEED;
+use progress::LINES_READ;
+use progress::ReaderWords;
 use progress::line_feeds;
 use progress::put_reader;
 use runs::Tally;
@@ -25,103 +40,103 @@ fn sizes(reader: &[usize], line: &[u8])
 
 // A part of the input.
 pub fn feed_value(
-    counts: &mut [u32; 8],
-    heads: &mut [u32; 112],
-    slots: &mut [u32; 1792],
-    copies: &mut [u8; 7168],
-    works: &mut [u8; 7168],
-    texts: &mut [u8; 3584],
-    queue: &mut [u32; 512],
-    loads: &mut [u8; 8192],
-    answers: &mut [u32; 32],
-    reader: &mut [usize; 3],
-    line: &mut [u8; 121],
-    t: Tally,
+    counts: &mut CountWords,
+    heads: &mut HeadWords,
+    slots: &mut SlotWords,
+    copies: &mut CopyBytes,
+    working: &mut WorkingBytes,
+    texts: &mut TextBytes,
+    queue: &mut QueueWords,
+    payloads: &mut PayloadBytes,
+    answers: &mut AnswerWords,
+    reader: &mut ReaderWords,
+    line: &mut KeptLine,
+    tally: Tally,
     input: &[u8],
     out: &mut [u8],
-) -> Answer
-    ensures { λ r. ⌜ Feeds (now (counts .entry)) (now (heads .entry)) (now (slots .entry)) (now (copies .entry)) (now (works .entry)) (now (texts .entry)) (now (queue .entry)) (now (loads .entry)) (now (answers .entry)) (now (reader .entry)) (now (line .entry)) t (now (input .entry)) (now (out .entry)) (now (counts .exit)) (now (heads .exit)) (now (slots .exit)) (now (copies .exit)) (now (works .exit)) (now (texts .exit)) (now (queue .exit)) (now (loads .exit)) (now (answers .exit)) (now (reader .exit)) (now (line .exit)) (tallySum t (r .change)) (now (out .exit)) (r .taken) ⌝ }
+) -> FedPart
+    ensures { λ r. ⌜ Feeds (now (counts .entry)) (now (heads .entry)) (now (slots .entry)) (now (copies .entry)) (now (working .entry)) (now (texts .entry)) (now (queue .entry)) (now (payloads .entry)) (now (answers .entry)) (now (reader .entry)) (now (line .entry)) tally (now (input .entry)) (now (out .entry)) (now (counts .exit)) (now (heads .exit)) (now (slots .exit)) (now (copies .exit)) (now (working .exit)) (now (texts .exit)) (now (queue .exit)) (now (payloads .exit)) (now (answers .exit)) (now (reader .exit)) (now (line .exit)) (tallySum tally (r .change)) (now (out .exit)) (r .taken) ⌝ }
 {
     sizes(reader, line);
-    let lines = reader[0];
-    let count = reader[1];
-    let p = feed_part(
+    let lines = reader[LINES_READ];
+    let count = reader[BYTES_KEPT];
+    let progress = feed_part(
         counts,
         heads,
         slots,
         copies,
-        works,
+        working,
         texts,
         queue,
-        loads,
+        payloads,
         answers,
         line,
         out,
         input,
-        t,
+        tally,
         lines,
         count,
     );
-    put_reader(reader, p, p.written);
-    let after = p.tally;
-    Answer {
-        change: change(t, after),
-        taken: p.taken,
+    put_reader(reader, progress, progress.written);
+    let after = progress.tally;
+    FedPart {
+        change: change(tally, after),
+        taken: progress.taken,
     }
 }
 
 // The end of the input: a line feed ends a last line that lacks it, then the tally follows. It answers how many bytes it wrote; where
 // the output has no room it writes and adds nothing, and answers 0.
 pub fn finish_value(
-    counts: &mut [u32; 8],
-    heads: &mut [u32; 112],
-    slots: &mut [u32; 1792],
-    copies: &mut [u8; 7168],
-    works: &mut [u8; 7168],
-    texts: &mut [u8; 3584],
-    queue: &mut [u32; 512],
-    loads: &mut [u8; 8192],
-    answers: &mut [u32; 32],
-    reader: &mut [usize; 3],
-    line: &mut [u8; 121],
-    t: Tally,
+    counts: &mut CountWords,
+    heads: &mut HeadWords,
+    slots: &mut SlotWords,
+    copies: &mut CopyBytes,
+    working: &mut WorkingBytes,
+    texts: &mut TextBytes,
+    queue: &mut QueueWords,
+    payloads: &mut PayloadBytes,
+    answers: &mut AnswerWords,
+    reader: &mut ReaderWords,
+    line: &mut KeptLine,
+    tally: Tally,
     out: &mut [u8],
-) -> Answer
-    ensures { λ r. ⌜ Finishes (now (counts .entry)) (now (heads .entry)) (now (slots .entry)) (now (copies .entry)) (now (works .entry)) (now (texts .entry)) (now (queue .entry)) (now (loads .entry)) (now (answers .entry)) (now (reader .entry)) (now (line .entry)) t (now (out .entry)) (now (counts .exit)) (now (heads .exit)) (now (slots .exit)) (now (copies .exit)) (now (works .exit)) (now (texts .exit)) (now (queue .exit)) (now (loads .exit)) (now (answers .exit)) (now (reader .exit)) (now (line .exit)) (tallySum t (r .change)) (now (out .exit)) (r .taken) ⌝ }
+) -> FedEnd
+    ensures { λ r. ⌜ Finishes (now (counts .entry)) (now (heads .entry)) (now (slots .entry)) (now (copies .entry)) (now (working .entry)) (now (texts .entry)) (now (queue .entry)) (now (payloads .entry)) (now (answers .entry)) (now (reader .entry)) (now (line .entry)) tally (now (out .entry)) (now (counts .exit)) (now (heads .exit)) (now (slots .exit)) (now (copies .exit)) (now (working .exit)) (now (texts .exit)) (now (queue .exit)) (now (payloads .exit)) (now (answers .exit)) (now (reader .exit)) (now (line .exit)) (tallySum tally (r .change)) (now (out .exit)) (r .written) ⌝ }
 {
     sizes(reader, line);
     if out.len() < FINISH_ROOM {
-        return Answer {
-            change: change(t, t),
-            taken: 0,
+        return FedEnd {
+            change: change(tally, tally),
+            written: 0,
         };
     }
-    let lines = reader[0];
-    let count = reader[1];
-    let feed = [10u8; 1];
-    let n = line_feeds(count);
-    let p = feed_part(
+    let lines = reader[LINES_READ];
+    let count = reader[BYTES_KEPT];
+    let feed = [LINE_FEED; 1];
+    let feeds = line_feeds(count);
+    let progress = feed_part(
         counts,
         heads,
         slots,
         copies,
-        works,
+        working,
         texts,
         queue,
-        loads,
+        payloads,
         answers,
         line,
         &mut out[..LINE_ROOM],
-        &feed[..n],
-        t,
+        &feed[..feeds],
+        tally,
         lines,
         count,
     );
-    let tally = p.tally;
-    let written = put_end(out, p.written, tally);
-    put_reader(reader, p, written);
-    Answer {
-        change: change(t, tally),
-        taken: written,
+    let after = progress.tally;
+    let written = put_end(out, progress.written, after);
+    put_reader(reader, progress, written);
+    FedEnd {
+        change: change(tally, after),
+        written,
     }
 }

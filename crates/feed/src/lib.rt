@@ -4,8 +4,14 @@ use runs::Tally;
 
 pub mod entry;
 
-// What a call adds to the tally, and how many bytes of a part it took, or at the end how many it wrote.
-pub struct Answer {
+// What a part of the input adds to the tally, and how many of its bytes were taken.
+pub struct FedPart {
     pub change: Tally,
     pub taken: usize,
+}
+
+// What the end of the input adds to the tally, and how many bytes were written.
+pub struct FedEnd {
+    pub change: Tally,
+    pub written: usize,
 }

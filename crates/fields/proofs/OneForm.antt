@@ -14,7 +14,7 @@ use Rattle.entries.specs.Entries.{Entry}
 use Rattle.table.specs.Form.{bucketSize, within, fits, bucketBytes, readBucket}
 use Rattle.table.proofs.Fitting.{within-parts}
 use Rattle.table.proofs.Reading as bucket
-use Rattle.bucket.specs.Answers.{answer}
+use Rattle.bucket.specs.Answers.{numbered}
 use Rattle.fields.specs.Form.{Datagram, Version, version, maxTwo, maxFour, isVote, carries, lengthOf, addressed, rounded, settled, sameElection, versioned, wellFormed, tableFits, big, headerBytes, versionBytes, fullBytes, datagramBytes, carried, number, field, headed, versionIn, taken, checked, readDatagram, writeDatagram}
 use Rattle.fields.proofs.Rules.{and-parts, plain-length, full-length, plain-bytes, full-bytes}
 use Rattle.fields.proofs.Parsing.{take-cells, read-plain, read-full, checked-right}
@@ -240,7 +240,7 @@ length-form d f = go (carries (d .kind)) refl
     go false p = rw (plain-bytes d p, plain-length (d .kind) p) (length-header d)
 
 -- bytes that are read are written again, over as many of the lent ones
-pub written-again : (b : List ℕ) (d : Datagram) (out : List ℕ) → Bytes b → readDatagram b ≡ taken d → length b ≤ length out → writeDatagram d out ≡ answer 0 (b ++ drop (length b) out)
+pub written-again : (b : List ℕ) (d : Datagram) (out : List ℕ) → Bytes b → readDatagram b ≡ taken d → length b ≤ length out → writeDatagram d out ≡ numbered 0 (b ++ drop (length b) out)
 unfolding writeDatagram
 written-again b d out h e l =
     let t = one-form b d h e in

@@ -7,7 +7,7 @@ use lib.Dec.{leb, eqb}
 use lib.ListN.{length, getD, take, drop}
 use Rattle.entries.specs.Entries.{Entry}
 use Rattle.table.specs.Form.{within, fits, bucketBytes, readBucket}
-use Rattle.bucket.specs.Answers.{Answer, answer}
+use Rattle.bucket.specs.Answers.{Numbered, numbered}
 
 pub record Version : Type 0 where
   pub election : ℕ
@@ -156,14 +156,14 @@ readDatagram b =
 -- ---- writing
 
 -- 13 before 14 before 15; a refusal changes nothing, and bytes past the datagram stay
-unfoldable pub writeDatagram : Datagram → List ℕ → Answer
+unfoldable pub writeDatagram : Datagram → List ℕ → Numbered
 writeDatagram d out =
     elim (tableFits d) [
-      | false ↦ answer 13 out
+      | false ↦ numbered 13 out
       | true ↦
           elim (wellFormed d) [
-            | false ↦ answer 14 out
+            | false ↦ numbered 14 out
             | true ↦
-                elim (leb (lengthOf (d .kind)) (length out)) [ false ↦ answer 15 out | true ↦ answer 0 (datagramBytes d ++ drop (lengthOf (d .kind)) out) ]
+                elim (leb (lengthOf (d .kind)) (length out)) [ false ↦ numbered 15 out | true ↦ numbered 0 (datagramBytes d ++ drop (lengthOf (d .kind)) out) ]
           ]
     ]

@@ -5,7 +5,7 @@ use Prim.Native.Nat.{ℕ}
 use lib.ListN.{replicate}
 use Rattle.entries.specs.Entries.{Entry, entry, order}
 use Rattle.table.specs.Form.{bucketSize, within, rising, sized, fits, header, body, packed, bucketBytes, entriesOf, tableOf, sameBytes, readBucket}
-use Rattle.bucket.specs.Answers.{answer}
+use Rattle.bucket.specs.Answers.{numbered}
 use Rattle.fields.specs.Form.{Datagram, version, isVote, carries, lengthOf, addressed, rounded, settled, sameElection, versioned, wellFormed, tableFits, big, headerBytes, versionBytes, fullBytes, datagramBytes, number, field, headed, versionIn, taken, refused, checked, readDatagram, writeDatagram}
 
 -- PLEASEVOTE from 0 to 1 under election number 258
@@ -58,6 +58,6 @@ unfolding order bucketSize within rising sized fits header body packed bucketByt
 bucket-before-form = refl
 
 -- in kind 4 the two election numbers differ: 14 before 15
-other-election : writeDatagram (replicaWrite 6 256 oneKey) [] ≡ answer 14 []
+other-election : writeDatagram (replicaWrite 6 256 oneKey) [] ≡ numbered 14 []
 unfolding replicaWrite oneKey order within rising sized fits isVote carries lengthOf addressed rounded settled sameElection versioned wellFormed tableFits writeDatagram
 other-election = refl

@@ -18,9 +18,9 @@ use Rattle.moves.specs.declared.Move.{Move}
 use Rattle.views.specs.Queue.{Flight, flight, appended, messageTo, sentTo, spread, broadcastOf, replyOf, sent}
 
 -- what the arrays are after one was appended
-pub appended-is : (queue loads : List ℕ) (n : ℕ) (m : Message) (v queue′ loads′ : List ℕ) → Appended queue loads n m v queue′ loads′ → flight queue′ loads′ (n + 1) ≡ appended v m (flight queue loads n)
+pub appended-is : (queue payloads : List ℕ) (n : ℕ) (m : Message) (v queue′ payloads′ : List ℕ) → Appended queue payloads n m v queue′ payloads′ → flight queue′ payloads′ (n + 1) ≡ appended v m (flight queue payloads n)
 unfolding appended
-appended-is queue loads n m v queue′ loads′ a = rw (a .headers, a .contents)
+appended-is queue payloads n m v queue′ payloads′ a = rw (a .headers, a .contents)
 
 module _ (v : List ℕ) (m : Message) (x : Flight) where
   pub sent-self : (q : ℕ) → q ≡ m .sender → sentTo v m q x ≡ x
@@ -61,17 +61,17 @@ module _ (v : List ℕ) (m : Message) (x : Flight) where
 
 -- ---- what a move sends: nothing, to all others, or one reply
 
-module _ (n me b k : ℕ) (asked : Message) (v : Move) (works copies : List ℕ) (x : Flight) where
-  pub sends-nothing : v .sends ≡ 0 → sent n me b k asked v works copies x ≡ x
+module _ (n me b k : ℕ) (asked : Message) (v : Move) (working copies : List ℕ) (x : Flight) where
+  pub sends-nothing : v .sends ≡ 0 → sent n me b k asked v working copies x ≡ x
   unfolding sent
   sends-nothing e = rw (sent, eq-eqb (v .sends) 0 e)
 
   module _ (some : v .sends ≢ 0) where
-    pub sends-all : isBroadcast (v .sends) ≡ true → sent n me b k asked v works copies x ≡ spread (block contentSize k works) (broadcastOf me b v) n x
+    pub sends-all : isBroadcast (v .sends) ≡ true → sent n me b k asked v working copies x ≡ spread (block contentSize k working) (broadcastOf me b v) n x
     unfolding sent
     sends-all e = rw (sent, ne-eqb (v .sends) 0 some, e)
 
-    pub sends-reply : isBroadcast (v .sends) ≡ false → sent n me b k asked v works copies x ≡ appended (block contentSize k copies) (replyOf me asked v) x
+    pub sends-reply : isBroadcast (v .sends) ≡ false → sent n me b k asked v working copies x ≡ appended (block contentSize k copies) (replyOf me asked v) x
     unfolding sent
     sends-reply e = rw (sent, ne-eqb (v .sends) 0 some, e)
 

@@ -2,9 +2,10 @@
 use mathlib.Core.Path.{_≡_}
 use mathlib.Core.List.{List}
 use Prim.Native.Nat.{ℕ, _≤_}
+use Rattle.memory.specs.Layout.{messageRoom}
 use Rattle.views.specs.Queue.{Flight, flight}
 
--- the messages in flight, and how many: at most 64
-pub record Flown (x : Flight) (queue loads : List ℕ) (r : ℕ) : Type 0 where
-  pub is : flight queue loads r ≡ x
-  pub few : r ≤ 64
+-- the messages in flight, and how many
+pub record Flown (x : Flight) (queue payloads : List ℕ) (r : ℕ) : Type 0 where
+  pub is : flight queue payloads r ≡ x
+  pub few : r ≤ messageRoom

@@ -1,4 +1,8 @@
 // The messages in flight: one may be removed, then those of the step are appended.
+use memory::CopyBytes;
+use memory::PayloadBytes;
+use memory::QueueWords;
+use memory::WorkingBytes;
 use messages::append_message;
 use messages::remove_message;
 use moves::Move;
@@ -13,55 +17,60 @@ ghost use Prim.Native.Nat.{_<_, _≤_, _+_, _-_};
 ghost use lib.Dec.{eqb};
 ghost use Rattle.server.specs.Views.{chosen};
 ghost use Rattle.blocks.specs.Blocks.{block};
-ghost use Rattle.memory.specs.Layout.{slotRoom, contentSize};
+ghost use Rattle.memory.specs.Layout.{slotRoom, messageRoom, contentSize};
 ghost use Rattle.refusals.specs.Refusals.{sendCount};
 ghost use Rattle.views.specs.Queue.{flight, withoutMessage, messageTo, sentTo, spread, broadcastOf, replyOf, sent};
 ghost use Rattle.flight.specs.Flown.{Flown};
 
-// Message i is removed.
-pub fn remove(queue: &mut [u32; 512], loads: &mut [u8; 8192], count: usize, i: usize) -> usize
-    requires { ⌜ (i < count) × (count ≤ 64) ⌝ }
-    ensures { λ r. ⌜ Flown (withoutMessage true i (flight (now (queue .entry)) (now (loads .entry)) count)) (now (queue .exit)) (now (loads .exit)) r ⌝ }
+// The message at this place is removed.
+pub fn remove(
+    queue: &mut QueueWords,
+    payloads: &mut PayloadBytes,
+    count: usize,
+    place: usize,
+) -> usize
+    requires { ⌜ (place < count) × (count ≤ messageRoom) ⌝ }
+    ensures { λ r. ⌜ Flown (withoutMessage true place (flight (now (queue .entry)) (now (payloads .entry)) count)) (now (queue .exit)) (now (payloads .exit)) r ⌝ }
 {
-    remove_message(queue, loads, count, i);
+    remove_message(queue, payloads, count, place);
     count - 1
 }
 
 // PLEASEVOTE carries bucket 0 and round 0.
-fn unless_vote(kind: u32, x: u32) -> u32
-    ensures { λ r. ⌜ r ≡ chosen (eqb kind 1) 0 x ⌝ }
+fn unless_vote(kind: u32, number: u32) -> u32
+    ensures { λ r. ⌜ r ≡ chosen (eqb kind 1) 0 number ⌝ }
 {
-    if kind == PLEASE_VOTE { 0 } else { x }
+    if kind == PLEASE_VOTE { 0 } else { number }
 }
 
 // What a step of server `me` sends to all others; the receiver is filled in for each.
-fn broadcast_of(me: u32, b: u32, v: Move) -> Message
-    ensures { λ r. ⌜ r ≡ broadcastOf me b v ⌝ }
+fn broadcast_of(me: u32, at: u32, next: Move) -> Message
+    ensures { λ r. ⌜ r ≡ broadcastOf me at next ⌝ }
 {
-    let l = v.local;
-    let h = l.head;
-    let kind = v.sends;
-    let bucket = unless_vote(kind, b);
-    let round = unless_vote(kind, h.last);
-    let version = v.written;
+    let local = next.local;
+    let head = local.head;
+    let kind = next.sends;
+    let bucket = unless_vote(kind, at);
+    let round = unless_vote(kind, head.last);
+    let version = next.written;
     Message {
         kind,
         sender: me,
         receiver: me,
         bucket,
-        election: h.number,
+        election: head.number,
         round,
         version,
     }
 }
 
 // A reply carries bucket, election number and round of what it answers.
-fn reply_of(me: u32, asked: Message, v: Move) -> Message
-    ensures { λ r. ⌜ r ≡ replyOf me asked v ⌝ }
+fn reply_of(me: u32, asked: Message, next: Move) -> Message
+    ensures { λ r. ⌜ r ≡ replyOf me asked next ⌝ }
 {
-    let version = v.written;
+    let version = next.written;
     Message {
-        kind: v.sends,
+        kind: next.sends,
         sender: me,
         receiver: asked.sender,
         bucket: asked.bucket,
@@ -71,79 +80,101 @@ fn reply_of(me: u32, asked: Message, v: Move) -> Message
     }
 }
 
-fn message_to(m: Message, q: u32) -> Message
-    ensures { λ r. ⌜ r ≡ messageTo m q ⌝ }
+fn message_to(message: Message, receiver: u32) -> Message
+    ensures { λ r. ⌜ r ≡ messageTo message receiver ⌝ }
 {
-    let mut a = m;
-    a.receiver = q;
-    a
+    let mut addressed = message;
+    addressed.receiver = receiver;
+    addressed
 }
 
-// A message goes to server q, with the working content of slot k, unless q is the sender.
+// A message goes to one server, with the working content of the slot, unless that server is its sender.
 fn send_to(
-    queue: &mut [u32; 512],
-    loads: &mut [u8; 8192],
-    works: &[u8; 7168],
+    queue: &mut QueueWords,
+    payloads: &mut PayloadBytes,
+    working: &WorkingBytes,
     count: usize,
-    m: Message,
-    q: u32,
-    k: usize,
+    message: Message,
+    receiver: u32,
+    slot: usize,
 ) -> usize
-    requires { ⌜ (k < slotRoom) × ((count ≤ 64) × (q ≢ m .sender → count < 64)) ⌝ }
-    ensures { λ r. ⌜ Flown (sentTo (block contentSize k (now (works .entry))) m q (flight (now (queue .entry)) (now (loads .entry)) count)) (now (queue .exit)) (now (loads .exit)) r ⌝ }
+    requires { ⌜ (slot < slotRoom) × ((count ≤ messageRoom) × (receiver ≢ message .sender → count < messageRoom)) ⌝ }
+    ensures { λ r. ⌜ Flown (sentTo (block contentSize slot (now (working .entry))) message receiver (flight (now (queue .entry)) (now (payloads .entry)) count)) (now (queue .exit)) (now (payloads .exit)) r ⌝ }
 {
-    if q == m.sender {
+    if receiver == message.sender {
         return count;
     }
-    append_message(queue, loads, count, message_to(m, q), works, k);
+    append_message(
+        queue,
+        payloads,
+        count,
+        message_to(message, receiver),
+        working,
+        slot,
+    );
     count + 1
 }
 
-// A message goes to all of n servers without its sender.
+// A message goes to all servers without its sender.
 fn send_all(
-    queue: &mut [u32; 512],
-    loads: &mut [u8; 8192],
-    works: &[u8; 7168],
+    queue: &mut QueueWords,
+    payloads: &mut PayloadBytes,
+    working: &WorkingBytes,
     count: usize,
-    m: Message,
-    n: u32,
-    k: usize,
+    message: Message,
+    servers: u32,
+    slot: usize,
 ) -> usize
-    requires { ⌜ (k < slotRoom) × ((m .sender < n) × (count + (n - 1) ≤ 64)) ⌝ }
-    ensures { λ r. ⌜ Flown (spread (block contentSize k (now (works .entry))) m n (flight (now (queue .entry)) (now (loads .entry)) count)) (now (queue .exit)) (now (loads .exit)) r ⌝ }
+    requires { ⌜ (slot < slotRoom) × ((message .sender < servers) × (count + (servers - 1) ≤ messageRoom)) ⌝ }
+    ensures { λ r. ⌜ Flown (spread (block contentSize slot (now (working .entry))) message servers (flight (now (queue .entry)) (now (payloads .entry)) count)) (now (queue .exit)) (now (payloads .exit)) r ⌝ }
 {
-    let mut c = count;
-    let mut q = 0;
-    while q < n {
-        c = send_to(queue, loads, works, c, m, q, k);
-        q += 1;
+    let mut sent = count;
+    let mut receiver = 0;
+    while receiver < servers {
+        sent = send_to(queue, payloads, working, sent, message, receiver, slot);
+        receiver += 1;
     }
-    c
+    sent
 }
 
-// What a step sends: a broadcast with the working content of slot k, or a reply with the content of its copy.
+// What a step sends: a broadcast with the working content of the slot, or a reply with the content of its copy.
 pub fn send(
-    queue: &mut [u32; 512],
-    loads: &mut [u8; 8192],
-    works: &[u8; 7168],
-    copies: &[u8; 7168],
+    queue: &mut QueueWords,
+    payloads: &mut PayloadBytes,
+    working: &WorkingBytes,
+    copies: &CopyBytes,
     count: usize,
-    n: u32,
+    servers: u32,
     me: u32,
-    b: u32,
-    k: usize,
+    bucket: u32,
+    slot: usize,
     asked: Message,
-    v: Move,
+    next: Move,
 ) -> usize
-    requires { ⌜ (k < slotRoom) × ((me < n) × (count + sendCount n (v .sends) ≤ 64)) ⌝ }
-    ensures { λ r. ⌜ Flown (sent n me b k asked v (now (works .entry)) (now (copies .entry)) (flight (now (queue .entry)) (now (loads .entry)) count)) (now (queue .exit)) (now (loads .exit)) r ⌝ }
+    requires { ⌜ (slot < slotRoom) × ((me < servers) × (count + sendCount servers (next .sends) ≤ messageRoom)) ⌝ }
+    ensures { λ r. ⌜ Flown (sent servers me bucket slot asked next (now (working .entry)) (now (copies .entry)) (flight (now (queue .entry)) (now (payloads .entry)) count)) (now (queue .exit)) (now (payloads .exit)) r ⌝ }
 {
-    if v.sends == NO_MESSAGE {
+    if next.sends == NO_MESSAGE {
         return count;
     }
-    if is_broadcast(v.sends) {
-        return send_all(queue, loads, works, count, broadcast_of(me, b, v), n, k);
+    if is_broadcast(next.sends) {
+        return send_all(
+            queue,
+            payloads,
+            working,
+            count,
+            broadcast_of(me, bucket, next),
+            servers,
+            slot,
+        );
     }
-    append_message(queue, loads, count, reply_of(me, asked, v), copies, k);
+    append_message(
+        queue,
+        payloads,
+        count,
+        reply_of(me, asked, next),
+        copies,
+        slot,
+    );
     count + 1
 }

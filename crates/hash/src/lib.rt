@@ -8,19 +8,22 @@ const OFFSET_BASIS: u32 = 2166136261;
 
 const PRIME: u32 = 16777619;
 
+// 2^32, how many numbers of 32 bits there are.
+const MODULUS: u64 = 4294967296;
+
 // The product of a and b modulo 2^32. It is taken at 64 bits, where no product of two u32 wraps.
 fn wrapping_mul_u32(a: u32, b: u32) -> u32
     ensures { λ r. ⌜ r ≡ a * b % 2 ^ 32 ⌝ }
 {
     let product = (a as u64) * (b as u64);
-    (product % 4294967296) as u32
+    (product % MODULUS) as u32
 }
 
-// The hash h after the byte b of a key.
-fn fnv_byte(h: u32, b: u8) -> u32
-    ensures { λ r. ⌜ r ≡ fnvByte h b ⌝ }
+// The hash after one more byte of a key.
+fn fnv_byte(hash: u32, byte: u8) -> u32
+    ensures { λ r. ⌜ r ≡ fnvByte hash byte ⌝ }
 {
-    wrapping_mul_u32(h ^ (b as u32), PRIME)
+    wrapping_mul_u32(hash ^ (byte as u32), PRIME)
 }
 
 // The hash of a key.
@@ -28,13 +31,13 @@ fn fnv_byte(h: u32, b: u8) -> u32
 pub extern "C" fn fnv1a(key: &[u8]) -> u32
     ensures { λ r. ⌜ r ≡ fnv (now (key .entry)) ⌝ }
 {
-    let mut h = OFFSET_BASIS;
+    let mut hash = OFFSET_BASIS;
     let mut i = 0;
     while i < key.len() {
-        h = fnv_byte(h, key[i]);
+        hash = fnv_byte(hash, key[i]);
         i += 1;
     }
-    h
+    hash
 }
 
 // The bucket of a key among this many, and 0 where there are none.

@@ -7,10 +7,11 @@ use mathlib.Core.List.{List, [], _∷_, List·Memᴰ·head, List·Memᴰ·tail a
 use Prim.Native.Nat.{ℕ, _+_, _-_, _*_, _≤_, _<_}
 use native.Mathlib.Omega.{arith}
 use lib.ListN.{getD}
-use Rattle.history.specs.Members.{_∈_, first-in, none-in, each-cons, clash}
+use Rattle.history.specs.Members.{_∈_}
 use Rattle.history.specs.Version.{Version, version, _≼_}
 use Rattle.history.specs.History.{Contents, Quorums, Write, Accept, Report, Win, Check, unknown, notdone, answered, Call, History, Holds, first, later, quorum, kept, changed, Origin, Succeeds, recovers, follows, ByWrite, ByCheck, Facts}
 use Rattle.history.specs.Ordering.{Distinct, Fed}
+use Rattle.history.proofs.MemberLaws.{first-in, none-in, each-cons, clash}
 use Rattle.history.proofs.Quorum.{Majority, majority-quorums}
 use Rattle.history.proofs.Theorem.{one-order}
 

@@ -1,4 +1,6 @@
 -- Why the calls of one bucket's history have one order.
+pub mod MemberLaws
+pub mod VersionLaws
 pub mod Quorum
 pub mod Descent
 pub mod Freshness

@@ -5,10 +5,12 @@ use mathlib.Core.Logic.{inl, inr}
 use mathlib.Core.Option.{Option, none, some}
 use mathlib.Core.List.{List, [], _∷_, _++_, append-assoc, append-nil, List·Memᴰ·head, List·Memᴰ·tail, Memᴰ·append-left, Memᴰ·append-right}
 use Prim.Native.Nat.{ℕ}
-use Rattle.history.specs.Members.{_∈_, none-in, each-append, clash}
-use Rattle.history.specs.Version.{Version, version, same?}
+use Rattle.history.specs.Members.{_∈_}
+use Rattle.history.specs.Version.{Version, version}
 use Rattle.history.specs.History.{Contents, Quorums, Write, History, Call, answered, Holds, first, later, Makes, kept, changed, Facts}
 use Rattle.history.specs.Ordering.{Fed, Ordering}
+use Rattle.history.proofs.MemberLaws.{none-in, each-append, clash}
+use Rattle.history.proofs.VersionLaws.{same?}
 use Rattle.history.proofs.Descent.{Ancestor, here, up, not-first}
 use Rattle.history.proofs.Sequence.{Pairs, pairs-append, pairs-map, pairs-distinct, pairs-before, select, select-in, in-select, select-rising, select-joins}
 use Rattle.history.proofs.Places.{bound, bound-above, Place, own, check, checked-at, checked-how, reached-at, answered-place, undone-nowhere}

@@ -8,9 +8,10 @@ use Prim.Native.Nat.{ℕ, zero, suc, _+_, _*_, _≤_, _<_}
 use native.Mathlib.Omega.{arith}
 use native.Mathlib.Decide.{ℕ-discrete}
 use lib.ListN.{length, length-append, getD}
-use Rattle.history.specs.Members.{_∈_, first-in, none-in, each-cons, each-append}
+use Rattle.history.specs.Members.{_∈_}
 use Rattle.history.specs.History.{Quorums}
 use Rattle.history.specs.Ordering.{Distinct}
+use Rattle.history.proofs.MemberLaws.{first-in, none-in, each-cons, each-append}
 
 -- ---- distinct members of a list are no more than it is long
 

@@ -5,9 +5,10 @@ use mathlib.Core.Option.{some}
 use Prim.Native.Nat.{ℕ, _≤_, _<_}
 use native.Mathlib.Omega.{arith}
 use Rattle.history.specs.Members.{_∈_}
-use Rattle.history.specs.Version.{Version, _≼_, le-refl, lt-of-le-lt, lt-not-le}
+use Rattle.history.specs.Version.{Version, _≼_}
 use Rattle.history.specs.History.{Contents, Quorums, Write, History, Call, End, unknown, notdone, answered, Facts}
 use Rattle.history.specs.Ordering.{EndedIn, by-unknown, by-notdone, by-answer}
+use Rattle.history.proofs.VersionLaws.{le-refl, lt-of-le-lt, lt-not-le}
 use Rattle.history.proofs.Descent.{Ancestor, up, ancestor-le, age, parent-before}
 use Rattle.history.proofs.Freshness.{fresh}
 use Rattle.history.proofs.Places.{Place, own, check, checked-at, checked-how, checked-call, checked-unwritten, one-place}

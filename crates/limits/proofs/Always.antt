@@ -1,4 +1,4 @@
--- Every line keeps the measures, so every run does: `within-always`.
+-- Every line keeps the measures, so every run does, whatever the greatest election number `top` is: `within-always`.
 use mathlib.Core.Path.{_≡_, refl, sym, ap, subst, _∙_}
 use mathlib.Core.List.{List, [], _∷_}
 use mathlib.Core.Bool.{Bool, true, false, not}
@@ -12,20 +12,20 @@ use borrow.Author.Tests.{ltb-false, leb-false, eqb-false}
 use Rattle.hash.specs.Fnv.{bucketOf}
 use Rattle.table.specs.Form.{within}
 use Rattle.table.proofs.Fitting.{within-parts}
-use Rattle.model.specs.Measures.{maxServers, maxBuckets, maxMessages, maxAccepted, maxElection}
+use Rattle.model.specs.Measures.{maxServers, maxBuckets, maxMessages, maxAccepted}
 use Rattle.model.specs.Calls.{Words, get, set, setif, del, keys, bucketFor}
 use Rattle.model.specs.Cluster.{Role, follower, Round, Call, Message, Cluster, freshServer, freshCluster, freshCopy}
 use Rattle.model.specs.Leader.{Reaction, largerNumber, nextNumber}
 use Rattle.model.proofs.Elections.{eleven-above-the-top}
-use Rattle.model.specs.Lines.{Line, cluster, elect, call, deliver, copy, lose, timeout, stop, cut, start, State, initialState, Tally, firstOf, conditions, conditionsUpTo, either, noServer, noBucket, noBucketFor, badKey, badValue, badWords, limitReached, stoppedAt, isLeading, lastNumber, serverAt, dropAt, Work, afterStep, byLine, lostMessage, delivery, cutting, work, tallied, LineResult}
+use Rattle.model.specs.Lines.{Line, cluster, elect, call, deliver, copy, lose, timeout, stop, cut, start, State, initialState, Tally, firstOf, conditionsUpTo, either, noServer, noBucket, noBucketFor, badKey, badValue, badWords, limitReached, stoppedAt, isLeading, lastNumber, serverAt, dropAt, Work, afterStep, byLine, lostMessage, delivery, cutting, work, tallied, LineResult}
 use Rattle.model.specs.Parse.{parse}
-use Rattle.model.specs.Run.{step, stateAfter, stateAfterUpTo}
+use Rattle.model.specs.Run.{stepUpTo, stateAfterUpTo}
 use Rattle.limits.specs.Lists.{All, nil, cons}
 use Rattle.limits.specs.Tally.{Tallied}
 use Rattle.limits.specs.Measures.{limitsAfter, KeySized, ValueSized, WordsSized, idle, ServerWithin, MessageWithin, AnswersWithin, endings, ReactionWithin, ClusterWithin}
-use Rattle.limits.specs.Stands.{StandsUpTo, Stands, Measured, messagesOf}
+use Rattle.limits.specs.Stands.{StandsUpTo, MeasuredUpTo, messagesOf}
 use Rattle.limits.proofs.Lists.{all-head, all-tail, all-imply, all-append, all-take, all-drop, all-set, all-at, all-replicate}
-use Rattle.limits.proofs.Refusals.{ComesOut, refused-by, founded, took, comes-out}
+use Rattle.limits.proofs.Refusals.{ComesOutUpTo, refused-by, founded, took, comes-out}
 use Rattle.limits.proofs.Counting.{none-applies, message-there, work-counts, nothing-tallied, work-keeps-tally}
 use Rattle.limits.proofs.Growing.{one-above-within, next-line, wider, message-grows, server-grows}
 use Rattle.limits.proofs.Tables.{fresh-copy-within}
@@ -231,22 +231,22 @@ module _ (top n b k : ℕ) (c : Cluster) (bLow : 1 ≤ b) (w : ClusterWithin top
   work-within (cut i j) (cons e (cons f (cons g nil))) = cut-taken _ _ j (all-at i _ (message-there c i f) (w .messages)) (dropped i)
   work-within (start s) (cons e (cons f (cons g nil))) = start-taken s e
 
-not-spent : (c : Cluster) (l : Line) → All (λ x. x .applies ≡ false) (conditions c l) → c .accepted < maxAccepted
+not-spent : (top : ℕ) (c : Cluster) (l : Line) → All (λ x. x .applies ≡ false) (conditionsUpTo top c l) → c .accepted < maxAccepted
 unfolding conditionsUpTo limitReached
-not-spent c (cluster x y) (cons p nil) = let z : _≡_ {A = ℕ} 0 1 = cc in absurd (omega arith)
-not-spent c (elect s) h = leb-false _ _ (all-head (all-tail h))
-not-spent c (call s x) h = leb-false _ _ (all-head (all-tail (all-tail h)))
-not-spent c (deliver i) h = leb-false _ _ (all-head h)
-not-spent c (copy i) h = leb-false _ _ (all-head h)
-not-spent c (lose i) h = leb-false _ _ (all-head h)
-not-spent c (timeout s i) h = leb-false _ _ (all-head (all-tail h))
-not-spent c (stop s) h = leb-false _ _ (all-head (all-tail h))
-not-spent c (cut i j) h = leb-false _ _ (all-head h)
-not-spent c (start s) h = leb-false _ _ (all-head (all-tail h))
+not-spent top c (cluster x y) (cons p nil) = let z : _≡_ {A = ℕ} 0 1 = cc in absurd (omega arith)
+not-spent top c (elect s) h = leb-false _ _ (all-head (all-tail h))
+not-spent top c (call s x) h = leb-false _ _ (all-head (all-tail (all-tail h)))
+not-spent top c (deliver i) h = leb-false _ _ (all-head h)
+not-spent top c (copy i) h = leb-false _ _ (all-head h)
+not-spent top c (lose i) h = leb-false _ _ (all-head h)
+not-spent top c (timeout s i) h = leb-false _ _ (all-head (all-tail h))
+not-spent top c (stop s) h = leb-false _ _ (all-head (all-tail h))
+not-spent top c (cut i j) h = leb-false _ _ (all-head h)
+not-spent top c (start s) h = leb-false _ _ (all-head (all-tail h))
 
 -- a line is taken only where fewer than 1,000,000 were
-pub room-for-line : (c : Cluster) (l : Line) → firstOf (conditions c l) ≡ none → c .accepted < maxAccepted
-room-for-line c l e = not-spent c l (none-applies (conditions c l) e)
+pub room-for-line : (top : ℕ) (c : Cluster) (l : Line) → firstOf (conditionsUpTo top c l) ≡ none → c .accepted < maxAccepted
+room-for-line top c l e = not-spent top c l (none-applies (conditionsUpTo top c l) e)
 
 -- ---- every list of lines
 
@@ -291,17 +291,18 @@ unfolding freshCluster
 fresh-cluster-within top n b h =
     record { size = length-replicate n _; buckets = refl; accepted = refl; calls = omega arith; servers = all-replicate n _ (fresh-server-within top n b h); messages = nil }
 
-pub line-taken : (c : Cluster) (t : Tally) (l : Line) → (h : Stands c t) → firstOf (conditions c l) ≡ none →
-    Taken maxElection (h .servers) (h .buckets) (c .accepted) (work c l)
-line-taken c t l h e = work-within maxElection (h .servers) (h .buckets) (c .accepted) c (h .someBuckets) (h .within) l (none-applies (conditions c l) e)
+pub line-taken : (top : ℕ) (c : Cluster) (t : Tally) (l : Line) → (h : StandsUpTo top c t) → firstOf (conditionsUpTo top c l) ≡ none →
+    Taken top (h .servers) (h .buckets) (c .accepted) (work c l)
+line-taken top c t l h e =
+    work-within top (h .servers) (h .buckets) (c .accepted) c (h .someBuckets) (h .within) l (none-applies (conditionsUpTo top c l) e)
 
-stands-on : (c : Cluster) (t : Tally) (l : Line) → Stands c t → firstOf (conditions c l) ≡ none →
-    length (work c l .cluster .messages) ≤ maxMessages → Stands (work c l .cluster) (tallied t (work c l))
-stands-on c t l h e room =
-    let w = line-taken c t l h e .cluster in
+stands-on : (top : ℕ) (c : Cluster) (t : Tally) (l : Line) → StandsUpTo top c t → firstOf (conditionsUpTo top c l) ≡ none →
+    length (work c l .cluster .messages) ≤ maxMessages → StandsUpTo top (work c l .cluster) (tallied t (work c l))
+stands-on top c t l h e room =
+    let w = line-taken top c t l h e .cluster in
     let more : work c l .cluster .accepted ≡ c .accepted + 1 = w .accepted in
     let counts = work-counts c l in
-    let open-line = room-for-line c l e in
+    let open-line = room-for-line top c l e in
     record {
       servers = h .servers;
       buckets = h .buckets;
@@ -313,13 +314,13 @@ stands-on c t l h e room =
       accepted = omega arith;
       sent = omega (arith, h .sent, counts .sent);
       copied = omega (arith, h .copied, counts .copied);
-      tallied = work-keeps-tally c t l e room (h .tallied);
+      tallied = work-keeps-tally top c t l e room (h .tallied);
     }
 
-founded-stands : (n b : ℕ) (t : Tally) → within maxServers n ≡ true → within maxBuckets b ≡ true → t ≡ initialState .tally →
-    Stands (freshCluster n b) t
+founded-stands : (top n b : ℕ) (t : Tally) → within maxServers n ≡ true → within maxBuckets b ≡ true → t ≡ initialState .tally →
+    StandsUpTo top (freshCluster n b) t
 unfolding freshCluster
-founded-stands n b t p q z =
+founded-stands top n b t p q z =
     let (low, high) = within-parts maxServers n p in
     let (some-there, few) = within-parts maxBuckets b q in
     record {
@@ -329,43 +330,50 @@ founded-stands n b t p q z =
       fewServers = high;
       someBuckets = some-there;
       fewBuckets = few;
-      within = fresh-cluster-within maxElection n b low;
+      within = fresh-cluster-within top n b low;
       accepted = omega arith;
       sent = omega (arith, ap (λ x. x .sent) z);
       copied = omega (arith, ap (λ x. x .copied) z);
       tallied = nothing-tallied t z;
     }
 
-pub line-keeps-measures : (s : State) (o : Option Line) (x : LineResult) → ComesOut s o x → Measured (s .cluster) (s .tally) →
-    Measured (x .state .cluster) (x .state .tally)
-line-keeps-measures s o x (refused-by r low high) h = h
-line-keeps-measures s o x (founded n b i p q e) h = founded-stands n b (s .tally) p q (subst (λ o. Measured o (s .tally)) e h)
-line-keeps-measures s o x (took c l i e f room) h = stands-on c (s .tally) l (subst (λ o. Measured o (s .tally)) e h) f room
+pub line-keeps-measures : (top : ℕ) (s : State) (o : Option Line) (x : LineResult) → ComesOutUpTo top s o x →
+    MeasuredUpTo top (s .cluster) (s .tally) → MeasuredUpTo top (x .state .cluster) (x .state .tally)
+line-keeps-measures top s o x (refused-by r low high) h = h
+line-keeps-measures top s o x (founded n b i p q e) h =
+    founded-stands top n b (s .tally) p q (subst (λ o. MeasuredUpTo top o (s .tally)) e h)
+line-keeps-measures top s o x (took c l i e f room) h =
+    stands-on top c (s .tally) l (subst (λ o. MeasuredUpTo top o (s .tally)) e h) f room
 
-pub measured-on : (s : State) (ls : List (List ℕ)) → Measured (s .cluster) (s .tally) →
-    Measured (stateAfter s ls .cluster) (stateAfter s ls .tally)
+pub measured-on : (top : ℕ) (s : State) (ls : List (List ℕ)) → MeasuredUpTo top (s .cluster) (s .tally) →
+    MeasuredUpTo top (stateAfterUpTo top s ls .cluster) (stateAfterUpTo top s ls .tally)
 unfolding stateAfterUpTo
-measured-on s [] h = h
-measured-on s (l ∷ ls) h = measured-on (step s l .state) ls (line-keeps-measures s (parse l) (step s l) (comes-out s l) h)
+measured-on top s [] h = h
+measured-on top s (l ∷ ls) h =
+    let x = stepUpTo top s l in
+    measured-on top (x .state) ls (line-keeps-measures top s (parse l) x (comes-out top s l) h)
 
-pub within-always : (ls : List (List ℕ)) → Measured (stateAfter initialState ls .cluster) (stateAfter initialState ls .tally)
-within-always ls = measured-on initialState ls refl
+pub within-always : (top : ℕ) (ls : List (List ℕ)) →
+    MeasuredUpTo top (stateAfterUpTo top initialState ls .cluster) (stateAfterUpTo top initialState ls .tally)
+within-always top ls = measured-on top initialState ls refl
 
 -- ---- the tally of every script
 
-measured-tallied : (o : Option Cluster) (t : Tally) → Measured o t → Tallied (messagesOf o) t
-measured-tallied none t h = nothing-tallied t h
-measured-tallied (some c) t h = h .tallied
+measured-tallied : (top : ℕ) (o : Option Cluster) (t : Tally) → MeasuredUpTo top o t → Tallied (messagesOf o) t
+measured-tallied top none t h = nothing-tallied t h
+measured-tallied top (some c) t h = h .tallied
 
-pub tallied-always : (ls : List (List ℕ)) → Tallied (messagesOf (stateAfter initialState ls .cluster)) (stateAfter initialState ls .tally)
-tallied-always ls = let s = stateAfter initialState ls in measured-tallied (s .cluster) (s .tally) (within-always ls)
+pub tallied-always : (top : ℕ) (ls : List (List ℕ)) →
+    Tallied (messagesOf (stateAfterUpTo top initialState ls .cluster)) (stateAfterUpTo top initialState ls .tally)
+tallied-always top ls = let s = stateAfterUpTo top initialState ls in measured-tallied top (s .cluster) (s .tally) (within-always top ls)
 
-pub balanced : (ls : List (List ℕ)) →
-    let t = stateAfter initialState ls .tally in t .sent + t .copied ≡ t .delivered + t .lost + t .inFlight
-balanced ls = tallied-always ls .balance
+pub balanced : (top : ℕ) (ls : List (List ℕ)) →
+    let t = stateAfterUpTo top initialState ls .tally in t .sent + t .copied ≡ t .delivered + t .lost + t .inFlight
+balanced top ls = tallied-always top ls .balance
 
-pub in-flight : (ls : List (List ℕ)) → stateAfter initialState ls .tally .inFlight ≡ length (messagesOf (stateAfter initialState ls .cluster))
-in-flight ls = tallied-always ls .flight
+pub in-flight : (top : ℕ) (ls : List (List ℕ)) →
+    let s = stateAfterUpTo top initialState ls in s .tally .inFlight ≡ length (messagesOf (s .cluster))
+in-flight top ls = tallied-always top ls .flight
 
-pub at-most-64 : (ls : List (List ℕ)) → length (messagesOf (stateAfter initialState ls .cluster)) ≤ maxMessages
-at-most-64 ls = tallied-always ls .room
+pub at-most-64 : (top : ℕ) (ls : List (List ℕ)) → length (messagesOf (stateAfterUpTo top initialState ls .cluster)) ≤ maxMessages
+at-most-64 top ls = tallied-always top ls .room

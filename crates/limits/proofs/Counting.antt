@@ -10,7 +10,7 @@ use borrow.Author.Tests.{leb-false}
 use Rattle.model.specs.Measures.{maxMessages}
 use Rattle.model.specs.Cluster.{Cluster, Message}
 use Rattle.model.specs.Leader.{Reaction}
-use Rattle.model.specs.Lines.{Line, cluster, elect, call, deliver, copy, lose, timeout, stop, cut, start, initialState, Tally, Condition, when, firstOf, conditions, conditionsUpTo, noMessage, limitReached, dropAt, stoppedAt, Work, byLine, delivery, work, tallied}
+use Rattle.model.specs.Lines.{Line, cluster, elect, call, deliver, copy, lose, timeout, stop, cut, start, initialState, Tally, Condition, when, firstOf, conditionsUpTo, noMessage, limitReached, dropAt, stoppedAt, Work, byLine, delivery, work, tallied}
 use Rattle.limits.specs.Lists.{All, nil, cons}
 use Rattle.limits.specs.Tally.{Tallied}
 use Rattle.limits.proofs.Lists.{all-head, all-tail}
@@ -51,22 +51,22 @@ handing-balances c m kept copied h = go (stoppedAt c (m .receiver)) refl
     go true p = rw (delivery, p) (omega arith)
     go false p = rw (delivery, p) (simp length-append (omega arith))
 
-work-balances : (c : Cluster) (l : Line) → firstOf (conditions c l) ≡ none → Balances c (work c l)
+work-balances : (top : ℕ) (c : Cluster) (l : Line) → firstOf (conditionsUpTo top c l) ≡ none → Balances c (work c l)
 unfolding work conditionsUpTo
-work-balances c (cluster n b) e = simp length-append (omega arith)
-work-balances c (elect s) e = simp length-append (omega arith)
-work-balances c (call s w) e = simp length-append (omega arith)
-work-balances c (deliver i) e = handing-balances c _ _ 0 (omega (arith, length-dropAt i (c .messages) (place-taken c i e)))
-work-balances c (copy i) e = handing-balances c _ _ 1 (omega arith)
-work-balances c (lose i) e = omega (arith, length-dropAt i (c .messages) (place-taken c i e))
-work-balances c (timeout s b) e = simp length-append (omega arith)
-work-balances c (stop s) e = simp length-append (omega arith)
-work-balances c (cut i k) e =
+work-balances top c (cluster n b) e = simp length-append (omega arith)
+work-balances top c (elect s) e = simp length-append (omega arith)
+work-balances top c (call s w) e = simp length-append (omega arith)
+work-balances top c (deliver i) e = handing-balances c _ _ 0 (omega (arith, length-dropAt i (c .messages) (place-taken c i e)))
+work-balances top c (copy i) e = handing-balances c _ _ 1 (omega arith)
+work-balances top c (lose i) e = omega (arith, length-dropAt i (c .messages) (place-taken c i e))
+work-balances top c (timeout s b) e = simp length-append (omega arith)
+work-balances top c (stop s) e = simp length-append (omega arith)
+work-balances top c (cut i k) e =
     let there = message-there c i (all-head (all-tail (none-applies _ e))) in
     let rest = dropAt i (c .messages) in
     let same : length (rest ++ []) ≡ length rest = rw append-nil refl in
     omega (arith, same, length-dropAt i (c .messages) there)
-work-balances c (start s) e = simp length-append (omega arith)
+work-balances top c (start s) e = simp length-append (omega arith)
 
 -- what one line adds to the tally: what it sends stands in the list, and it copies at most one
 pub record Counts (w : Work) : Type 0 where
@@ -111,6 +111,6 @@ nothing-tallied t e =
     }
 
 -- a line that is taken, with room for what it sends, keeps it so
-pub work-keeps-tally : (c : Cluster) (t : Tally) (l : Line) → firstOf (conditions c l) ≡ none → length (work c l .cluster .messages) ≤ maxMessages →
+pub work-keeps-tally : (top : ℕ) (c : Cluster) (t : Tally) (l : Line) → firstOf (conditionsUpTo top c l) ≡ none → length (work c l .cluster .messages) ≤ maxMessages →
     Tallied (c .messages) t → Tallied (work c l .cluster .messages) (tallied t (work c l))
-work-keeps-tally c t l e room h = record { balance = omega (arith, h .balance, h .flight, work-balances c l e); flight = refl; room = room }
+work-keeps-tally top c t l e room h = record { balance = omega (arith, h .balance, h .flight, work-balances top c l e); flight = refl; room = room }

@@ -10,7 +10,7 @@ use native.Mathlib.Decide.{decLt}
 use lib.Dec.{ltb}
 use lib.ListN.{length, take, length-append, length-take}
 use borrow.Author.Tests.{ltb-false}
-use Rattle.model.specs.Measures.{maxBuckets, maxValueBytes, maxMessages, maxAccepted, maxLines}
+use Rattle.model.specs.Measures.{maxBuckets, maxValueBytes, maxMessages, maxAccepted, maxElection, maxLines}
 use Rattle.model.specs.Calls.{Result, value, listed, done, mismatch, full, notdone, unknown, Answer}
 use Rattle.model.specs.Cluster.{Message, Cluster}
 use Rattle.model.specs.Lines.{Line, State, initialState, Tally, refusal, LineResult, work}
@@ -132,12 +132,13 @@ line-length number s o x h m (refused-by r low high) = refusal-length number r h
 line-length number s o x h m (founded n b i p q e) = omega arith
 line-length number s o x h m (took c l i e f room) =
     let k = subst (λ o. Measured o (s .tally)) e m in
-    let w = line-taken c (s .tally) l k f in
-    answers-length (work c l .answers) (k .fewBuckets) (omega (arith, room-for-line c l f), omega (arith, room-for-line c l f)) (w .answers)
+    let w = line-taken maxElection c (s .tally) l k f in
+    let few = room-for-line maxElection c l f in
+    answers-length (work c l .answers) (k .fewBuckets) (omega arith, omega arith) (w .answers)
 
 pub printed-at-most : (ls : List (List ℕ)) (l : List ℕ) (number : ℕ) → number ≤ maxLines →
     length (outcomeText number (step (stateAfter initialState ls) l .outcome)) ≤ maxPrinted
-printed-at-most ls l number h = line-length number (stateAfter initialState ls) _ _ h (within-always ls) (comes-out (stateAfter initialState ls) l)
+printed-at-most ls l number h = line-length number (stateAfter initialState ls) _ _ h (within-always maxElection ls) (comes-out maxElection (stateAfter initialState ls) l)
 
 -- ---- the tally line
 
@@ -165,7 +166,7 @@ measured-tally none t h = tally-length t (omega (arith, ap (λ x. x .sent) h)) (
 measured-tally (some c) t h = tally-length t (omega (arith, h .sent, h .accepted)) (omega (arith, h .copied, h .accepted)) (h .tallied)
 
 pub tally-at-most : (ls : List (List ℕ)) → length (tallyText (stateAfter initialState ls .tally)) ≤ maxTallyBytes
-tally-at-most ls = let s = stateAfter initialState ls in measured-tally (s .cluster) (s .tally) (within-always ls)
+tally-at-most ls = let s = stateAfter initialState ls in measured-tally (s .cluster) (s .tally) (within-always maxElection ls)
 
 -- ---- a whole run
 
@@ -181,9 +182,9 @@ printedFrom-length : (number : ℕ) (s : State) (ls : List (List ℕ)) → numbe
 unfolding printedFrom
 printedFrom-length number s [] h m = omega (arith, measured-tally (s .cluster) (s .tally) m)
 printedFrom-length number s (l ∷ ls) h m =
-    let x = comes-out s l in
+    let x = comes-out maxElection s l in
     let line = line-length number s (parse l) (step s l) (omega arith) m x in
-    let rest = printedFrom-length (number + 1) (step s l .state) ls (omega arith) (line-keeps-measures s (parse l) (step s l) x m) in
+    let rest = printedFrom-length (number + 1) (step s l .state) ls (omega arith) (line-keeps-measures maxElection s (parse l) (step s l) x m) in
     simp length-append (omega arith)
 
 pub run-at-most : (input : List ℕ) → length (run input) ≤ maxPrinted * length (linesOf input) + maxTallyBytes

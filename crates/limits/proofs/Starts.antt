@@ -6,6 +6,7 @@ use mathlib.Core.Bool.{false}
 use mathlib.Core.Option.{some}
 use Prim.Native.Nat.{ℕ, _<_}
 use lib.ListN.{length}
+use Rattle.model.specs.Measures.{maxElection}
 use Rattle.model.specs.Cluster.{Cluster, freshServer}
 use Rattle.model.specs.Lines.{Tally, initialState, serverAt, restarted}
 use Rattle.model.specs.Run.{stateAfter}
@@ -27,4 +28,4 @@ pub restarted-like-fresh : (ls : List (List ℕ)) (c : Cluster) → stateAfter i
     → restarted (serverAt c s) ≡ freshBut c (serverAt c s)
 restarted-like-fresh ls c e s there =
     let t = stateAfter initialState ls .tally in
-    stands-restarted c t (subst (λ o. Measured o t) e (within-always ls)) s there
+    stands-restarted c t (subst (λ o. Measured o t) e (within-always maxElection ls)) s there

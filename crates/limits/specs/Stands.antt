@@ -29,9 +29,12 @@ abbrev pub Stands : Cluster → Tally → Type 0
 Stands = StandsUpTo maxElection
 
 -- before there is a cluster nothing is counted
+abbrev pub MeasuredUpTo : ℕ → Option Cluster → Tally → Type 0
+MeasuredUpTo top none t = t ≡ initialState .tally
+MeasuredUpTo top (some c) t = StandsUpTo top c t
+
 abbrev pub Measured : Option Cluster → Tally → Type 0
-Measured none t = t ≡ initialState .tally
-Measured (some c) t = Stands c t
+Measured = MeasuredUpTo maxElection
 
 -- the messages in flight; none before there is a cluster
 abbrev pub messagesOf : Option Cluster → List Message

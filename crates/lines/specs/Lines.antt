@@ -6,8 +6,6 @@ use lib.ListN.{length, take, getD}
 use Rattle.model.specs.Parse.{parse}
 use Rattle.model.specs.Print.{outcomeText}
 use Rattle.parse.specs.Meaning.{parsed}
-use Rattle.views.specs.Memory.{Memory}
-use Rattle.runs.specs.declared.Tally.{Tally}
 use Rattle.machine.specs.declared.Stepped.{Stepped}
 use Rattle.runs.specs.Meaning.{outcomeIn}
 use Rattle.machine.specs.Meaning.{Performed}
@@ -33,14 +31,10 @@ pub record KeptFrom (h : Held) (input : List ℕ) (from : ℕ) (h′ : Held) (ta
 
 -- ---- its end
 
--- the present line is read and performed
-pub record LineRun (m : Memory) (l : List ℕ) (t : Tally) (h : Held) (m′ : Memory) (l′ : List ℕ) (r : Stepped) : Type 0 where
-  pub performs : Performed m l t (parsed (parse (presentLine h))) m′ l′ r
-
--- a line at its end: the text is its outcome, under the line's number
+-- the present line is read and performed; the text is its outcome, under the line's number
 pub record LineEnded (w w′ : Session) (text : List ℕ) : Type 0 where
   pub told : Stepped
-  pub runs : LineRun (w .memory) (w .answers) (w .tally) (w .held) (w′ .memory) (w′ .answers) told
+  pub performs : Performed (w .memory) (w .answers) (w .tally) (parsed (parse (presentLine (w .held)))) (w′ .memory) (w′ .answers) told
   pub counted : w′ .tally ≡ told .tally
   pub next : w′ .lines ≡ w .lines + 1
   pub clear : w′ .held ≡ held (w .held .bytes) 0

@@ -9,9 +9,10 @@ use Rattle.entries.specs.Entries.{Entry}
 use Rattle.server.specs.declared.Effect.{Effect}
 use Rattle.server.specs.Views.{chosen}
 use Rattle.memory.specs.declared.Counts.{Counts}
+use Rattle.memory.specs.Layout.{messageRoom, slotOf}
 use Rattle.refusals.specs.Refusals.{sendCount, placesLeft}
 use Rattle.moves.specs.declared.Move.{Move}
-use Rattle.views.specs.Memory.{Memory, memory, slotOf}
+use Rattle.views.specs.Memory.{Memory, memory}
 use Rattle.views.specs.Changes.{filledFrom, moved}
 use Rattle.views.specs.Queue.{flight, withoutMessage}
 use Rattle.flight.specs.Flown.{Flown}
@@ -32,26 +33,26 @@ leb-le a b e = go (decLe a b)
 
 -- once the message handed over has left, there are places for what is sent
 pub room-left : (c : Counts) (removes : Bool) (i kind : ℕ) (q l q′ l′ : List ℕ) (r : ℕ)
-    → Flown (withoutMessage removes i (flight q l (c .messages))) q′ l′ r → placesLeft c removes kind ≡ true → r + sendCount (c .servers) kind ≤ 64
+    → Flown (withoutMessage removes i (flight q l (c .messages))) q′ l′ r → placesLeft c removes kind ≡ true → r + sendCount (c .servers) kind ≤ messageRoom
 unfolding withoutMessage chosen
 room-left c true i kind q l q′ l′ r f e =
     let n : r ≡ c .messages - 1 = ap (λ x. x .count) (f .is) in
-    let h : c .messages - 1 + sendCount (c .servers) kind ≤ 64 = leb-le _ _ e in
+    let h : c .messages - 1 + sendCount (c .servers) kind ≤ messageRoom = leb-le _ _ e in
     omega arith
 room-left c false i kind q l q′ l′ r f e =
     let n : r ≡ c .messages = ap (λ x. x .count) (f .is) in
-    let h : c .messages - 0 + sendCount (c .servers) kind ≤ 64 = leb-le _ _ e in
+    let h : c .messages - 0 + sendCount (c .servers) kind ≤ messageRoom = leb-le _ _ e in
     omega arith
 
 -- what the parts of a step leave
-pub carried-out : (counts heads slots copies works texts queue loads l : List ℕ) (c : Counts) (x : Step) (v : Move) (f : Effect) (made : List Entry)
-    (counts′ heads′ slots′ copies′ works′ queue′ loads′ l′ : List ℕ) (t : Told)
-    → works′ ≡ filledFrom works copies loads (slotOf (x .server) (x .bucket)) (x .message) made (v .fills)
-    → CarriedOn counts heads slots copies works′ queue loads l c x v counts′ heads′ slots′ copies′ queue′ loads′ l′ t
-    → ran (memory counts′ heads′ slots′ copies′ works′ texts queue′ loads′) l′ (carriedReport t x f)
-    ≡ carriedRun (memory counts heads slots copies works texts queue loads) l c x v made
+pub carried-out : (counts heads slots copies working texts queue payloads l : List ℕ) (c : Counts) (x : Step) (v : Move) (f : Effect) (made : List Entry)
+    (counts′ heads′ slots′ copies′ working′ queue′ payloads′ l′ : List ℕ) (k : ℕ) (t : Told) → k ≡ slotOf (x .server) (x .bucket)
+    → working′ ≡ filledFrom working copies payloads k (x .place) made (v .fills)
+    → CarriedOn counts heads slots copies working′ queue payloads l c x v counts′ heads′ slots′ copies′ queue′ payloads′ l′ t
+    → ran (memory counts′ heads′ slots′ copies′ working′ texts queue′ payloads′) l′ (carriedReport t x f)
+    ≡ carriedRun (memory counts heads slots copies working texts queue payloads) l c x v made
 unfolding carriedRun moved
-carried-out counts heads slots copies works texts queue loads l c x v f made counts′ heads′ slots′ copies′ works′ queue′ loads′ l′ t w g =
+carried-out counts heads slots copies working texts queue payloads l c x v f made counts′ heads′ slots′ copies′ working′ queue′ payloads′ l′ k t h w g =
     let s = g .server in
     let m = s .moves in
     let y = g .flown in
@@ -63,10 +64,11 @@ carried-out counts heads slots copies works texts queue loads l c x v f made cou
       ap (λ a. a .answers) (s .listed .is),
       ap (λ a. a .count) (s .listed .is),
       ap (λ a. a .queue) (y .is),
-      ap (λ a. a .loads) (y .is),
+      ap (λ a. a .payloads) (y .is),
       ap (λ a. a .count) (y .is),
       m .copy,
       w,
+      h,
     )
 
 -- what is reported of a move that was carried out

@@ -13,17 +13,17 @@ use Rattle.machine.specs.Contracts.{Created, Clustered}
 module _ {counts heads slots copies : List ℕ} {n b : ℕ} where
   pub stands-already : standing (countsAt counts) ≡ true → Clustered counts heads slots copies n b counts heads slots copies 2
   unfolding clusterRun
-  stands-already e = record { is = λ works texts queue loads l. rw (clusterRun, e) }
+  stands-already e = record { is = λ working texts queue payloads l. rw (clusterRun, e) }
 
   pub too-many-servers : standing (countsAt counts) ≡ false → within maxServers n ≡ false → Clustered counts heads slots copies n b counts heads slots copies 2
   unfolding clusterRun createdRun
-  too-many-servers e s = record { is = λ works texts queue loads l. rw (clusterRun, e, createdRun, s) }
+  too-many-servers e s = record { is = λ working texts queue payloads l. rw (clusterRun, e, createdRun, s) }
 
   pub out-of-range : standing (countsAt counts) ≡ false → within maxServers n ≡ true → within maxBuckets b ≡ false → Clustered counts heads slots copies n b counts heads slots copies 2
   unfolding clusterRun createdRun
-  out-of-range e s t = record { is = λ works texts queue loads l. rw (clusterRun, e, createdRun, s, t) }
+  out-of-range e s t = record { is = λ working texts queue payloads l. rw (clusterRun, e, createdRun, s, t) }
 
   pub made : {counts′ heads′ slots′ copies′ : List ℕ} → standing (countsAt counts) ≡ false → within maxServers n ≡ true → within maxBuckets b ≡ true
       → Created counts n b counts′ heads′ slots′ copies′ → Clustered counts heads slots copies n b counts′ heads′ slots′ copies′ 0
   unfolding clusterRun createdRun freshMemory
-  made e s t y = record { is = λ works texts queue loads l. rw (clusterRun, e, createdRun, s, t, y .counted, y .heads, y .slots, y .copies) }
+  made e s t y = record { is = λ working texts queue payloads l. rw (clusterRun, e, createdRun, s, t, y .counted, y .heads, y .slots, y .copies) }

@@ -6,21 +6,21 @@ use mathlib.Core.List.{List}
 use Prim.Native.Nat.{ℕ, _≤_, _<_}
 use native.Mathlib.Nat.{min-le-left, min-le-right}
 use native.Mathlib.Omega.{arith}
-use borrow.Author.Tests.{le-leb, lt-leb, eq-eqb, ne-eqb}
+use borrow.Author.Tests.{ne-eqb}
 use Rattle.entries.specs.Decoded.{tableIn}
 use Rattle.server.specs.declared.Effect.{Effect}
 use Rattle.server.specs.declared.Message.{Message}
 use Rattle.server.specs.Views.{effectIn}
 use Rattle.memory.specs.declared.Counts.{Counts}
-use Rattle.memory.specs.Layout.{countsAt, messageAt}
+use Rattle.memory.specs.Layout.{slotOf, countsAt, messageAt}
 use Rattle.refusals.specs.Refusals.{placesLeft, messageRefusal}
 use Rattle.moves.specs.declared.Local.{Local}
 use Rattle.moves.specs.declared.Move.{Move}
 use Rattle.moves.specs.Moves.{handledMove, readsTable}
-use Rattle.views.specs.Memory.{Memory, memory, slotOf, localAt, standing}
+use Rattle.views.specs.Memory.{Memory, memory, localAt, standing}
 use Rattle.plans.specs.declared.Step.{Step}
 use Rattle.plans.specs.declared.Plan.{Plan}
-use Rattle.plans.specs.Plans.{refusedPlan, roomy, unless, movePlan, messageStep, lostPlan, gone, receiverAt, handPlan, handAt}
+use Rattle.plans.specs.Plans.{refusedPlan, ifPlacesLeft, unless, movePlan, messageStep, lostPlan, gone, receiverAt, handPlan, handAt}
 use Rattle.plans.specs.Arrays.{Measured, askedAt}
 use Rattle.plans.proofs.Judging.{unless-none, unless-some}
 use Rattle.runs.specs.declared.Report.{Report}
@@ -47,24 +47,24 @@ carries {c} {x} h e t =
     }
 
 module _ (m : Memory) (l : List ℕ) (c : Counts) (x : Step) (y : Message) (to : Local) where
-  moves-plan : (f : Effect) (v : Move) → placesLeft c (x .removes) (v .sends) ≡ true → carriedRun m l c x v (tableIn (f .table)) ≡ executed m l c (roomy c (movePlan x v f))
-  unfolding executed roomy taken
-  moves-plan f v e = rw (roomy, e)
+  moves-plan : (f : Effect) (v : Move) → placesLeft c (x .removes) (v .sends) ≡ true → carriedRun m l c x v (tableIn (f .table)) ≡ executed m l c (ifPlacesLeft c (movePlan x v f))
+  unfolding executed ifPlacesLeft taken
+  moves-plan f v e = rw (ifPlacesLeft, e)
 
-  refuses-plan : (f : Effect) (v : Move) → placesLeft c (x .removes) (v .sends) ≡ false → refusedRun m l 12 ≡ executed m l c (roomy c (movePlan x v f))
-  unfolding executed roomy
-  refuses-plan f v e = rw (roomy, e)
+  refuses-plan : (f : Effect) (v : Move) → placesLeft c (x .removes) (v .sends) ≡ false → refusedRun m l 12 ≡ executed m l c (ifPlacesLeft c (movePlan x v f))
+  unfolding executed ifPlacesLeft
+  refuses-plan f v e = rw (ifPlacesLeft, e)
 
   -- the move is carried out
   pub handled : (f : Effect) (v : Move) (b : Bool) (z : Ran) → v ≡ handledMove (c .servers) (x .server) (f .result) y to → b ≡ placesLeft c (x .removes) (v .sends) → b ≡ true
       → z ≡ carriedRun m l c x v (tableIn (f .table)) → z ≡ handledRun m l c x y to f
-  handled f v b z e h t q = q ∙ moves-plan f v (sym h ∙ t) ∙ ap (λ v. executed m l c (roomy c (movePlan x v f))) e
+  handled f v b z e h t q = q ∙ moves-plan f v (sym h ∙ t) ∙ ap (λ v. executed m l c (ifPlacesLeft c (movePlan x v f))) e
 
   -- 12
-  pub unroomy : (f : Effect) (v : Move) (b : Bool) (r : Report) → v ≡ handledMove (c .servers) (x .server) (f .result) y to → b ≡ placesLeft c (x .removes) (v .sends) → b ≡ false
+  pub no-places-left : (f : Effect) (v : Move) (b : Bool) (r : Report) → v ≡ handledMove (c .servers) (x .server) (f .result) y to → b ≡ placesLeft c (x .removes) (v .sends) → b ≡ false
       → r ≡ refusal 12 f → ran m l r ≡ handledRun m l c x y to f
   unfolding refusedRun
-  unroomy f v b r e h t q = ap (ran m l) q ∙ refuses-plan f v (sym h ∙ t) ∙ ap (λ v. executed m l c (roomy c (movePlan x v f))) e
+  no-places-left f v b r e h t q = ap (ran m l) q ∙ refuses-plan f v (sym h ∙ t) ∙ ap (λ v. executed m l c (ifPlacesLeft c (movePlan x v f))) e
 
   -- to a server that is not gone a message is handed over
   handed-to : (f : Effect) (z : Ran) → gone c x to ≡ false → z ≡ handledRun m l c x y to f → z ≡ executed m l c (handPlan c x y to f)
@@ -75,19 +75,19 @@ module _ (m : Memory) (l : List ℕ) (c : Counts) (x : Step) (y : Message) (to :
 
 module _ (c : Counts) (i : ℕ) (removes : Bool) (y : Message) (x : Step) (e : x ≡ messageStep c i removes y) where
   pub losable : Measured c → i < c .messages → Losable c x
-  losable m h = record { messages = m .messages; there = λ _. rw (ap (λ x. x .message) e) h }
+  losable m h = record { messages = m .messages; there = λ _. rw (ap (λ x. x .place) e) h }
 
   pub handable : Measured c → i < c .messages → (to : Local) → gone c x to ≡ false → Handable c x
   handable m h to g = record {
     measured = m;
     server = stays c x to (rw e (min-le-right 6 (y .receiver))) g;
     bucket = let b : x .bucket ≤ 7 = rw (ap (λ x. x .bucket) e) (min-le-left 7 (y .bucket)) in omega arith;
-    listed = rw (ap (λ x. x .message) e) h;
+    listed = rw (ap (λ x. x .place) e) h;
   }
 
-module _ (counts heads slots copies works texts queue loads l : List ℕ) (c : Counts) (i : ℕ) (removes : Bool) where
+module _ (counts heads slots copies working texts queue payloads l : List ℕ) (c : Counts) (i : ℕ) (removes : Bool) where
   abbrev before : Memory
-  before = memory counts heads slots copies works texts queue loads
+  before = memory counts heads slots copies working texts queue payloads
 
   -- the message, its step and its receiver as they were loaded
   module _ (y : Message) (x : Step) (to : Local) (ey : y ≡ messageAt queue i) (ex : x ≡ messageStep c i removes y) (et : to ≡ localAt before (x .server) (slotOf (x .server) (x .bucket))) where
@@ -123,14 +123,14 @@ module _ (counts heads slots copies works texts queue loads l : List ℕ) (c : C
     lost-plan f g = rw (handPlan, g)
 
     -- to a server that is gone it is lost
-    pub listed-lost : (f : Effect) {counts′ queue′ loads′ : List ℕ} {r : Report} → gone c x to ≡ true → Lost counts queue loads c x f counts′ queue′ loads′ r
-        → HandedListed before l c i removes (memory counts′ heads slots copies works texts queue′ loads′) l r
-    listed-lost f {counts′} {queue′} {loads′} {r} g q =
-        let q1 : Lost counts queue loads c (messageStep c i removes y) f counts′ queue′ loads′ r = subst (λ x. Lost counts queue loads c x f counts′ queue′ loads′ r) ex q in
-        let q2 : Lost counts queue loads c (lostPlan c i removes f .step) f counts′ queue′ loads′ r = record { rest = q1 .rest; counted = q1 .counted; report = q1 .report } in
+    pub listed-lost : (f : Effect) {counts′ queue′ payloads′ : List ℕ} {r : Report} → gone c x to ≡ true → Lost counts queue payloads c x f counts′ queue′ payloads′ r
+        → HandedListed before l c i removes (memory counts′ heads slots copies working texts queue′ payloads′) l r
+    listed-lost f {counts′} {queue′} {payloads′} {r} g q =
+        let q1 : Lost counts queue payloads c (messageStep c i removes y) f counts′ queue′ payloads′ r = subst (λ x. Lost counts queue payloads c x f counts′ queue′ payloads′ r) ex q in
+        let q2 : Lost counts queue payloads c (lostPlan c i removes f .step) f counts′ queue′ payloads′ r = record { rest = q1 .rest; counted = q1 .counted; report = q1 .report } in
         let same : r .effect ≡ f = ap (λ r. r .effect) (q .report) in
         listed
-        (executes-lost counts heads slots copies works texts queue loads l c (lostPlan c i removes f) refl refl q2 .is
+        (executes-lost counts heads slots copies working texts queue payloads l c (lostPlan c i removes f) refl refl q2 .is
         ∙ ap (executed before l c) (sym (lost-plan f (ap (λ x. gone c x to) (sym ex) ∙ g)))
         ∙ ap (λ f. executed before l c (handPlan c (messageStep c i removes y) y to f)) (sym same)
         ∙ ap (λ x. executed before l c (handPlan c x y to (r .effect))) (sym ex))

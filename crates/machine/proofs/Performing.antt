@@ -9,6 +9,7 @@ use native.Mathlib.Omega.{arith}
 use lib.Dec.{eqb}
 use lib.ListN.{length}
 use Rattle.entries.specs.Decoded.{tableIn, valueBytes}
+use Rattle.model.specs.Measures.{maxElection}
 use Rattle.model.specs.Cluster as cluster
 use Rattle.model.specs.Lines as lines
 use Rattle.limits.proofs.Refusals.{ComesOut, refused-by, perform-comes-out}
@@ -30,7 +31,7 @@ use Rattle.machine.specs.Meaning.{Performed}
 performed-comes-out : (s : lines.State) (o : Option lines.Line) → ComesOut s o (performed s o)
 unfolding performed
 performed-comes-out s none = refused-by 1 (omega arith) (omega arith)
-performed-comes-out s (some x) = perform-comes-out s x
+performed-comes-out s (some x) = perform-comes-out maxElection s x
 
 -- counts within the measures are below 2 ^ 32
 record Small (t : lines.Tally) : Type 0 where
@@ -63,7 +64,7 @@ module _ (m : Memory) (l : List ℕ) (t : Tally) (x : Line) (m′ : Memory) (l�
       line-means m l (tallyIn t) x (r .effect) sized answers whole measured (run .effect) ∙ ap (λ y. resultOf (tallyIn t) y (r .effect)) (sym (run .is))
 
   kept : Measured (performed (stateIn m (tallyIn t)) (lineIn x) .state .cluster) (performed (stateIn m (tallyIn t)) (lineIn x) .state .tally)
-  kept = line-keeps-measures (stateIn m (tallyIn t)) (lineIn x) _ (performed-comes-out (stateIn m (tallyIn t)) (lineIn x)) measured
+  kept = line-keeps-measures maxElection (stateIn m (tallyIn t)) (lineIn x) _ (performed-comes-out (stateIn m (tallyIn t)) (lineIn x)) measured
 
   by-refusal : (b : Bool) → eqb (r .refusal) 0 ≡ b → performed (stateIn m (tallyIn t)) (lineIn x) ≡ after
   unfolding resultOf tallyAfter outcomeIn

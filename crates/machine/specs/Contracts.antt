@@ -8,12 +8,12 @@ use Rattle.server.specs.declared.Effect.{Effect}
 use Rattle.server.specs.declared.Message.{Message}
 use Rattle.server.specs.Views.{effectIn}
 use Rattle.memory.specs.declared.Counts.{Counts}
-use Rattle.memory.specs.Layout.{countsAt, messageAt, putCounts, putWords, putTexts}
+use Rattle.memory.specs.Layout.{serverRoom, bucketRoom, messageRoom, slotOf, countsAt, messageAt, putCounts, putWords, putTexts}
 use Rattle.refusals.specs.Refusals.{sendCount, placesLeft}
 use Rattle.moves.specs.declared.Local.{Local}
 use Rattle.moves.specs.declared.Move.{Move}
 use Rattle.moves.specs.Moves.{handledMove, readsTable}
-use Rattle.views.specs.Memory.{Memory, memory, slotOf, standing}
+use Rattle.views.specs.Memory.{Memory, memory, standing}
 use Rattle.views.specs.Changes.{answered}
 use Rattle.views.specs.Queue.{flight, withoutMessage, sent}
 use Rattle.steps.specs.Stored.{MovedServer}
@@ -21,7 +21,7 @@ use Rattle.answers.specs.Answers.{Listed}
 use Rattle.flight.specs.Flown.{Flown}
 use Rattle.plans.specs.declared.Step.{Step}
 use Rattle.plans.specs.declared.Plan.{Plan}
-use Rattle.plans.specs.Plans.{roomy, movePlan, messageStep, gone, receiverAt, handPlan, handAt}
+use Rattle.plans.specs.Plans.{ifPlacesLeft, movePlan, messageStep, gone, receiverAt, handPlan, handAt}
 use Rattle.plans.specs.Arrays.{Measured, askedAt}
 use Rattle.runs.specs.declared.Report.{Report}
 use Rattle.runs.specs.Runs.{Ran, ran, nextCounts, freshCounts, refusedRun, executed, clusterRun, linePlan, plannedRun, lineRun, HandEffect, EffectOf}
@@ -32,27 +32,27 @@ use Rattle.machine.specs.declared.Told.{Told}
 
 -- a message is there to be lost
 pub record Losable (c : Counts) (x : Step) : Type 0 where
-  pub messages : c .messages ≤ 64
-  pub there : x .removes ≡ true → x .message < c .messages
+  pub messages : c .messages ≤ messageRoom
+  pub there : x .removes ≡ true → x .place < c .messages
 
 -- a move has its server, bucket and message, and places for what it sends
 pub record Carriable (c : Counts) (x : Step) (v : Move) : Type 0 where
-  pub servers : c .servers ≤ 7
-  pub buckets : c .buckets ≤ 8
+  pub servers : c .servers ≤ serverRoom
+  pub buckets : c .buckets ≤ bucketRoom
   pub server : x .server < c .servers
-  pub bucket : x .bucket < 8
-  pub place : x .message < 64
+  pub bucket : x .bucket < bucketRoom
+  pub place : x .place < messageRoom
   pub losable : Losable c x
   pub room : placesLeft c (x .removes) (v .sends) ≡ true
 
-pub record ServerChanged (heads slots copies works loads answers : List ℕ) (c : Counts) (x : Step) (v : Move) (heads′ slots′ copies′ answers′ : List ℕ) (r : ℕ) : Type 0 where
+pub record ServerChanged (heads slots copies working payloads answers : List ℕ) (c : Counts) (x : Step) (v : Move) (heads′ slots′ copies′ answers′ : List ℕ) (r : ℕ) : Type 0 where
   pub listed : Listed (answered slots (c .buckets) (x .server) v answers) answers′ r
-  pub moves : MovedServer heads slots copies works loads (c .buckets) (x .server) (x .bucket) (x .message) v heads′ slots′ copies′
+  pub moves : MovedServer heads slots copies working payloads (c .buckets) (x .server) (x .bucket) (x .place) v heads′ slots′ copies′
 
 -- the arrays after a move whose working content is filled
-pub record CarriedOn (counts heads slots copies works queue loads answers : List ℕ) (c : Counts) (x : Step) (v : Move) (counts′ heads′ slots′ copies′ queue′ loads′ answers′ : List ℕ) (r : Told) : Type 0 where
-  pub server : ServerChanged heads slots copies works loads answers c x v heads′ slots′ copies′ answers′ (r .answers)
-  pub flown : Flown (sent (c .servers) (x .server) (x .bucket) (slotOf (x .server) (x .bucket)) (x .asked) v works copies′ (withoutMessage (x .removes) (x .message) (flight queue loads (c .messages)))) queue′ loads′ (r .messages)
+pub record CarriedOn (counts heads slots copies working queue payloads answers : List ℕ) (c : Counts) (x : Step) (v : Move) (counts′ heads′ slots′ copies′ queue′ payloads′ answers′ : List ℕ) (r : Told) : Type 0 where
+  pub server : ServerChanged heads slots copies working payloads answers c x v heads′ slots′ copies′ answers′ (r .answers)
+  pub flown : Flown (sent (c .servers) (x .server) (x .bucket) (slotOf (x .server) (x .bucket)) (x .asked) v working copies′ (withoutMessage (x .removes) (x .place) (flight queue payloads (c .messages)))) queue′ payloads′ (r .messages)
   pub counted : counts′ ≡ putCounts counts (nextCounts c (r .messages) (x .calls))
   pub sends : r .sent ≡ sendCount (c .servers) (v .sends)
 
@@ -70,8 +70,8 @@ pub record CarriedOut (y : Ran) (x : Step) (m : Memory) (answers : List ℕ) (r 
   pub is : (f : Effect) → ran m answers (carriedReport r x f) ≡ y
 
 -- a message is lost: what is reported, and the counts and messages
-pub record Lost (counts queue loads : List ℕ) (c : Counts) (x : Step) (f : Effect) (counts′ queue′ loads′ : List ℕ) (r : Report) : Type 0 where
-  pub rest : flight queue′ loads′ (r .messages) ≡ withoutMessage (x .removes) (x .message) (flight queue loads (c .messages))
+pub record Lost (counts queue payloads : List ℕ) (c : Counts) (x : Step) (f : Effect) (counts′ queue′ payloads′ : List ℕ) (r : Report) : Type 0 where
+  pub rest : flight queue′ payloads′ (r .messages) ≡ withoutMessage (x .removes) (x .place) (flight queue payloads (c .messages))
   pub counted : counts′ ≡ putCounts counts (nextCounts c (r .messages) (x .calls))
   pub report : r ≡ record { refusal = 0; answers = 0; sent = 0; copied = x .copied; delivered = 0; lost = 1; messages = r .messages; effect = f }
 
@@ -97,12 +97,12 @@ pub record Executable (c : Counts) (p : Plan) : Type 0 where
 pub record Handable (c : Counts) (x : Step) : Type 0 where
   pub measured : Measured c
   pub server : x .server < c .servers
-  pub bucket : x .bucket < 8
-  pub listed : x .message < c .messages
+  pub bucket : x .bucket < bucketRoom
+  pub listed : x .place < c .messages
 
 -- the run of message y at its receiver, with the effect f
 abbrev pub handledRun : Memory → List ℕ → Counts → Step → Message → Local → Effect → Ran
-handledRun m l c x y to f = executed m l c (roomy c (movePlan x (handledMove (c .servers) (x .server) (f .result) y to) f))
+handledRun m l c x y to f = executed m l c (ifPlacesLeft c (movePlan x (handledMove (c .servers) (x .server) (f .result) y to) f))
 
 -- message i of the list, with the effect where it asks for one
 pub record HandedListed (m : Memory) (l : List ℕ) (c : Counts) (i : ℕ) (removes : Bool) (m′ : Memory) (l′ : List ℕ) (r : Report) : Type 0 where
@@ -119,36 +119,52 @@ pub record HandRan (m : Memory) (l : List ℕ) (i : ℕ) (removes : Bool) (m′ 
 
 -- ---- lines
 
--- the memory that a plan looks at
+-- the memory that a plan and its effect look at
 abbrev pub seen : (heads slots copies texts queue : List ℕ) → Memory
 seen heads slots copies texts queue = memory [] heads slots copies [] texts queue []
 
-pub record LinePlanned (heads slots copies texts queue : List ℕ) (c : Counts) (x : Line) (p : Plan) : Type 0 where
-  pub is : p ≡ linePlan (x .kind) (seen heads slots copies texts queue) c x (p .effect)
-  pub effect : EffectOf (x .kind) (seen heads slots copies texts queue) c x (p .effect)
+-- a line that is planned: no message is handed over, so keys and values of open calls may be any
+pub record LinePlanned (heads slots copies queue : List ℕ) (c : Counts) (x : Line) (p : Plan) : Type 0 where
+  pub is : p ≡ linePlan (x .kind) (seen heads slots copies [] queue) c x (p .effect)
+  pub effect : (texts : List ℕ) → EffectOf (x .kind) (seen heads slots copies texts queue) c x (p .effect)
 
--- 0 for a malformed line, 1 for a cluster line, 3 for `deliver`, 4 for `copy`, 2 for the others
-unfoldable pub sortOf : Kind → ℕ
-sortOf K.Malformed = 0
-sortOf K.Cluster = 1
-sortOf K.Elect = 2
-sortOf K.Get = 2
-sortOf K.Set = 2
-sortOf K.SetIf = 2
-sortOf K.Del = 2
-sortOf K.Keys = 2
-sortOf K.Deliver = 3
-sortOf K.Copy = 4
-sortOf K.Lose = 2
-sortOf K.Timeout = 2
-sortOf K.Stop = 2
-sortOf K.Cut = 2
-sortOf K.Start = 2
+-- how a line is run: refused at once; a cluster made; planned, then carried out; a message handed over, which leaves the list or stays
+abbrev pub malformedLine : ℕ
+malformedLine = 0
+
+abbrev pub clusterLine : ℕ
+clusterLine = 1
+
+abbrev pub plannedLine : ℕ
+plannedLine = 2
+
+abbrev pub deliverLine : ℕ
+deliverLine = 3
+
+abbrev pub copyLine : ℕ
+copyLine = 4
+
+unfoldable pub routeOf : Kind → ℕ
+routeOf K.Malformed = malformedLine
+routeOf K.Cluster = clusterLine
+routeOf K.Elect = plannedLine
+routeOf K.Get = plannedLine
+routeOf K.Set = plannedLine
+routeOf K.SetIf = plannedLine
+routeOf K.Del = plannedLine
+routeOf K.Keys = plannedLine
+routeOf K.Deliver = deliverLine
+routeOf K.Copy = copyLine
+routeOf K.Lose = plannedLine
+routeOf K.Timeout = plannedLine
+routeOf K.Stop = plannedLine
+routeOf K.Cut = plannedLine
+routeOf K.Start = plannedLine
 
 -- the arrays after a cluster line that is refused with r, or taken with 0
 pub record Clustered (counts heads slots copies : List ℕ) (n b : ℕ) (counts′ heads′ slots′ copies′ : List ℕ) (r : ℕ) : Type 0 where
-  pub is : (works texts queue loads l : List ℕ) →
-      refusedRun (memory counts′ heads′ slots′ copies′ works texts queue loads) l r ≡ clusterRun (memory counts heads slots copies works texts queue loads) l n b
+  pub is : (working texts queue payloads l : List ℕ) →
+      refusedRun (memory counts′ heads′ slots′ copies′ working texts queue payloads) l r ≡ clusterRun (memory counts heads slots copies working texts queue payloads) l n b
 
 -- the run of a line that needs a cluster, and of any line; the effect that it asked for is reported
 pub record RanPlan (m : Memory) (l : List ℕ) (x : Line) (m′ : Memory) (l′ : List ℕ) (r : Report) : Type 0 where

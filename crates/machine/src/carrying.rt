@@ -4,7 +4,17 @@ use answers::answer;
 use entries::Decoded;
 use flight::remove;
 use flight::send;
+use memory::AnswerWords;
+use memory::CopyBytes;
+use memory::CountWords;
 use memory::Counts;
+use memory::HeadWords;
+use memory::PayloadBytes;
+use memory::QueueWords;
+use memory::SlotWords;
+use memory::TextBytes;
+use memory::WorkingBytes;
+use memory::slot_of;
 use moves::Move;
 use plans::Plan;
 use plans::Step;
@@ -19,39 +29,40 @@ use steps::contents::fill_work;
 use steps::locals::move_server;
 ghost use mathlib.Core.Path.{_≡_};
 ghost use mathlib.Core.Bool.{true};
-ghost use Prim.Native.Nat.{_<_, _≤_, _+_, _*_};
+ghost use Prim.Native.Nat.{_<_, _≤_};
 ghost use Rattle.entries.specs.Decoded.{tableIn};
-ghost use Rattle.views.specs.Memory.{memory, slotOf};
+ghost use Rattle.memory.specs.Layout.{serverRoom, bucketRoom, messageRoom, slotOf};
+ghost use Rattle.views.specs.Memory.{memory};
 ghost use Rattle.views.specs.Queue.{flight, withoutMessage, sent};
 ghost use Rattle.flight.specs.Flown.{Flown};
 ghost use Rattle.runs.specs.Runs.{carriedRun, executed, nextCounts};
 ghost use Rattle.machine.specs.Contracts.{Carriable, Losable, ServerChanged, CarriedOn, carriedReport, CarriedOut, Reported, Lost, Took, Executable};
 
-// A line that is refused with r, or one that does nothing else (0).
-pub fn refused(r: u32, f: Effect) -> Report
-    ensures { λ x. ⌜ x ≡ record { refusal = r; answers = 0; sent = 0; copied = 0; delivered = 0; lost = 0; messages = 0; effect = f } ⌝ }
+// What a line came to that sends and answers nothing: refused with this number, or accepted with 0.
+pub fn bare_report(refusal: u32, effect: Effect) -> Report
+    ensures { λ x. ⌜ x ≡ record { refusal = refusal; answers = 0; sent = 0; copied = 0; delivered = 0; lost = 0; messages = 0; effect = effect } ⌝ }
 {
     Report {
-        refusal: r,
+        refusal,
         answers: 0,
         sent: 0,
         copied: 0,
         delivered: 0,
         lost: 0,
         messages: 0,
-        effect: f,
+        effect,
     }
 }
 
 // One more accepted line.
-fn next_counts(c: Counts, messages: usize, calls: u32) -> Counts
-    requires { ⌜ messages ≤ 64 ⌝ }
-    ensures { λ r. ⌜ r ≡ nextCounts c messages calls ⌝ }
+fn next_counts(cluster: Counts, messages: usize, calls: u32) -> Counts
+    requires { ⌜ messages ≤ messageRoom ⌝ }
+    ensures { λ r. ⌜ r ≡ nextCounts cluster messages calls ⌝ }
 {
-    let lines = wrapping_add_u32(c.lines, 1);
+    let lines = wrapping_add_u32(cluster.lines, 1);
     Counts {
-        servers: c.servers,
-        buckets: c.buckets,
+        servers: cluster.servers,
+        buckets: cluster.buckets,
         messages: messages as u32,
         lines,
         calls,
@@ -60,255 +71,273 @@ fn next_counts(c: Counts, messages: usize, calls: u32) -> Counts
 
 // The message handed over leaves the list, where it is not a copy.
 fn leave(
-    queue: &mut [u32; 512],
-    loads: &mut [u8; 8192],
+    queue: &mut QueueWords,
+    payloads: &mut PayloadBytes,
     count: usize,
-    i: usize,
+    place: usize,
     removes: bool,
 ) -> usize
-    requires { ⌜ (count ≤ 64) × (removes ≡ true → i < count) ⌝ }
-    ensures { λ r. ⌜ Flown (withoutMessage removes i (flight (now (queue .entry)) (now (loads .entry)) count)) (now (queue .exit)) (now (loads .exit)) r ⌝ }
+    requires { ⌜ (count ≤ messageRoom) × (removes ≡ true → place < count) ⌝ }
+    ensures { λ r. ⌜ Flown (withoutMessage removes place (flight (now (queue .entry)) (now (payloads .entry)) count)) (now (queue .exit)) (now (payloads .exit)) r ⌝ }
 {
     if removes {
-        return remove(queue, loads, count, i);
+        return remove(queue, payloads, count, place);
     }
     count
 }
 
 // The answers, then the server's arrays; the working content is filled before.
 fn change_server(
-    heads: &mut [u32; 112],
-    slots: &mut [u32; 1792],
-    copies: &mut [u8; 7168],
-    works: &[u8; 7168],
-    loads: &[u8; 8192],
-    answers: &mut [u32; 32],
-    c: Counts,
-    x: Step,
-    v: Move,
+    heads: &mut HeadWords,
+    slots: &mut SlotWords,
+    copies: &mut CopyBytes,
+    working: &WorkingBytes,
+    payloads: &PayloadBytes,
+    answers: &mut AnswerWords,
+    cluster: Counts,
+    step: Step,
+    next: Move,
 ) -> u32
-    requires { ⌜ Carriable c x v ⌝ }
-    ensures { λ r. ⌜ ServerChanged (now (heads .entry)) (now (slots .entry)) (now (copies .entry)) (now (works .entry)) (now (loads .entry)) (now (answers .entry)) c x v (now (heads .exit)) (now (slots .exit)) (now (copies .exit)) (now (answers .exit)) r ⌝ }
+    requires { ⌜ Carriable cluster step next ⌝ }
+    ensures { λ r. ⌜ ServerChanged (now (heads .entry)) (now (slots .entry)) (now (copies .entry)) (now (working .entry)) (now (payloads .entry)) (now (answers .entry)) cluster step next (now (heads .exit)) (now (slots .exit)) (now (copies .exit)) (now (answers .exit)) r ⌝ }
 {
-    let s = x.server as usize;
-    let most = c.buckets as usize;
-    let written = answer(answers, slots, s, most, v);
+    let server = step.server as usize;
+    let buckets = cluster.buckets as usize;
+    let written = answer(answers, slots, server, buckets, next);
     move_server(
         heads,
         slots,
         copies,
-        works,
-        loads,
-        most,
-        s,
-        x.bucket as usize,
-        x.message as usize,
-        v,
+        working,
+        payloads,
+        buckets,
+        server,
+        step.bucket as usize,
+        step.place as usize,
+        next,
     );
     written
 }
 
 // The message handed over leaves the list, then the step's own are appended.
 fn change_flight(
-    queue: &mut [u32; 512],
-    loads: &mut [u8; 8192],
-    works: &[u8; 7168],
-    copies: &[u8; 7168],
-    c: Counts,
-    x: Step,
-    v: Move,
+    queue: &mut QueueWords,
+    payloads: &mut PayloadBytes,
+    working: &WorkingBytes,
+    copies: &CopyBytes,
+    cluster: Counts,
+    step: Step,
+    next: Move,
 ) -> usize
-    requires { ⌜ Carriable c x v ⌝ }
-    ensures { λ r. ⌜ Flown (sent (c .servers) (x .server) (x .bucket) (slotOf (x .server) (x .bucket)) (x .asked) v (now (works .entry)) (now (copies .entry)) (withoutMessage (x .removes) (x .message) (flight (now (queue .entry)) (now (loads .entry)) (c .messages)))) (now (queue .exit)) (now (loads .exit)) r ⌝ }
+    requires { ⌜ Carriable cluster step next ⌝ }
+    ensures { λ r. ⌜ Flown (sent (cluster .servers) (step .server) (step .bucket) (slotOf (step .server) (step .bucket)) (step .asked) next (now (working .entry)) (now (copies .entry)) (withoutMessage (step .removes) (step .place) (flight (now (queue .entry)) (now (payloads .entry)) (cluster .messages)))) (now (queue .exit)) (now (payloads .exit)) r ⌝ }
 {
     let left = leave(
         queue,
-        loads,
-        c.messages as usize,
-        x.message as usize,
-        x.removes,
+        payloads,
+        cluster.messages as usize,
+        step.place as usize,
+        step.removes,
     );
-    let k = x.server as usize * 8 + x.bucket as usize;
+    let slot = slot_of(step.server as usize, step.bucket as usize);
     send(
         queue,
-        loads,
-        works,
+        payloads,
+        working,
         copies,
         left,
-        c.servers,
-        x.server,
-        x.bucket,
-        k,
-        x.asked,
-        v,
+        cluster.servers,
+        step.server,
+        step.bucket,
+        slot,
+        step.asked,
+        next,
     )
 }
 
 // A move is carried out, once the working content of its slot is filled.
 fn carry_on(
-    counts: &mut [u32; 8],
-    heads: &mut [u32; 112],
-    slots: &mut [u32; 1792],
-    copies: &mut [u8; 7168],
-    works: &[u8; 7168],
-    queue: &mut [u32; 512],
-    loads: &mut [u8; 8192],
-    answers: &mut [u32; 32],
-    c: Counts,
-    x: Step,
-    v: Move,
+    counts: &mut CountWords,
+    heads: &mut HeadWords,
+    slots: &mut SlotWords,
+    copies: &mut CopyBytes,
+    working: &WorkingBytes,
+    queue: &mut QueueWords,
+    payloads: &mut PayloadBytes,
+    answers: &mut AnswerWords,
+    cluster: Counts,
+    step: Step,
+    next: Move,
 ) -> Told
-    requires { ⌜ Carriable c x v ⌝ }
-    ensures { λ r. ⌜ CarriedOn (now (counts .entry)) (now (heads .entry)) (now (slots .entry)) (now (copies .entry)) (now (works .entry)) (now (queue .entry)) (now (loads .entry)) (now (answers .entry)) c x v (now (counts .exit)) (now (heads .exit)) (now (slots .exit)) (now (copies .exit)) (now (queue .exit)) (now (loads .exit)) (now (answers .exit)) r ⌝ }
+    requires { ⌜ Carriable cluster step next ⌝ }
+    ensures { λ r. ⌜ CarriedOn (now (counts .entry)) (now (heads .entry)) (now (slots .entry)) (now (copies .entry)) (now (working .entry)) (now (queue .entry)) (now (payloads .entry)) (now (answers .entry)) cluster step next (now (counts .exit)) (now (heads .exit)) (now (slots .exit)) (now (copies .exit)) (now (queue .exit)) (now (payloads .exit)) (now (answers .exit)) r ⌝ }
 {
-    let written = change_server(heads, slots, copies, works, loads, answers, c, x, v);
-    let count = change_flight(queue, loads, works, copies, c, x, v);
-    store_counts(counts, next_counts(c, count, x.calls));
+    let written = change_server(
+        heads,
+        slots,
+        copies,
+        working,
+        payloads,
+        answers,
+        cluster,
+        step,
+        next,
+    );
+    let count = change_flight(queue, payloads, working, copies, cluster, step, next);
+    store_counts(counts, next_counts(cluster, count, step.calls));
     Told {
         answers: written,
-        sent: send_count(c.servers, v.sends),
+        sent: send_count(cluster.servers, next.sends),
         messages: count as u32,
     }
 }
 
 // What a move that is carried out came to.
-pub fn report_of(t: Told, x: Step, f: Effect) -> Report
-    ensures { λ r. ⌜ r ≡ carriedReport t x f ⌝ }
+pub fn report_of(told: Told, step: Step, effect: Effect) -> Report
+    ensures { λ r. ⌜ r ≡ carriedReport told step effect ⌝ }
 {
     Report {
         refusal: NONE,
-        answers: t.answers,
-        sent: t.sent,
-        copied: x.copied,
-        delivered: x.delivered,
-        lost: x.lost,
-        messages: t.messages,
-        effect: f,
+        answers: told.answers,
+        sent: told.sent,
+        copied: step.copied,
+        delivered: step.delivered,
+        lost: step.lost,
+        messages: told.messages,
+        effect,
     }
 }
 
 // A move is carried out; `table` is the new one, where the move writes one.
 pub fn carry_out(
-    counts: &mut [u32; 8],
-    heads: &mut [u32; 112],
-    slots: &mut [u32; 1792],
-    copies: &mut [u8; 7168],
-    works: &mut [u8; 7168],
-    texts: &[u8; 3584],
-    queue: &mut [u32; 512],
-    loads: &mut [u8; 8192],
-    answers: &mut [u32; 32],
-    c: Counts,
-    x: Step,
-    v: Move,
+    counts: &mut CountWords,
+    heads: &mut HeadWords,
+    slots: &mut SlotWords,
+    copies: &mut CopyBytes,
+    working: &mut WorkingBytes,
+    texts: &TextBytes,
+    queue: &mut QueueWords,
+    payloads: &mut PayloadBytes,
+    answers: &mut AnswerWords,
+    cluster: Counts,
+    step: Step,
+    next: Move,
     table: Decoded,
 ) -> Told
-    requires { ⌜ Carriable c x v ⌝ }
-    ensures { λ r. ⌜ CarriedOut (carriedRun (memory (now (counts .entry)) (now (heads .entry)) (now (slots .entry)) (now (copies .entry)) (now (works .entry)) (now (texts .entry)) (now (queue .entry)) (now (loads .entry))) (now (answers .entry)) c x v (tableIn table)) x (memory (now (counts .exit)) (now (heads .exit)) (now (slots .exit)) (now (copies .exit)) (now (works .exit)) (now (texts .entry)) (now (queue .exit)) (now (loads .exit))) (now (answers .exit)) r ⌝ }
+    requires { ⌜ Carriable cluster step next ⌝ }
+    ensures { λ r. ⌜ CarriedOut (carriedRun (memory (now (counts .entry)) (now (heads .entry)) (now (slots .entry)) (now (copies .entry)) (now (working .entry)) (now (texts .entry)) (now (queue .entry)) (now (payloads .entry))) (now (answers .entry)) cluster step next (tableIn table)) step (memory (now (counts .exit)) (now (heads .exit)) (now (slots .exit)) (now (copies .exit)) (now (working .exit)) (now (texts .entry)) (now (queue .exit)) (now (payloads .exit))) (now (answers .exit)) r ⌝ }
 {
-    let k = x.server as usize * 8 + x.bucket as usize;
-    fill_work(works, copies, loads, k, x.message as usize, v.fills, table);
+    let slot = slot_of(step.server as usize, step.bucket as usize);
+    fill_work(
+        working,
+        copies,
+        payloads,
+        slot,
+        step.place as usize,
+        next.fills,
+        table,
+    );
     carry_on(
         counts,
         heads,
         slots,
         copies,
-        works,
+        working,
         queue,
-        loads,
+        payloads,
         answers,
-        c,
-        x,
-        v,
+        cluster,
+        step,
+        next,
     )
 }
 
 // A message is lost.
 pub fn lose(
-    counts: &mut [u32; 8],
-    queue: &mut [u32; 512],
-    loads: &mut [u8; 8192],
-    c: Counts,
-    x: Step,
-    f: Effect,
+    counts: &mut CountWords,
+    queue: &mut QueueWords,
+    payloads: &mut PayloadBytes,
+    cluster: Counts,
+    step: Step,
+    effect: Effect,
 ) -> Report
-    requires { ⌜ Losable c x ⌝ }
-    ensures { λ r. ⌜ Lost (now (counts .entry)) (now (queue .entry)) (now (loads .entry)) c x f (now (counts .exit)) (now (queue .exit)) (now (loads .exit)) r ⌝ }
+    requires { ⌜ Losable cluster step ⌝ }
+    ensures { λ r. ⌜ Lost (now (counts .entry)) (now (queue .entry)) (now (payloads .entry)) cluster step effect (now (counts .exit)) (now (queue .exit)) (now (payloads .exit)) r ⌝ }
 {
     let count = leave(
         queue,
-        loads,
-        c.messages as usize,
-        x.message as usize,
-        x.removes,
+        payloads,
+        cluster.messages as usize,
+        step.place as usize,
+        step.removes,
     );
-    store_counts(counts, next_counts(c, count, x.calls));
+    store_counts(counts, next_counts(cluster, count, step.calls));
     Report {
         refusal: NONE,
         answers: 0,
         sent: 0,
-        copied: x.copied,
+        copied: step.copied,
         delivered: 0,
         lost: 1,
         messages: count as u32,
-        effect: f,
+        effect,
     }
 }
 
 // The words of a call that is taken are stored.
-fn take(slots: &mut [u32; 1792], texts: &mut [u8; 3584], p: Plan)
-    requires { ⌜ slotOf (p .step .server) (p .step .bucket) < 56 ⌝ }
-    ensures { λ _. ⌜ Took (now (slots .entry)) (now (texts .entry)) p (now (slots .exit)) (now (texts .exit)) ⌝ }
+fn take(slots: &mut SlotWords, texts: &mut TextBytes, plan: Plan)
+    requires { ⌜ (plan .step .server < serverRoom) × (plan .step .bucket < bucketRoom) ⌝ }
+    ensures { λ _. ⌜ Took (now (slots .entry)) (now (texts .entry)) plan (now (slots .exit)) (now (texts .exit)) ⌝ }
 {
-    let x = p.step;
-    let w = p.words;
-    if p.takes {
-        let k = x.server as usize * 8 + x.bucket as usize;
-        store_words(slots, texts, k, w);
+    let step = plan.step;
+    let words = plan.words;
+    if plan.takes {
+        let slot = slot_of(step.server as usize, step.bucket as usize);
+        store_words(slots, texts, slot, words);
         return;
     }
 }
 
 // A plan is carried out, or the line is refused.
 pub fn execute(
-    counts: &mut [u32; 8],
-    heads: &mut [u32; 112],
-    slots: &mut [u32; 1792],
-    copies: &mut [u8; 7168],
-    works: &mut [u8; 7168],
-    texts: &mut [u8; 3584],
-    queue: &mut [u32; 512],
-    loads: &mut [u8; 8192],
-    answers: &mut [u32; 32],
-    c: Counts,
-    p: Plan,
+    counts: &mut CountWords,
+    heads: &mut HeadWords,
+    slots: &mut SlotWords,
+    copies: &mut CopyBytes,
+    working: &mut WorkingBytes,
+    texts: &mut TextBytes,
+    queue: &mut QueueWords,
+    payloads: &mut PayloadBytes,
+    answers: &mut AnswerWords,
+    cluster: Counts,
+    plan: Plan,
 ) -> Report
-    requires { ⌜ Executable c p ⌝ }
-    ensures { λ r. ⌜ Reported (executed (memory (now (counts .entry)) (now (heads .entry)) (now (slots .entry)) (now (copies .entry)) (now (works .entry)) (now (texts .entry)) (now (queue .entry)) (now (loads .entry))) (now (answers .entry)) c p) (p .effect) (memory (now (counts .exit)) (now (heads .exit)) (now (slots .exit)) (now (copies .exit)) (now (works .exit)) (now (texts .exit)) (now (queue .exit)) (now (loads .exit))) (now (answers .exit)) r ⌝ }
+    requires { ⌜ Executable cluster plan ⌝ }
+    ensures { λ r. ⌜ Reported (executed (memory (now (counts .entry)) (now (heads .entry)) (now (slots .entry)) (now (copies .entry)) (now (working .entry)) (now (texts .entry)) (now (queue .entry)) (now (payloads .entry))) (now (answers .entry)) cluster plan) (plan .effect) (memory (now (counts .exit)) (now (heads .exit)) (now (slots .exit)) (now (copies .exit)) (now (working .exit)) (now (texts .exit)) (now (queue .exit)) (now (payloads .exit))) (now (answers .exit)) r ⌝ }
 {
-    let f = p.effect;
-    let x = p.step;
-    if p.refusal == NONE {
-        if p.loses {
-            return lose(counts, queue, loads, c, x, f);
+    let effect = plan.effect;
+    let step = plan.step;
+    if plan.refusal == NONE {
+        if plan.loses {
+            return lose(counts, queue, payloads, cluster, step, effect);
         }
-        take(slots, texts, p);
-        let t = carry_out(
+        take(slots, texts, plan);
+        let told = carry_out(
             counts,
             heads,
             slots,
             copies,
-            works,
+            working,
             texts,
             queue,
-            loads,
+            payloads,
             answers,
-            c,
-            x,
-            p.next,
-            f.table,
+            cluster,
+            step,
+            plan.next,
+            effect.table,
         );
-        return report_of(t, x, f);
+        return report_of(told, step, effect);
     }
-    refused(p.refusal, f)
+    bare_report(plan.refusal, effect)
 }

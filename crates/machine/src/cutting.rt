@@ -1,5 +1,8 @@
 // A message cut short: judged from the list and the server that it goes to.
 use memory::Counts;
+use memory::HeadWords;
+use memory::QueueWords;
+use memory::SlotWords;
 use messages::load_message;
 use plans::Plan;
 use plans::cuts::cut_plan;
@@ -12,25 +15,25 @@ use refusals::message_refusal;
 ghost use mathlib.Core.Path.{_≡_};
 ghost use Rattle.plans.specs.Arrays.{Measured, cutIn};
 
-// 5, 7 and 18, or the cut of message i after k stores.
+// 5, 7 and 18, or the cut of the message at this place after so many stores.
 pub fn plan_cut(
-    heads: &[u32; 112],
-    slots: &[u32; 1792],
-    queue: &[u32; 512],
-    c: Counts,
-    i: u32,
-    k: u32,
+    heads: &HeadWords,
+    slots: &SlotWords,
+    queue: &QueueWords,
+    cluster: Counts,
+    place: u32,
+    stores: u32,
 ) -> Plan
-    requires { ⌜ Measured c ⌝ }
-    ensures { λ r. ⌜ r ≡ cutIn (now (heads .entry)) (now (slots .entry)) (now (queue .entry)) c i k (r .effect) ⌝ }
+    requires { ⌜ Measured cluster ⌝ }
+    ensures { λ r. ⌜ r ≡ cutIn (now (heads .entry)) (now (slots .entry)) (now (queue .entry)) cluster place stores (r .effect) ⌝ }
 {
-    let f = no_effect();
-    let r = message_refusal(c, i);
-    if r == NONE {
-        let m = load_message(queue, i as usize);
-        let x = cut_step(c, i, m);
-        let l = receiver(heads, slots, x);
-        return cut_plan(c, x, k, m, l, f);
+    let effect = no_effect();
+    let refusal = message_refusal(cluster, place);
+    if refusal == NONE {
+        let message = load_message(queue, place as usize);
+        let step = cut_step(cluster, place, message);
+        let local = receiver(heads, slots, step);
+        return cut_plan(cluster, step, stores, message, local, effect);
     }
-    refused_plan(r, f)
+    refused_plan(refusal, effect)
 }

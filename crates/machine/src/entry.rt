@@ -1,6 +1,15 @@
 // One line with the tally, by value: what it leaves, and what that stands for.
 use crate::Stepped;
 use crate::one_line::run_line;
+use memory::AnswerWords;
+use memory::CopyBytes;
+use memory::CountWords;
+use memory::HeadWords;
+use memory::PayloadBytes;
+use memory::QueueWords;
+use memory::SlotWords;
+use memory::TextBytes;
+use memory::WorkingBytes;
 use parse::Line;
 use runs::Tally;
 use runs::tally_after;
@@ -17,14 +26,14 @@ fn sizes(
     heads: &[u32],
     slots: &[u32],
     copies: &[u8],
-    works: &[u8],
+    working: &[u8],
     texts: &[u8],
     queue: &[u32],
-    loads: &[u8],
+    payloads: &[u8],
     answers: &[u32],
 )
-    requires { ⌜ Sized (memory (now counts) (now heads) (now slots) (now copies) (now works) (now texts) (now queue) (now loads)) × (length (now answers) ≡ answersRoom) ⌝ }
-    ensures { λ _. ⌜ Sized (memory (now (counts .entry)) (now (heads .entry)) (now (slots .entry)) (now (copies .entry)) (now (works .entry)) (now (texts .entry)) (now (queue .entry)) (now (loads .entry))) × (length (now (answers .entry)) ≡ answersRoom) ⌝ }
+    requires { ⌜ Sized (memory (now counts) (now heads) (now slots) (now copies) (now working) (now texts) (now queue) (now payloads)) × (length (now answers) ≡ answersRoom) ⌝ }
+    ensures { λ _. ⌜ Sized (memory (now (counts .entry)) (now (heads .entry)) (now (slots .entry)) (now (copies .entry)) (now (working .entry)) (now (texts .entry)) (now (queue .entry)) (now (payloads .entry))) × (length (now (answers .entry)) ≡ answersRoom) ⌝ }
 {}
 
 // The lengths of a line's arrays, for the caller's proof: it does nothing.
@@ -34,29 +43,29 @@ fn whole(line: Line)
 
 // One line of a script.
 pub fn step(
-    counts: &mut [u32; 8],
-    heads: &mut [u32; 112],
-    slots: &mut [u32; 1792],
-    copies: &mut [u8; 7168],
-    works: &mut [u8; 7168],
-    texts: &mut [u8; 3584],
-    queue: &mut [u32; 512],
-    loads: &mut [u8; 8192],
-    answers: &mut [u32; 32],
-    t: Tally,
+    counts: &mut CountWords,
+    heads: &mut HeadWords,
+    slots: &mut SlotWords,
+    copies: &mut CopyBytes,
+    working: &mut WorkingBytes,
+    texts: &mut TextBytes,
+    queue: &mut QueueWords,
+    payloads: &mut PayloadBytes,
+    answers: &mut AnswerWords,
+    tally: Tally,
     line: Line,
 ) -> Stepped
-    ensures { λ r. ⌜ Performed (memory (now (counts .entry)) (now (heads .entry)) (now (slots .entry)) (now (copies .entry)) (now (works .entry)) (now (texts .entry)) (now (queue .entry)) (now (loads .entry))) (now (answers .entry)) t line (memory (now (counts .exit)) (now (heads .exit)) (now (slots .exit)) (now (copies .exit)) (now (works .exit)) (now (texts .exit)) (now (queue .exit)) (now (loads .exit))) (now (answers .exit)) r ⌝ }
+    ensures { λ r. ⌜ Performed (memory (now (counts .entry)) (now (heads .entry)) (now (slots .entry)) (now (copies .entry)) (now (working .entry)) (now (texts .entry)) (now (queue .entry)) (now (payloads .entry))) (now (answers .entry)) tally line (memory (now (counts .exit)) (now (heads .exit)) (now (slots .exit)) (now (copies .exit)) (now (working .exit)) (now (texts .exit)) (now (queue .exit)) (now (payloads .exit))) (now (answers .exit)) r ⌝ }
 {
     sizes(
         counts,
         heads,
         slots,
         copies,
-        works,
+        working,
         texts,
         queue,
-        loads,
+        payloads,
         answers,
     );
     whole(line);
@@ -65,13 +74,16 @@ pub fn step(
         heads,
         slots,
         copies,
-        works,
+        working,
         texts,
         queue,
-        loads,
+        payloads,
         answers,
         line,
     );
-    let tally = tally_after(t, report);
-    Stepped { report, tally }
+    let after = tally_after(tally, report);
+    Stepped {
+        report,
+        tally: after,
+    }
 }

@@ -1,58 +1,65 @@
 // A new cluster: all numbers 0 and all copies empty.
+use memory::CONTENTS_LEN;
+use memory::CopyBytes;
+use memory::CountWords;
 use memory::Counts;
+use memory::HEADS_LEN;
+use memory::HeadWords;
+use memory::SLOTS_LEN;
+use memory::SlotWords;
 use records::counters::store_counts;
 ghost use mathlib.Core.Path.{_≡_};
 ghost use lib.ListN.{length, replicate};
 ghost use Rattle.runs.specs.Runs.{freshCounts};
 ghost use Rattle.machine.specs.Contracts.{Created};
 
-fn zero_words(dst: &mut [u32], n: usize)
-    requires { ⌜ length (now dst) ≡ n ⌝ }
-    ensures { λ _. ⌜ now (dst .exit) ≡ replicate n 0 ⌝ }
+fn zero_words(dst: &mut [u32], len: usize)
+    requires { ⌜ length (now dst) ≡ len ⌝ }
+    ensures { λ _. ⌜ now (dst .exit) ≡ replicate len 0 ⌝ }
 {
     let mut i = 0;
-    while i < n {
+    while i < len {
         dst[i] = 0;
         i += 1;
     }
 }
 
-fn zero_bytes(dst: &mut [u8], n: usize)
-    requires { ⌜ length (now dst) ≡ n ⌝ }
-    ensures { λ _. ⌜ now (dst .exit) ≡ replicate n 0 ⌝ }
+fn zero_bytes(dst: &mut [u8], len: usize)
+    requires { ⌜ length (now dst) ≡ len ⌝ }
+    ensures { λ _. ⌜ now (dst .exit) ≡ replicate len 0 ⌝ }
 {
     let mut i = 0;
-    while i < n {
+    while i < len {
         dst[i] = 0;
         i += 1;
     }
 }
 
-fn fresh_counts(n: u32, b: u32) -> Counts
-    ensures { λ r. ⌜ r ≡ freshCounts n b ⌝ }
+fn fresh_counts(servers: u32, buckets: u32) -> Counts
+    ensures { λ r. ⌜ r ≡ freshCounts servers buckets ⌝ }
 {
     Counts {
-        servers: n,
-        buckets: b,
+        servers,
+        buckets,
         messages: 0,
         lines: 0,
         calls: 0,
     }
 }
 
-// A cluster of n servers and b buckets.
+// A cluster of so many servers and buckets.
 pub fn create(
-    counts: &mut [u32; 8],
-    heads: &mut [u32; 112],
-    slots: &mut [u32; 1792],
-    copies: &mut [u8; 7168],
-    n: u32,
-    b: u32,
+    counts: &mut CountWords,
+    heads: &mut HeadWords,
+    slots: &mut SlotWords,
+    copies: &mut CopyBytes,
+    servers: u32,
+    buckets: u32,
 )
-    ensures { λ _. ⌜ Created (now (counts .entry)) n b (now (counts .exit)) (now (heads .exit)) (now (slots .exit)) (now (copies .exit)) ⌝ }
+    ensures { λ _. ⌜ Created (now (counts .entry)) servers buckets (now (counts .exit)) (now (heads .exit)) (now (slots .exit)) (now (copies .exit)) ⌝ }
 {
-    zero_words(heads, 112);
-    zero_words(slots, 1792);
-    zero_bytes(copies, 7168);
-    store_counts(counts, fresh_counts(n, b));
+    zero_words(heads, HEADS_LEN);
+    zero_words(slots, SLOTS_LEN);
+    zero_bytes(copies, CONTENTS_LEN);
+    store_counts(counts, fresh_counts(servers, buckets));
 }

@@ -1,10 +1,19 @@
 // Messages that are handed over: judged, and carried out at once. Most lines are such, so no plan is made of them.
+use crate::carrying::bare_report;
 use crate::carrying::carry_out;
 use crate::carrying::lose;
-use crate::carrying::refused;
 use crate::carrying::report_of;
 use crate::numbers::standing;
+use memory::AnswerWords;
+use memory::CopyBytes;
+use memory::CountWords;
 use memory::Counts;
+use memory::HeadWords;
+use memory::PayloadBytes;
+use memory::QueueWords;
+use memory::SlotWords;
+use memory::TextBytes;
+use memory::WorkingBytes;
 use messages::load_message;
 use moves::handling::handled_move;
 use plans::deliveries::asked_effect;
@@ -26,87 +35,87 @@ ghost use Rattle.machine.specs.Contracts.{HandedListed, HandRan};
 
 // A message that is in the list; to a server that is not there, or that is stopped, it is lost.
 fn hand_listed(
-    counts: &mut [u32; 8],
-    heads: &mut [u32; 112],
-    slots: &mut [u32; 1792],
-    copies: &mut [u8; 7168],
-    works: &mut [u8; 7168],
-    texts: &[u8; 3584],
-    queue: &mut [u32; 512],
-    loads: &mut [u8; 8192],
-    answers: &mut [u32; 32],
-    c: Counts,
-    i: u32,
+    counts: &mut CountWords,
+    heads: &mut HeadWords,
+    slots: &mut SlotWords,
+    copies: &mut CopyBytes,
+    working: &mut WorkingBytes,
+    texts: &TextBytes,
+    queue: &mut QueueWords,
+    payloads: &mut PayloadBytes,
+    answers: &mut AnswerWords,
+    cluster: Counts,
+    place: u32,
     removes: bool,
 ) -> Report
-    requires { ⌜ Measured c × (i < c .messages) ⌝ }
-    ensures { λ r. ⌜ HandedListed (memory (now (counts .entry)) (now (heads .entry)) (now (slots .entry)) (now (copies .entry)) (now (works .entry)) (now (texts .entry)) (now (queue .entry)) (now (loads .entry))) (now (answers .entry)) c i removes (memory (now (counts .exit)) (now (heads .exit)) (now (slots .exit)) (now (copies .exit)) (now (works .exit)) (now (texts .entry)) (now (queue .exit)) (now (loads .exit))) (now (answers .exit)) r ⌝ }
+    requires { ⌜ Measured cluster × (place < cluster .messages) ⌝ }
+    ensures { λ r. ⌜ HandedListed (memory (now (counts .entry)) (now (heads .entry)) (now (slots .entry)) (now (copies .entry)) (now (working .entry)) (now (texts .entry)) (now (queue .entry)) (now (payloads .entry))) (now (answers .entry)) cluster place removes (memory (now (counts .exit)) (now (heads .exit)) (now (slots .exit)) (now (copies .exit)) (now (working .exit)) (now (texts .entry)) (now (queue .exit)) (now (payloads .exit))) (now (answers .exit)) r ⌝ }
 {
-    let m = load_message(queue, i as usize);
-    let x = message_step(c, i, removes, m);
-    let l = receiver(heads, slots, x);
-    if is_gone(c, x, l) {
-        return lose(counts, queue, loads, c, x, no_effect());
+    let message = load_message(queue, place as usize);
+    let step = message_step(cluster, place, removes, message);
+    let local = receiver(heads, slots, step);
+    if is_gone(cluster, step, local) {
+        return lose(counts, queue, payloads, cluster, step, no_effect());
     }
-    let f = asked_effect(slots, copies, texts, c.servers, m, l, x);
-    let v = handled_move(c.servers, x.server, f.result, m, l);
-    if places_left(c, x.removes, v.sends) {
-        let t = carry_out(
+    let effect = asked_effect(slots, copies, texts, cluster.servers, message, local, step);
+    let next = handled_move(cluster.servers, step.server, effect.result, message, local);
+    if places_left(cluster, step.removes, next.sends) {
+        let told = carry_out(
             counts,
             heads,
             slots,
             copies,
-            works,
+            working,
             texts,
             queue,
-            loads,
+            payloads,
             answers,
-            c,
-            x,
-            v,
-            f.table,
+            cluster,
+            step,
+            next,
+            effect.table,
         );
-        return report_of(t, x, f);
+        return report_of(told, step, effect);
     }
-    refused(NO_PLACES, f)
+    bare_report(NO_PLACES, effect)
 }
 
-// The message at place i is handed over; `copy` leaves it in the list.
+// The message at this place is handed over; `copy` leaves it in the list.
 pub fn hand_line(
-    counts: &mut [u32; 8],
-    heads: &mut [u32; 112],
-    slots: &mut [u32; 1792],
-    copies: &mut [u8; 7168],
-    works: &mut [u8; 7168],
-    texts: &[u8; 3584],
-    queue: &mut [u32; 512],
-    loads: &mut [u8; 8192],
-    answers: &mut [u32; 32],
-    i: u32,
+    counts: &mut CountWords,
+    heads: &mut HeadWords,
+    slots: &mut SlotWords,
+    copies: &mut CopyBytes,
+    working: &mut WorkingBytes,
+    texts: &TextBytes,
+    queue: &mut QueueWords,
+    payloads: &mut PayloadBytes,
+    answers: &mut AnswerWords,
+    place: u32,
     removes: bool,
 ) -> Report
-    ensures { λ r. ⌜ HandRan (memory (now (counts .entry)) (now (heads .entry)) (now (slots .entry)) (now (copies .entry)) (now (works .entry)) (now (texts .entry)) (now (queue .entry)) (now (loads .entry))) (now (answers .entry)) i removes (memory (now (counts .exit)) (now (heads .exit)) (now (slots .exit)) (now (copies .exit)) (now (works .exit)) (now (texts .entry)) (now (queue .exit)) (now (loads .exit))) (now (answers .exit)) r ⌝ }
+    ensures { λ r. ⌜ HandRan (memory (now (counts .entry)) (now (heads .entry)) (now (slots .entry)) (now (copies .entry)) (now (working .entry)) (now (texts .entry)) (now (queue .entry)) (now (payloads .entry))) (now (answers .entry)) place removes (memory (now (counts .exit)) (now (heads .exit)) (now (slots .exit)) (now (copies .exit)) (now (working .exit)) (now (texts .entry)) (now (queue .exit)) (now (payloads .exit))) (now (answers .exit)) r ⌝ }
 {
-    let c = load_counts(counts);
-    if standing(c) {
-        let r = message_refusal(c, i);
-        if r == NONE {
+    let cluster = load_counts(counts);
+    if standing(cluster) {
+        let refusal = message_refusal(cluster, place);
+        if refusal == NONE {
             return hand_listed(
                 counts,
                 heads,
                 slots,
                 copies,
-                works,
+                working,
                 texts,
                 queue,
-                loads,
+                payloads,
                 answers,
-                c,
-                i,
+                cluster,
+                place,
                 removes,
             );
         }
-        return refused(r, no_effect());
+        return bare_report(refusal, no_effect());
     }
-    refused(CLUSTER_WRONG, no_effect())
+    bare_report(CLUSTER_WRONG, no_effect())
 }

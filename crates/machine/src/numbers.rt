@@ -8,22 +8,22 @@ ghost use Rattle.table.specs.Form.{within};
 ghost use Rattle.views.specs.Memory.{standing};
 
 // A number from 1 to top.
-pub fn within(top: u32, n: u32) -> bool
-    ensures { λ r. ⌜ r ≡ within top n ⌝ }
+pub fn within(top: u32, number: u32) -> bool
+    ensures { λ r. ⌜ r ≡ within top number ⌝ }
 {
-    if n < 1 {
+    if number < 1 {
         return false;
     }
-    n <= top
+    number <= top
 }
 
 // Whether a cluster stands: its counts are within the measures (RULES, Measures 1 and 3).
-pub fn standing(c: Counts) -> bool
-    ensures { λ r. ⌜ r ≡ standing c ⌝ }
+pub fn standing(cluster: Counts) -> bool
+    ensures { λ r. ⌜ r ≡ standing cluster ⌝ }
 {
-    if within(MAX_SERVERS, c.servers) {
-        if within(MAX_BUCKETS, c.buckets) {
-            return c.messages <= MAX_MESSAGES;
+    if within(MAX_SERVERS, cluster.servers) {
+        if within(MAX_BUCKETS, cluster.buckets) {
+            return cluster.messages <= MAX_MESSAGES;
         }
     }
     false

@@ -1,6 +1,6 @@
 // One line: refused, or a cluster made, or its plan carried out.
+use crate::carrying::bare_report;
 use crate::carrying::execute;
-use crate::carrying::refused;
 use crate::cutting::plan_cut;
 use crate::fresh::create;
 use crate::handing::hand_line;
@@ -8,8 +8,18 @@ use crate::numbers::standing;
 use crate::numbers::within;
 use entries::Item;
 use entries::Key;
+use entries::keys::no_key;
 use entries::slots::absent;
+use memory::AnswerWords;
+use memory::CopyBytes;
+use memory::CountWords;
 use memory::Counts;
+use memory::HeadWords;
+use memory::PayloadBytes;
+use memory::QueueWords;
+use memory::SlotWords;
+use memory::TextBytes;
+use memory::WorkingBytes;
 use parse::Kind;
 use parse::Line;
 use plans::Plan;
@@ -38,19 +48,20 @@ use server::measures::MAX_BUCKETS;
 use server::measures::MAX_SERVERS;
 ghost use mathlib.Core.Path.{_≡_};
 ghost use Rattle.views.specs.Memory.{memory};
-ghost use Rattle.plans.specs.Plans.{noKey};
 ghost use Rattle.plans.specs.Arrays.{Measured};
 ghost use Rattle.runs.specs.Runs.{wordsWith, wordsOf};
-ghost use Rattle.machine.specs.Contracts.{LinePlanned, Clustered, RanPlan, RanLine, sortOf};
+ghost use Rattle.machine.specs.Contracts.{LinePlanned, Clustered, RanPlan, RanLine, routeOf, plannedLine};
 
-fn no_key() -> Key
-    ensures { λ r. ⌜ r ≡ noKey ⌝ }
-{
-    Key {
-        bytes: [0u8; 8],
-        len: 0,
-    }
-}
+// Ways to run a line: refused at once; a cluster made; planned, then carried out; a message handed over, which leaves the list or stays.
+const MALFORMED_LINE: u32 = 0;
+
+const CLUSTER_LINE: u32 = 1;
+
+const PLANNED_LINE: u32 = 2;
+
+const DELIVER_LINE: u32 = 3;
+
+const COPY_LINE: u32 = 4;
 
 fn words(kind: u32, bucket: u32, key: Key, expected: Item, value: Item) -> Words
     ensures { λ r. ⌜ r ≡ wordsWith kind bucket key expected value ⌝ }
@@ -70,14 +81,14 @@ fn words_of(line: Line) -> Words
 {
     let kind = line.kind;
     let key = line.key;
-    let e = line.expected;
-    let v = line.value;
+    let expected_value = line.expected;
+    let new_value = line.value;
     let expected = Item {
-        value: e,
+        value: expected_value,
         there: line.has_expected,
     };
     let value = Item {
-        value: v,
+        value: new_value,
         there: line.has_value,
     };
     let none = absent();
@@ -102,79 +113,78 @@ fn words_of(line: Line) -> Words
 
 // What a line would do, by its kind. Messages that are handed over are carried out without a plan.
 fn plan_line(
-    heads: &[u32; 112],
-    slots: &[u32; 1792],
-    copies: &[u8; 7168],
-    texts: &[u8; 3584],
-    queue: &[u32; 512],
-    c: Counts,
+    heads: &HeadWords,
+    slots: &SlotWords,
+    copies: &CopyBytes,
+    queue: &QueueWords,
+    cluster: Counts,
     line: Line,
 ) -> Plan
-    requires { ⌜ Measured c × (sortOf (line .kind) ≡ 2) ⌝ }
-    ensures { λ p. ⌜ LinePlanned (now (heads .entry)) (now (slots .entry)) (now (copies .entry)) (now (texts .entry)) (now (queue .entry)) c line p ⌝ }
+    requires { ⌜ Measured cluster × (routeOf (line .kind) ≡ plannedLine) ⌝ }
+    ensures { λ p. ⌜ LinePlanned (now (heads .entry)) (now (slots .entry)) (now (copies .entry)) (now (queue .entry)) cluster line p ⌝ }
 {
     let kind = line.kind;
-    let s = line.first;
-    let w = words_of(line);
+    let server = line.first;
+    let words = words_of(line);
     match kind {
         Kind::Malformed => refused_plan(MALFORMED, no_effect()),
         Kind::Cluster => refused_plan(CLUSTER_WRONG, no_effect()),
-        Kind::Elect => plan_elect(heads, slots, c, s),
-        Kind::Get => plan_call(heads, slots, copies, c, s, w),
-        Kind::Set => plan_call(heads, slots, copies, c, s, w),
-        Kind::SetIf => plan_call(heads, slots, copies, c, s, w),
-        Kind::Del => plan_call(heads, slots, copies, c, s, w),
-        Kind::Keys => plan_call(heads, slots, copies, c, s, w),
+        Kind::Elect => plan_elect(heads, slots, cluster, server),
+        Kind::Get => plan_call(heads, slots, copies, cluster, server, words),
+        Kind::Set => plan_call(heads, slots, copies, cluster, server, words),
+        Kind::SetIf => plan_call(heads, slots, copies, cluster, server, words),
+        Kind::Del => plan_call(heads, slots, copies, cluster, server, words),
+        Kind::Keys => plan_call(heads, slots, copies, cluster, server, words),
         Kind::Deliver => refused_plan(NO_SUCH_MESSAGE, no_effect()),
         Kind::Copy => refused_plan(NO_SUCH_MESSAGE, no_effect()),
-        Kind::Lose => plan_lose(c, s),
-        Kind::Timeout => plan_timeout(heads, slots, c, s, line.second),
-        Kind::Stop => plan_stop(heads, slots, c, s),
-        Kind::Cut => plan_cut(heads, slots, queue, c, s, line.second),
-        Kind::Start => plan_start(heads, slots, c, s),
+        Kind::Lose => plan_lose(cluster, server),
+        Kind::Timeout => plan_timeout(heads, slots, cluster, server, line.second),
+        Kind::Stop => plan_stop(heads, slots, cluster, server),
+        Kind::Cut => plan_cut(heads, slots, queue, cluster, server, line.second),
+        Kind::Start => plan_start(heads, slots, cluster, server),
     }
 }
 
-// 0 for a malformed line, 1 for a cluster line, 3 for `deliver`, 4 for `copy`, 2 for the others.
-fn sort(kind: Kind) -> u32
-    ensures { λ r. ⌜ r ≡ sortOf kind ⌝ }
+// How a line is run, by its kind.
+fn route_of(kind: Kind) -> u32
+    ensures { λ r. ⌜ r ≡ routeOf kind ⌝ }
 {
     match kind {
-        Kind::Malformed => 0,
-        Kind::Cluster => 1,
-        Kind::Elect => 2,
-        Kind::Get => 2,
-        Kind::Set => 2,
-        Kind::SetIf => 2,
-        Kind::Del => 2,
-        Kind::Keys => 2,
-        Kind::Deliver => 3,
-        Kind::Copy => 4,
-        Kind::Lose => 2,
-        Kind::Timeout => 2,
-        Kind::Stop => 2,
-        Kind::Cut => 2,
-        Kind::Start => 2,
+        Kind::Malformed => MALFORMED_LINE,
+        Kind::Cluster => CLUSTER_LINE,
+        Kind::Elect => PLANNED_LINE,
+        Kind::Get => PLANNED_LINE,
+        Kind::Set => PLANNED_LINE,
+        Kind::SetIf => PLANNED_LINE,
+        Kind::Del => PLANNED_LINE,
+        Kind::Keys => PLANNED_LINE,
+        Kind::Deliver => DELIVER_LINE,
+        Kind::Copy => COPY_LINE,
+        Kind::Lose => PLANNED_LINE,
+        Kind::Timeout => PLANNED_LINE,
+        Kind::Stop => PLANNED_LINE,
+        Kind::Cut => PLANNED_LINE,
+        Kind::Start => PLANNED_LINE,
     }
 }
 
 // The cluster line: 2 where its numbers are out of range or a cluster stands.
 fn cluster_line(
-    counts: &mut [u32; 8],
-    heads: &mut [u32; 112],
-    slots: &mut [u32; 1792],
-    copies: &mut [u8; 7168],
-    n: u32,
-    b: u32,
+    counts: &mut CountWords,
+    heads: &mut HeadWords,
+    slots: &mut SlotWords,
+    copies: &mut CopyBytes,
+    servers: u32,
+    buckets: u32,
 ) -> u32
-    ensures { λ r. ⌜ Clustered (now (counts .entry)) (now (heads .entry)) (now (slots .entry)) (now (copies .entry)) n b (now (counts .exit)) (now (heads .exit)) (now (slots .exit)) (now (copies .exit)) r ⌝ }
+    ensures { λ r. ⌜ Clustered (now (counts .entry)) (now (heads .entry)) (now (slots .entry)) (now (copies .entry)) servers buckets (now (counts .exit)) (now (heads .exit)) (now (slots .exit)) (now (copies .exit)) r ⌝ }
 {
     if standing(load_counts(counts)) {
         return CLUSTER_WRONG;
     }
-    if within(MAX_SERVERS, n) {
-        if within(MAX_BUCKETS, b) {
-            create(counts, heads, slots, copies, n, b);
+    if within(MAX_SERVERS, servers) {
+        if within(MAX_BUCKETS, buckets) {
+            create(counts, heads, slots, copies, servers, buckets);
             return NONE;
         }
     }
@@ -183,74 +193,74 @@ fn cluster_line(
 
 // A line that needs a cluster and hands no message over.
 fn planned_line(
-    counts: &mut [u32; 8],
-    heads: &mut [u32; 112],
-    slots: &mut [u32; 1792],
-    copies: &mut [u8; 7168],
-    works: &mut [u8; 7168],
-    texts: &mut [u8; 3584],
-    queue: &mut [u32; 512],
-    loads: &mut [u8; 8192],
-    answers: &mut [u32; 32],
+    counts: &mut CountWords,
+    heads: &mut HeadWords,
+    slots: &mut SlotWords,
+    copies: &mut CopyBytes,
+    working: &mut WorkingBytes,
+    texts: &mut TextBytes,
+    queue: &mut QueueWords,
+    payloads: &mut PayloadBytes,
+    answers: &mut AnswerWords,
     line: Line,
 ) -> Report
-    requires { ⌜ sortOf (line .kind) ≡ 2 ⌝ }
-    ensures { λ r. ⌜ RanPlan (memory (now (counts .entry)) (now (heads .entry)) (now (slots .entry)) (now (copies .entry)) (now (works .entry)) (now (texts .entry)) (now (queue .entry)) (now (loads .entry))) (now (answers .entry)) line (memory (now (counts .exit)) (now (heads .exit)) (now (slots .exit)) (now (copies .exit)) (now (works .exit)) (now (texts .exit)) (now (queue .exit)) (now (loads .exit))) (now (answers .exit)) r ⌝ }
+    requires { ⌜ routeOf (line .kind) ≡ plannedLine ⌝ }
+    ensures { λ r. ⌜ RanPlan (memory (now (counts .entry)) (now (heads .entry)) (now (slots .entry)) (now (copies .entry)) (now (working .entry)) (now (texts .entry)) (now (queue .entry)) (now (payloads .entry))) (now (answers .entry)) line (memory (now (counts .exit)) (now (heads .exit)) (now (slots .exit)) (now (copies .exit)) (now (working .exit)) (now (texts .exit)) (now (queue .exit)) (now (payloads .exit))) (now (answers .exit)) r ⌝ }
 {
-    let c = load_counts(counts);
-    if standing(c) {
-        let p = plan_line(heads, slots, copies, texts, queue, c, line);
+    let cluster = load_counts(counts);
+    if standing(cluster) {
+        let plan = plan_line(heads, slots, copies, queue, cluster, line);
         return execute(
             counts,
             heads,
             slots,
             copies,
-            works,
+            working,
             texts,
             queue,
-            loads,
+            payloads,
             answers,
-            c,
-            p,
+            cluster,
+            plan,
         );
     }
-    refused(CLUSTER_WRONG, no_effect())
+    bare_report(CLUSTER_WRONG, no_effect())
 }
 
 // One line of a script.
 pub fn run_line(
-    counts: &mut [u32; 8],
-    heads: &mut [u32; 112],
-    slots: &mut [u32; 1792],
-    copies: &mut [u8; 7168],
-    works: &mut [u8; 7168],
-    texts: &mut [u8; 3584],
-    queue: &mut [u32; 512],
-    loads: &mut [u8; 8192],
-    answers: &mut [u32; 32],
+    counts: &mut CountWords,
+    heads: &mut HeadWords,
+    slots: &mut SlotWords,
+    copies: &mut CopyBytes,
+    working: &mut WorkingBytes,
+    texts: &mut TextBytes,
+    queue: &mut QueueWords,
+    payloads: &mut PayloadBytes,
+    answers: &mut AnswerWords,
     line: Line,
 ) -> Report
-    ensures { λ r. ⌜ RanLine (memory (now (counts .entry)) (now (heads .entry)) (now (slots .entry)) (now (copies .entry)) (now (works .entry)) (now (texts .entry)) (now (queue .entry)) (now (loads .entry))) (now (answers .entry)) line (memory (now (counts .exit)) (now (heads .exit)) (now (slots .exit)) (now (copies .exit)) (now (works .exit)) (now (texts .exit)) (now (queue .exit)) (now (loads .exit))) (now (answers .exit)) r ⌝ }
+    ensures { λ r. ⌜ RanLine (memory (now (counts .entry)) (now (heads .entry)) (now (slots .entry)) (now (copies .entry)) (now (working .entry)) (now (texts .entry)) (now (queue .entry)) (now (payloads .entry))) (now (answers .entry)) line (memory (now (counts .exit)) (now (heads .exit)) (now (slots .exit)) (now (copies .exit)) (now (working .exit)) (now (texts .exit)) (now (queue .exit)) (now (payloads .exit))) (now (answers .exit)) r ⌝ }
 {
     let kind = line.kind;
-    let k = sort(kind);
-    if k == 0 {
-        return refused(MALFORMED, no_effect());
+    let route = route_of(kind);
+    if route == MALFORMED_LINE {
+        return bare_report(MALFORMED, no_effect());
     }
-    if k == 1 {
-        let r = cluster_line(counts, heads, slots, copies, line.first, line.second);
-        return refused(r, no_effect());
+    if route == CLUSTER_LINE {
+        let refusal = cluster_line(counts, heads, slots, copies, line.first, line.second);
+        return bare_report(refusal, no_effect());
     }
-    if k == 2 {
+    if route == PLANNED_LINE {
         return planned_line(
             counts,
             heads,
             slots,
             copies,
-            works,
+            working,
             texts,
             queue,
-            loads,
+            payloads,
             answers,
             line,
         );
@@ -260,12 +270,12 @@ pub fn run_line(
         heads,
         slots,
         copies,
-        works,
+        working,
         texts,
         queue,
-        loads,
+        payloads,
         answers,
         line.first,
-        k == 3,
+        route == DELIVER_LINE,
     )
 }

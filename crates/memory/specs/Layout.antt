@@ -23,16 +23,23 @@ use Rattle.memory.specs.declared.Numbers.{Numbers}
 use Rattle.memory.specs.declared.Counts.{Counts}
 use Rattle.memory.specs.Rows.{row, putRow}
 
--- ---- sizes: servers, slots (one for each server and bucket), messages
+-- ---- sizes: servers, buckets, slots (one for each server and bucket), messages
 
 abbrev pub serverRoom : ℕ
 serverRoom = 7
+
+abbrev pub bucketRoom : ℕ
+bucketRoom = 8
 
 abbrev pub slotRoom : ℕ
 slotRoom = 56
 
 abbrev pub messageRoom : ℕ
 messageRoom = 64
+
+-- the slot of server s and bucket b
+abbrev pub slotOf : ℕ → ℕ → ℕ
+slotOf s b = s * bucketRoom + b
 
 -- words of a head's block, a slot's block, a message's block and an answer's block
 abbrev pub headSize : ℕ
@@ -273,7 +280,7 @@ pub record Whole (w : Words) : Type 0 where
   pub expected-room : length (w .expected .value .bytes) ≡ valueRoom
   pub value-room : length (w .value .value .bytes) ≡ valueRoom
 
--- ---- contents: those of the copies and of the best reported copies, at the slot; those of the messages, at the message
+-- ---- contents: those of the copies and the working contents, at the slot; those of the messages, at the message
 
 -- the bytes that count of content i
 unfoldable pub contentAt : List ℕ → ℕ → List ℕ

@@ -1,19 +1,71 @@
 // The cluster's memory in a few lent arrays of fixed size. Where each field of its records and messages lies is said in
 // specs/Layout.antt; proofs/ has the laws of it.
+use server::measures::MAX_BUCKETS;
+use server::measures::MAX_MESSAGES;
+use server::measures::SERVERS;
+ghost use mathlib.Core.Path.{_≡_};
+ghost use Prim.Native.Nat.{_<_};
+ghost use Rattle.memory.specs.Layout.{serverRoom, bucketRoom, slotOf};
 
-// Words of a head's block, of a slot's, of a message's header and of an answer's block.
-pub const HEAD: usize = 16;
+pub mod offsets;
 
-pub const SLOT: usize = 32;
+// How many buckets, slots and messages the arrays have room for: a server has a slot for each bucket.
+pub const BUCKETS: usize = MAX_BUCKETS as usize;
 
-pub const HEADER: usize = 8;
+pub const SLOTS: usize = SERVERS * BUCKETS;
 
-pub const ANSWER: usize = 4;
+pub const MESSAGES: usize = MAX_MESSAGES as usize;
 
-// Bytes of a content's block, and of the block of a call's key and values.
-pub const CONTENT: usize = 128;
+// Words of the block of a head, of a slot, of a message's header and of an answer.
+pub const HEAD_SIZE: usize = 16;
 
-pub const TEXT: usize = 64;
+pub const SLOT_SIZE: usize = 32;
+
+pub const HEADER_SIZE: usize = 8;
+
+pub const ANSWER_SIZE: usize = 4;
+
+// Bytes of the block of a content, and of the block of a call's key and values.
+pub const CONTENT_SIZE: usize = 128;
+
+pub const TEXT_SIZE: usize = 64;
+
+// Lengths of the arrays.
+pub const COUNTS_LEN: usize = 8;
+
+pub const HEADS_LEN: usize = SERVERS * HEAD_SIZE;
+
+pub const SLOTS_LEN: usize = SLOTS * SLOT_SIZE;
+
+pub const CONTENTS_LEN: usize = SLOTS * CONTENT_SIZE;
+
+pub const TEXTS_LEN: usize = SLOTS * TEXT_SIZE;
+
+pub const QUEUE_LEN: usize = MESSAGES * HEADER_SIZE;
+
+pub const PAYLOADS_LEN: usize = MESSAGES * CONTENT_SIZE;
+
+pub const ANSWERS_LEN: usize = BUCKETS * ANSWER_SIZE;
+
+// The lent arrays: the cluster's counts, heads of servers, slots, contents of copies and working contents, keys and values of open
+// calls, headers and contents of messages in flight, answers of a line.
+pub type CountWords = [u32; COUNTS_LEN];
+
+pub type HeadWords = [u32; HEADS_LEN];
+
+pub type SlotWords = [u32; SLOTS_LEN];
+
+pub type CopyBytes = [u8; CONTENTS_LEN];
+
+pub type WorkingBytes = [u8; CONTENTS_LEN];
+
+pub type TextBytes = [u8; TEXTS_LEN];
+
+pub type QueueWords = [u32; QUEUE_LEN];
+
+pub type PayloadBytes = [u8; PAYLOADS_LEN];
+
+pub type AnswerWords = [u32; ANSWERS_LEN];
 
 // The words of a call without their bytes: kind, bucket, how long the key is, and for the expected value and the new value
 // 0 where there is none, else one above its length.
@@ -32,4 +84,12 @@ pub struct Counts {
     pub messages: u32,
     pub lines: u32,
     pub calls: u32,
+}
+
+// The slot of a server and a bucket.
+pub fn slot_of(server: usize, bucket: usize) -> usize
+    requires { ⌜ (server < serverRoom) × (bucket < bucketRoom) ⌝ }
+    ensures { λ r. ⌜ r ≡ slotOf server bucket ⌝ }
+{
+    server * BUCKETS + bucket
 }

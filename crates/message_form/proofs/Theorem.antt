@@ -7,7 +7,7 @@ use Prim.Native.Nat.{ℕ, _≤_}
 use native.Mathlib.Omega.{arith}
 use lib.ListN.{length, drop}
 use borrow.Author.Tests.{le-leb}
-use Rattle.bucket.specs.Answers.{answer}
+use Rattle.bucket.specs.Answers.{numbered}
 use Rattle.fields.specs.Form.{lengthOf, wellFormed, tableFits, taken, readDatagram, writeDatagram}
 use Rattle.fields.proofs.OneForm.{reads-back}
 use Rattle.model.specs.Cluster.{Body, pleaseVote, ackVote, nackVote, replicaWrite, ackWrite, nackWrite, replicaRead, ackRead, nackRead, kindNumber, Message, Cluster}
@@ -23,7 +23,7 @@ use Rattle.message_form.proofs.Bodies.{Small, withBody, well-formed, ta
 
 -- ---- a message within the measures
 
-form-written : (m : Message) → wellFormed (datagramOf m) ≡ true → tableFits (datagramOf m) ≡ true → (out : List ℕ) → lengthOf (kindNumber (m .body)) ≤ length out → writeDatagram (datagramOf m) out ≡ answer 0 (messageBytes m ++ drop (lengthOf (kindNumber (m .body))) out)
+form-written : (m : Message) → wellFormed (datagramOf m) ≡ true → tableFits (datagramOf m) ≡ true → (out : List ℕ) → lengthOf (kindNumber (m .body)) ≤ length out → writeDatagram (datagramOf m) out ≡ numbered 0 (messageBytes m ++ drop (lengthOf (kindNumber (m .body))) out)
 unfolding datagramOf writeDatagram
 form-written m w f out h = rw (writeDatagram, f, w, le-leb _ _ h)
 
@@ -45,7 +45,7 @@ small-limits c t s = record { servers = s .fewServers; buckets = s .fewBuckets; 
 
 pub in-flight-have-form : InFlightHaveForm
 in-flight-have-form ls c e m i =
-    let s : Stands c (stateAfter initialState ls .tally) = subst (λ (o : Option Cluster). Measured o (stateAfter initialState ls .tally)) e (within-always ls) in
+    let s : Stands c (stateAfter initialState ls .tally) = subst (λ (o : Option Cluster). Measured o (stateAfter initialState ls .tally)) e (within-always maxElection ls) in
     within-has-form (small-limits c _ s) m (all-in i (s .within .messages))
 
 -- ---- back to the message

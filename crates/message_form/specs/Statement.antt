@@ -7,7 +7,7 @@ use mathlib.Core.Bool.{true}
 use mathlib.Core.Option.{some}
 use Prim.Native.Nat.{ℕ, _-_, _≤_}
 use lib.ListN.{length, getD, drop}
-use Rattle.bucket.specs.Answers.{answer}
+use Rattle.bucket.specs.Answers.{numbered}
 use Rattle.fields.specs.Form.{Datagram, version, lengthOf, wellFormed, tableFits, datagramBytes, taken, readDatagram, writeDatagram}
 use Rattle.model.specs.Cluster.{Copy, copyOf, freshCopy, Body, pleaseVote, ackVote, nackVote, replicaWrite, ackWrite, nackWrite, replicaRead, ackRead, nackRead, kindNumber, Message, Cluster}
 use Rattle.model.specs.Lines.{initialState}
@@ -67,7 +67,7 @@ messageOf d =
 pub record HasForm (m : Message) : Type 0 where
   pub well-formed : wellFormed (datagramOf m) ≡ true
   pub table-fits : tableFits (datagramOf m) ≡ true
-  pub written : (out : List ℕ) → lengthOf (kindNumber (m .body)) ≤ length out → writeDatagram (datagramOf m) out ≡ answer 0 (messageBytes m ++ drop (lengthOf (kindNumber (m .body))) out)
+  pub written : (out : List ℕ) → lengthOf (kindNumber (m .body)) ≤ length out → writeDatagram (datagramOf m) out ≡ numbered 0 (messageBytes m ++ drop (lengthOf (kindNumber (m .body))) out)
   pub read-back : readDatagram (messageBytes m) ≡ taken (datagramOf m)
 
 -- after any lines of a script, every message in flight is such a one

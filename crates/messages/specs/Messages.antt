@@ -17,18 +17,18 @@ sent words body = record { header = messageOf words; content = take contentBytes
 
 -- the first n messages of the queue
 unfoldable pub messagesAt : ℕ → List ℕ → List ℕ → List Sent
-messagesAt n queue loads = zipWith sent (blocks messageSize n queue) (blocks contentSize n loads)
+messagesAt n queue payloads = zipWith sent (blocks messageSize n queue) (blocks contentSize n payloads)
 
 -- the arrays after a message was appended to n, with the block v as its content
-pub record Appended (queue loads : List ℕ) (n : ℕ) (m : Message) (v queue′ loads′ : List ℕ) : Type 0 where
+pub record Appended (queue payloads : List ℕ) (n : ℕ) (m : Message) (v queue′ payloads′ : List ℕ) : Type 0 where
   pub headers : queue′ ≡ putMessage queue n m
-  pub contents : loads′ ≡ putContent loads n v
+  pub contents : payloads′ ≡ putContent payloads n v
 
 -- the blocks of l behind block i, of n blocks, moved down by one
 unfoldable pub closedUp : ℕ → ℕ → ℕ → List ℕ → List ℕ
 closedUp b n i l = refilled (without i (blocks b n l)) l
 
 -- the arrays after message i of n was removed
-pub record Removed (queue loads : List ℕ) (n i : ℕ) (queue′ loads′ : List ℕ) : Type 0 where
+pub record Removed (queue payloads : List ℕ) (n i : ℕ) (queue′ payloads′ : List ℕ) : Type 0 where
   pub headers : queue′ ≡ closedUp messageSize n i queue
-  pub contents : loads′ ≡ closedUp contentSize n i loads
+  pub contents : payloads′ ≡ closedUp contentSize n i payloads

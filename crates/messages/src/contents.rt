@@ -1,15 +1,16 @@
-// Contents of buckets in lent bytes, in blocks of 128: those of the copies, of the best reported copies, and of the messages.
-use memory::CONTENT;
+// Contents of buckets in lent bytes, a block for each: those of the copies, working contents, and those of the messages.
+use memory::CONTENT_SIZE;
+use memory::CONTENTS_LEN;
 ghost use mathlib.Core.Path.{_≡_};
 ghost use Prim.Native.Nat.{_+_, _*_, _<_, _≤_};
 ghost use lib.ListN.{length};
 ghost use Rattle.blocks.specs.Blocks.{block};
 ghost use Rattle.memory.specs.Layout.{slotRoom, contentSize, putContent};
 
-// Content j of src, which is another array of contents, becomes the content of slot i.
-pub fn copy_content(dst: &mut [u8; 7168], i: usize, src: &[u8], j: usize)
-    requires { ⌜ (i < slotRoom) × ((j + 1) * contentSize ≤ length (now src)) ⌝ }
-    ensures { λ _. ⌜ now (dst .exit) ≡ putContent (now (dst .entry)) i (block contentSize j (now (src .entry))) ⌝ }
+// Content `from` of src, which is another array of contents, becomes the content of slot `to`.
+pub fn copy_content(dst: &mut [u8; CONTENTS_LEN], to: usize, src: &[u8], from: usize)
+    requires { ⌜ (to < slotRoom) × ((from + 1) * contentSize ≤ length (now src)) ⌝ }
+    ensures { λ _. ⌜ now (dst .exit) ≡ putContent (now (dst .entry)) to (block contentSize from (now (src .entry))) ⌝ }
 {
-    blocks::copy_block_bytes(dst, CONTENT, i, src, j);
+    blocks::copy_block_bytes(dst, CONTENT_SIZE, to, src, from);
 }

@@ -1,9 +1,19 @@
-// The messages in flight, at most 64, in the order in which they were sent: their headers in 512 lent words, in blocks of eight,
-// and their contents in 8192 lent bytes, in blocks of 128.
+// The messages in flight, at most 64, in the order in which they were sent: their headers in lent words, a block for each,
+// and their contents in lent bytes likewise.
 use blocks::remove_block_bytes;
 use blocks::remove_block_words;
-use memory::CONTENT;
-use memory::HEADER;
+use memory::CONTENT_SIZE;
+use memory::HEADER_SIZE;
+use memory::PayloadBytes;
+use memory::QueueWords;
+use memory::offsets::MESSAGE_BUCKET;
+use memory::offsets::MESSAGE_ELECTION;
+use memory::offsets::MESSAGE_KIND;
+use memory::offsets::MESSAGE_RECEIVER;
+use memory::offsets::MESSAGE_ROUND;
+use memory::offsets::MESSAGE_SENDER;
+use memory::offsets::WRITTEN_COUNTER;
+use memory::offsets::WRITTEN_ELECTION;
 use server::Message;
 use server::Version;
 ghost use mathlib.Core.Path.{_≡_};
@@ -15,80 +25,85 @@ ghost use Rattle.messages.specs.Messages.{Appended, Removed};
 
 pub mod contents;
 
-// The header of message i.
-pub fn load_message(queue: &[u32; 512], i: usize) -> Message
-    requires { ⌜ i < messageRoom ⌝ }
-    ensures { λ r. ⌜ r ≡ messageAt (now (queue .entry)) i ⌝ }
+// The header of the message at this place.
+pub fn load_message(queue: &QueueWords, place: usize) -> Message
+    requires { ⌜ place < messageRoom ⌝ }
+    ensures { λ r. ⌜ r ≡ messageAt (now (queue .entry)) place ⌝ }
 {
-    message_fields(queue, i)
+    message_fields(queue, place)
 }
 
 // The same, with the fields written out in the contract.
-fn message_fields(queue: &[u32; 512], i: usize) -> Message
-    requires { ⌜ i < messageRoom ⌝ }
-    ensures { λ r. ⌜ r ≡ messageFields (now (queue .entry)) i ⌝ }
+fn message_fields(queue: &QueueWords, place: usize) -> Message
+    requires { ⌜ place < messageRoom ⌝ }
+    ensures { λ r. ⌜ r ≡ messageFields (now (queue .entry)) place ⌝ }
 {
-    let b = i * HEADER;
+    let base = place * HEADER_SIZE;
     let version = Version {
-        election: queue[b + 6],
-        counter: queue[b + 7],
+        election: queue[base + WRITTEN_ELECTION],
+        counter: queue[base + WRITTEN_COUNTER],
     };
     Message {
-        kind: queue[b + 0],
-        sender: queue[b + 1],
-        receiver: queue[b + 2],
-        bucket: queue[b + 3],
-        election: queue[b + 4],
-        round: queue[b + 5],
+        kind: queue[base + MESSAGE_KIND],
+        sender: queue[base + MESSAGE_SENDER],
+        receiver: queue[base + MESSAGE_RECEIVER],
+        bucket: queue[base + MESSAGE_BUCKET],
+        election: queue[base + MESSAGE_ELECTION],
+        round: queue[base + MESSAGE_ROUND],
         version,
     }
 }
 
-// A message without content is appended to n: the bytes at its place stay as they are.
-pub fn append_header(queue: &mut [u32; 512], n: usize, m: Message)
-    requires { ⌜ n < messageRoom ⌝ }
-    ensures { λ _. ⌜ now (queue .exit) ≡ putMessage (now (queue .entry)) n m ⌝ }
+// A message without content is appended: the bytes at its place stay as they are.
+pub fn append_header(queue: &mut QueueWords, count: usize, message: Message)
+    requires { ⌜ count < messageRoom ⌝ }
+    ensures { λ _. ⌜ now (queue .exit) ≡ putMessage (now (queue .entry)) count message ⌝ }
 {
-    message_stores(queue, n, m);
+    message_stores(queue, count, message);
 }
 
-fn message_stores(queue: &mut [u32; 512], i: usize, m: Message)
-    requires { ⌜ i < messageRoom ⌝ }
-    ensures { λ _. ⌜ now (queue .exit) ≡ messageStores (now (queue .entry)) i m ⌝ }
+fn message_stores(queue: &mut QueueWords, place: usize, message: Message)
+    requires { ⌜ place < messageRoom ⌝ }
+    ensures { λ _. ⌜ now (queue .exit) ≡ messageStores (now (queue .entry)) place message ⌝ }
 {
-    let b = i * HEADER;
-    let version = m.version;
-    queue[b + 0] = m.kind;
-    queue[b + 1] = m.sender;
-    queue[b + 2] = m.receiver;
-    queue[b + 3] = m.bucket;
-    queue[b + 4] = m.election;
-    queue[b + 5] = m.round;
-    queue[b + 6] = version.election;
-    queue[b + 7] = version.counter;
+    let base = place * HEADER_SIZE;
+    let version = message.version;
+    queue[base + MESSAGE_KIND] = message.kind;
+    queue[base + MESSAGE_SENDER] = message.sender;
+    queue[base + MESSAGE_RECEIVER] = message.receiver;
+    queue[base + MESSAGE_BUCKET] = message.bucket;
+    queue[base + MESSAGE_ELECTION] = message.election;
+    queue[base + MESSAGE_ROUND] = message.round;
+    queue[base + WRITTEN_ELECTION] = version.election;
+    queue[base + WRITTEN_COUNTER] = version.counter;
 }
 
-// A message is appended to n, with content j of the array `from`.
+// A message is appended, with one content of the array `from`.
 pub fn append_message(
-    queue: &mut [u32; 512],
-    loads: &mut [u8; 8192],
-    n: usize,
-    m: Message,
+    queue: &mut QueueWords,
+    payloads: &mut PayloadBytes,
+    count: usize,
+    message: Message,
     from: &[u8],
-    j: usize,
+    content: usize,
 )
-    requires { ⌜ (n < messageRoom) × ((j + 1) * contentSize ≤ length (now from)) ⌝ }
-    ensures { λ _. ⌜ Appended (now (queue .entry)) (now (loads .entry)) n m (block contentSize j (now (from .entry))) (now (queue .exit)) (now (loads .exit)) ⌝ }
+    requires { ⌜ (count < messageRoom) × ((content + 1) * contentSize ≤ length (now from)) ⌝ }
+    ensures { λ _. ⌜ Appended (now (queue .entry)) (now (payloads .entry)) count message (block contentSize content (now (from .entry))) (now (queue .exit)) (now (payloads .exit)) ⌝ }
 {
-    append_header(queue, n, m);
-    blocks::copy_block_bytes(loads, CONTENT, n, from, j);
+    append_header(queue, count, message);
+    blocks::copy_block_bytes(payloads, CONTENT_SIZE, count, from, content);
 }
 
-// Message i of n is removed: the later ones move down.
-pub fn remove_message(queue: &mut [u32; 512], loads: &mut [u8; 8192], n: usize, i: usize)
-    requires { ⌜ (i < n) × (n ≤ messageRoom) ⌝ }
-    ensures { λ _. ⌜ Removed (now (queue .entry)) (now (loads .entry)) n i (now (queue .exit)) (now (loads .exit)) ⌝ }
+// The message at this place is removed: the later ones move down.
+pub fn remove_message(
+    queue: &mut QueueWords,
+    payloads: &mut PayloadBytes,
+    count: usize,
+    place: usize,
+)
+    requires { ⌜ (place < count) × (count ≤ messageRoom) ⌝ }
+    ensures { λ _. ⌜ Removed (now (queue .entry)) (now (payloads .entry)) count place (now (queue .exit)) (now (payloads .exit)) ⌝ }
 {
-    remove_block_words(queue, HEADER, n, i);
-    remove_block_bytes(loads, CONTENT, n, i);
+    remove_block_words(queue, HEADER_SIZE, count, place);
+    remove_block_bytes(payloads, CONTENT_SIZE, count, place);
 }

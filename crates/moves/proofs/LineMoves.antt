@@ -14,7 +14,7 @@ use Rattle.server.specs.Views.{besideIn, flagIn}
 use Rattle.server.specs.Heads.{largerNumberOf, electedHead, onAckVoteHead}
 use Rattle.server.proofs.HeadLaws as heads
 use Rattle.moves.specs.declared.Local.{Local}
-use Rattle.moves.specs.Moves.{withHead, quiet, electedMove, timedOutMove, stoppedMove}
+use Rattle.moves.specs.Moves.{withHead, quiet, electedMove, ceasedMove, stoppedMove}
 use Rattle.moves.specs.Reactions.{Seen, Tables, workAfter, copyAfter, Asked, sendsIn, answersIn, serverAfter, answersAfter, reactionIn}
 use Rattle.moves.proofs.Ceasing.{placed, seen-itself, calls-kept, ceasing-means}
 
@@ -72,8 +72,8 @@ module _ (n me b : ℕ) (a : Asked) (s : cluster.Server) (l : Local) (t : Tables
       ∙ (ap₂ (λ z ms. reaction z ms (endings (s1 .volatile .calls))) server (elected-sends low)
       ∙ ap (λ out. reaction (serverAfter n b (electedMove n me l) t words s) (sendsIn n me b a (electedMove n me l) t) (endings out)) (calls-kept n b s l t words seen)))
 
-  pub timed-out-means : cease s ≡ reactionIn n me b a (timedOutMove l) t words v u s
-  timed-out-means = ceasing-means n me b a s l t words v u seen
+  pub ceased-means : cease s ≡ reactionIn n me b a (ceasedMove l) t words v u s
+  ceased-means = ceasing-means n me b a s l t words v u seen
 
   pub stopped-means : reaction (record { stored = s .stored; volatile = s .volatile; stopped = true }) [] [] ≡ reactionIn n me b a (stoppedMove l) t words v u s
   unfolding serverAfter answersAfter answersIn sendsIn workAfter copyAfter flagIn

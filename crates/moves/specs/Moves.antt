@@ -36,17 +36,17 @@ noCall = record { kind = 0; number = 0; rounds = 0; sent = 0 }
 abbrev pub noAnswer : Answer
 noAnswer = record { call = 0; result = 0; rounds = 0 }
 
-abbrev pub local : Head → Version → Round → Call → Local
-local h v r c = record { head = h; version = v; round = r; call = c }
+abbrev pub localOf : Head → Version → Round → Call → Local
+localOf h v r c = record { head = h; version = v; round = r; call = c }
 
 abbrev pub withHead : Head → Local → Local
-withHead h l = local h (l .version) (l .round) (l .call)
+withHead h l = localOf h (l .version) (l .round) (l .call)
 
 abbrev pub withRound : Round → Local → Local
-withRound r l = local (l .head) (l .version) r (l .call)
+withRound r l = localOf (l .head) (l .version) r (l .call)
 
 abbrev pub withCall : Call → Local → Local
-withCall c l = local (l .head) (l .version) (l .round) c
+withCall c l = localOf (l .head) (l .version) (l .round) c
 
 -- a step that sends a message and does nothing else: kind 0 sends nothing
 abbrev pub sending : ℕ → Version → Local → Move
@@ -61,7 +61,7 @@ quiet l = sending 0 noVersion l
 unfoldable pub readingMove : ℕ → ℕ → Local → Move
 readingMove me purpose l =
     record {
-      local = local (openedHead me (l .head)) (l .version) (newRoundOf me purpose (l .head) (l .version)) (oneMoreOf false (l .call));
+      local = localOf (openedHead me (l .head)) (l .version) (newRoundOf me purpose (l .head) (l .version)) (oneMoreOf false (l .call));
       sends = 7;
       written = noVersion;
       fills = chosen (eqb purpose 1) 1 0;
@@ -80,7 +80,7 @@ unfoldable pub writingMove : ℕ → ℕ → Version → Local → Move
 writingMove me purpose v l =
     record {
       local =
-          local (openedHead me (l .head)) (pickVersion (stores v l) v (l .version)) (newRoundOf me purpose (l .head) (l .version)) (oneMoreOf (eqb purpose 4) (l .call));
+          localOf (openedHead me (l .head)) (pickVersion (stores v l) v (l .version)) (newRoundOf me purpose (l .head) (l .version)) (oneMoreOf (eqb purpose 4) (l .call));
       sends = 4;
       written = v;
       fills = chosen (eqb purpose 4) 2 0;
@@ -94,7 +94,7 @@ writingMove me purpose v l =
 unfoldable pub finishedMove : ℕ → Local → Move
 finishedMove result l =
     record {
-      local = local (l .head) (l .version) noRound noCall;
+      local = localOf (l .head) (l .version) noRound noCall;
       sends = 0;
       written = noVersion;
       fills = 0;
@@ -264,7 +264,7 @@ readRequestMove m l = sending 8 (l .version) (withHead (votingHead (m .election)
 abbrev pub writeRequestMove : Message → Local → Move
 writeRequestMove m l =
     record {
-      local = local (votingHead (m .election) (m .sender) (l .head)) (pickVersion (stores (m .version) l) (m .version) (l .version)) (l .round) (l .call);
+      local = localOf (votingHead (m .election) (m .sender) (l .head)) (pickVersion (stores (m .version) l) (m .version) (l .version)) (l .round) (l .call);
       sends = 5;
       written = noVersion;
       fills = 0;
@@ -337,8 +337,8 @@ electedMove n me l =
       forgets = false;
     }
 
-abbrev pub timedOutMove : Local → Move
-timedOutMove l = ceasing (quiet l)
+abbrev pub ceasedMove : Local → Move
+ceasedMove l = ceasing (quiet l)
 
 abbrev pub stoppedHead : Head → Head
 stoppedHead h =

@@ -13,25 +13,33 @@ ghost use mathlib.Core.Path.{_≡_};
 ghost use Rattle.moves.specs.Moves.{handledMove, readsTable};
 
 // A message whose kind is none of the nine changes nothing.
-pub fn handled_move(n: u32, me: u32, result: u32, m: Message, l: Local) -> Move
-    ensures { λ r. ⌜ r ≡ handledMove n me result m l ⌝ }
+pub fn handled_move(servers: u32, me: u32, result: u32, message: Message, local: Local) -> Move
+    ensures { λ r. ⌜ r ≡ handledMove servers me result message local ⌝ }
 {
-    match kind_of_message(m.kind) {
-        Handling::Vote(kind) => voting_move(n, kind, m, l),
-        Handling::Request { writes } => request_move(writes, m, l),
-        Handling::Reply { mark, reports } => reported_move(n, me, result, mark, reports, m, l),
-        Handling::Other => quiet(l),
+    match kind_of_message(message.kind) {
+        Handling::Vote(kind) => voting_move(servers, kind, message, local),
+        Handling::Request { writes } => request_move(writes, message, local),
+        Handling::Reply { mark, reports } => reported_move(
+            servers,
+            me,
+            result,
+            mark,
+            reports,
+            message,
+            local,
+        ),
+        Handling::Other => quiet(local),
     }
 }
 
 // Whether a message closes the checking round of the slot, so that the call's effect on the table is asked for.
-pub fn reads_table(n: u32, m: Message, l: Local) -> bool
-    ensures { λ r. ⌜ r ≡ readsTable n m l ⌝ }
+pub fn reads_table(servers: u32, message: Message, local: Local) -> bool
+    ensures { λ r. ⌜ r ≡ readsTable servers message local ⌝ }
 {
-    match kind_of_message(m.kind) {
+    match kind_of_message(message.kind) {
         Handling::Vote(_) => false,
         Handling::Request { writes: _ } => false,
-        Handling::Reply { mark, reports } => closes_check(n, mark, reports, m, l),
+        Handling::Reply { mark, reports } => closes_check(servers, mark, reports, message, local),
         Handling::Other => false,
     }
 }

@@ -1,12 +1,11 @@
 // The rounds of a call, from its first to its answer.
 use crate::Local;
 use crate::Move;
+use crate::codes::COPY_STAYS;
 use crate::codes::FILLS_COPY;
-use crate::codes::FILLS_NOTHING;
 use crate::codes::FILLS_TABLE;
-use crate::codes::KEEPS_NOTHING;
 use crate::codes::KEEPS_WORK;
-use crate::nothing::no_version;
+use crate::codes::WORK_STAYS;
 use crate::parts::plain;
 use crate::parts::quiet;
 use crate::parts::sending;
@@ -15,6 +14,7 @@ use open_calls::next_version;
 use open_calls::one_more;
 use open_calls::recovered;
 use rounds::opening::new_round;
+use rounds::opening::no_version;
 use rounds::opening::opened;
 use rounds::replies::pick_version;
 use server::Answer;
@@ -33,65 +33,66 @@ use server::codes::RECOVERY_WRITE;
 use server::codes::REPLICA_READ;
 use server::codes::REPLICA_WRITE;
 use server::codes::SET;
+use server::measures::SERVERS;
 use server::numbers::above;
 use server::numbers::chosen;
 ghost use mathlib.Core.Path.{_≡_};
 ghost use lib.Dec.{eqb};
 ghost use Rattle.rounds.specs.Rounds.{pickVersion, newRoundOf, openedHead};
 ghost use Rattle.open_calls.specs.Calls.{oneMoreOf};
-ghost use Rattle.moves.specs.Moves.{local, readingMove, writingMove, finishedMove, ownWriteMove, afterReadMove, recoveryMove, closedMove, startedMove, recoveredAlone, readAlone, readyAlone, aloneMove, begunMove, mayWrite, needsEffect};
+ghost use Rattle.moves.specs.Moves.{localOf, readingMove, writingMove, finishedMove, ownWriteMove, afterReadMove, recoveryMove, closedMove, startedMove, recoveredAlone, readAlone, readyAlone, aloneMove, begunMove, mayWrite, needsEffect};
 
-// What a broadcast leaves of its sender, whose copy is then of version v; `own` where it is the call's own write.
-fn after_broadcast(me: u32, purpose: u32, own: bool, v: Version, l: Local) -> Local
-    ensures { λ r. ⌜ r ≡ local (openedHead me (l .head)) v (newRoundOf me purpose (l .head) (l .version)) (oneMoreOf own (l .call)) ⌝ }
+// What a broadcast leaves of its sender, whose copy is then of this version; `own` where it is the call's own write.
+fn after_broadcast(me: u32, purpose: u32, own: bool, version: Version, local: Local) -> Local
+    ensures { λ r. ⌜ r ≡ localOf (openedHead me (local .head)) version (newRoundOf me purpose (local .head) (local .version)) (oneMoreOf own (local .call)) ⌝ }
 {
-    let head = opened(me, l.head);
-    let round = new_round(me, purpose, l.head, l.version);
-    let call = one_more(own, l.call);
+    let head = opened(me, local.head);
+    let round = new_round(me, purpose, local.head, local.version);
+    let call = one_more(own, local.call);
     Local {
         head,
-        version: v,
+        version,
         round,
         call,
     }
 }
 
 // A round that reads: a recovery read works on the sender's own content at first.
-fn reading_move(me: u32, purpose: u32, l: Local) -> Move
-    ensures { λ r. ⌜ r ≡ readingMove me purpose l ⌝ }
+fn reading_move(me: u32, purpose: u32, local: Local) -> Move
+    ensures { λ r. ⌜ r ≡ readingMove me purpose local ⌝ }
 {
-    let a = after_broadcast(me, purpose, false, l.version, l);
-    let mut m = plain(REPLICA_READ, a);
-    m.fills = chosen(purpose == RECOVERY_READ, FILLS_COPY, FILLS_NOTHING);
-    m
+    let after = after_broadcast(me, purpose, false, local.version, local);
+    let mut next = plain(REPLICA_READ, after);
+    next.fills = chosen(purpose == RECOVERY_READ, FILLS_COPY, WORK_STAYS);
+    next
 }
 
-// What a write leaves of its sender, whose own copy takes version v or not.
-fn after_write(me: u32, purpose: u32, stores: bool, v: Version, l: Local) -> Local
-    ensures { λ r. ⌜ r ≡ local (openedHead me (l .head)) (pickVersion stores v (l .version)) (newRoundOf me purpose (l .head) (l .version)) (oneMoreOf (eqb purpose 4) (l .call)) ⌝ }
+// What a write leaves of its sender, whose own copy takes the written version or not.
+fn after_write(me: u32, purpose: u32, stores: bool, written: Version, local: Local) -> Local
+    ensures { λ r. ⌜ r ≡ localOf (openedHead me (local .head)) (pickVersion stores written (local .version)) (newRoundOf me purpose (local .head) (local .version)) (oneMoreOf (eqb purpose 4) (local .call)) ⌝ }
 {
-    let version = pick_version(stores, v, l.version);
-    after_broadcast(me, purpose, purpose == OWN_WRITE, version, l)
+    let version = pick_version(stores, written, local.version);
+    after_broadcast(me, purpose, purpose == OWN_WRITE, version, local)
 }
 
-// A round that writes the working content under version v; a call's own write works on its new table.
-fn writing_move(me: u32, purpose: u32, v: Version, l: Local) -> Move
-    ensures { λ r. ⌜ r ≡ writingMove me purpose v l ⌝ }
+// A round that writes the working content under this version; a call's own write works on its new table.
+fn writing_move(me: u32, purpose: u32, version: Version, local: Local) -> Move
+    ensures { λ r. ⌜ r ≡ writingMove me purpose version local ⌝ }
 {
-    let stores = above(v, l.version);
-    let a = after_write(me, purpose, stores, v, l);
-    let mut m = sending(REPLICA_WRITE, v, a);
-    m.fills = chosen(purpose == OWN_WRITE, FILLS_TABLE, FILLS_NOTHING);
-    m.keeps = chosen(stores, KEEPS_WORK, KEEPS_NOTHING);
-    m
+    let stores = above(version, local.version);
+    let after = after_write(me, purpose, stores, version, local);
+    let mut next = sending(REPLICA_WRITE, version, after);
+    next.fills = chosen(purpose == OWN_WRITE, FILLS_TABLE, WORK_STAYS);
+    next.keeps = chosen(stores, KEEPS_WORK, COPY_STAYS);
+    next
 }
 
 // The call ends with a result.
-fn finished_move(result: u32, l: Local) -> Move
-    ensures { λ r. ⌜ r ≡ finishedMove result l ⌝ }
+fn finished_move(result: u32, local: Local) -> Move
+    ensures { λ r. ⌜ r ≡ finishedMove result local ⌝ }
 {
     let best = no_version();
-    let marks = [0u32; 7];
+    let marks = [0u32; SERVERS];
     let round = Round {
         purpose: NO_ROUND,
         number: 0,
@@ -105,141 +106,141 @@ fn finished_move(result: u32, l: Local) -> Move
         rounds: 0,
         sent: 0,
     };
-    let old = l.call;
+    let old = local.call;
     let answer = Answer {
         call: old.number,
         result,
         rounds: old.rounds,
     };
-    let mut a = l;
-    a.round = round;
-    a.call = call;
-    let mut m = quiet(a);
-    m.answer = answer;
-    m
+    let mut after = local;
+    after.round = round;
+    after.call = call;
+    let mut next = quiet(after);
+    next.answer = answer;
+    next
 }
 
 // The call's own write, under the next version.
-fn own_write_move(me: u32, l: Local) -> Move
-    ensures { λ r. ⌜ r ≡ ownWriteMove me l ⌝ }
+fn own_write_move(me: u32, local: Local) -> Move
+    ensures { λ r. ⌜ r ≡ ownWriteMove me local ⌝ }
 {
-    let head = l.head;
-    let next = next_version(head.number, l.version);
-    writing_move(me, OWN_WRITE, next, l)
+    let head = local.head;
+    let next = next_version(head.number, local.version);
+    writing_move(me, OWN_WRITE, next, local)
 }
 
 // What follows the checking round: a new table is written, or the call is answered.
-fn after_read_move(me: u32, result: u32, l: Local) -> Move
-    ensures { λ r. ⌜ r ≡ afterReadMove me result l ⌝ }
+fn after_read_move(me: u32, result: u32, local: Local) -> Move
+    ensures { λ r. ⌜ r ≡ afterReadMove me result local ⌝ }
 {
     if result == NO_RESULT {
-        return own_write_move(me, l);
+        return own_write_move(me, local);
     }
-    finished_move(result, l)
+    finished_move(result, local)
 }
 
 // What a recovery read found is written under the leader's number.
-fn recovery_move(me: u32, l: Local) -> Move
-    ensures { λ r. ⌜ r ≡ recoveryMove me l ⌝ }
+fn recovery_move(me: u32, local: Local) -> Move
+    ensures { λ r. ⌜ r ≡ recoveryMove me local ⌝ }
 {
-    let head = l.head;
-    let v = Version {
+    let head = local.head;
+    let version = Version {
         election: head.number,
         counter: 1,
     };
-    writing_move(me, RECOVERY_WRITE, v, l)
+    writing_move(me, RECOVERY_WRITE, version, local)
 }
 
 // What follows the round of the slot, once it closed.
-pub fn closed_move(me: u32, result: u32, l: Local) -> Move
-    ensures { λ r. ⌜ r ≡ closedMove me result l ⌝ }
+pub fn closed_move(me: u32, result: u32, local: Local) -> Move
+    ensures { λ r. ⌜ r ≡ closedMove me result local ⌝ }
 {
-    let round = l.round;
+    let round = local.round;
     if round.purpose == RECOVERY_READ {
-        return recovery_move(me, l);
+        return recovery_move(me, local);
     }
     if round.purpose == RECOVERY_WRITE {
-        return reading_move(me, CHECK, l);
+        return reading_move(me, CHECK, local);
     }
     if round.purpose == CHECK {
-        return after_read_move(me, result, l);
+        return after_read_move(me, result, local);
     }
-    finished_move(DONE, l)
+    finished_move(DONE, local)
 }
 
 // The first round of a call among several servers: a copy that is not recovered is recovered first; on one that is, a new
 // table is written at once, and what is to be answered is checked first.
-fn started_move(me: u32, result: u32, l: Local) -> Move
-    ensures { λ r. ⌜ r ≡ startedMove me result l ⌝ }
+fn started_move(me: u32, result: u32, local: Local) -> Move
+    ensures { λ r. ⌜ r ≡ startedMove me result local ⌝ }
 {
-    if recovered(l.head, l.version) {
+    if recovered(local.head, local.version) {
         if result == NO_RESULT {
-            return own_write_move(me, l);
+            return own_write_move(me, local);
         }
-        return reading_move(me, CHECK, l);
+        return reading_move(me, CHECK, local);
     }
-    reading_move(me, RECOVERY_READ, l)
+    reading_move(me, RECOVERY_READ, local)
 }
 
 // A server alone recovers its copy at once.
-fn recovered_alone(me: u32, l: Local) -> Local
-    ensures { λ r. ⌜ r ≡ recoveredAlone me l ⌝ }
+fn recovered_alone(me: u32, local: Local) -> Local
+    ensures { λ r. ⌜ r ≡ recoveredAlone me local ⌝ }
 {
-    if recovered(l.head, l.version) {
-        return l;
+    if recovered(local.head, local.version) {
+        return local;
     }
-    let read = reading_move(me, RECOVERY_READ, l);
+    let read = reading_move(me, RECOVERY_READ, local);
     let written = recovery_move(me, read.local);
     written.local
 }
 
 // A server alone reads at once.
-fn read_alone(me: u32, l: Local) -> Local
-    ensures { λ r. ⌜ r ≡ readAlone me l ⌝ }
+fn read_alone(me: u32, local: Local) -> Local
+    ensures { λ r. ⌜ r ≡ readAlone me local ⌝ }
 {
-    let read = reading_move(me, CHECK, recovered_alone(me, l));
+    let read = reading_move(me, CHECK, recovered_alone(me, local));
     read.local
 }
 
 // What a server alone does before its own write: nothing where its copy is recovered, otherwise it reads.
-fn ready_alone(me: u32, l: Local) -> Local
-    ensures { λ r. ⌜ r ≡ readyAlone me l ⌝ }
+fn ready_alone(me: u32, local: Local) -> Local
+    ensures { λ r. ⌜ r ≡ readyAlone me local ⌝ }
 {
-    if recovered(l.head, l.version) {
-        return l;
+    if recovered(local.head, local.version) {
+        return local;
     }
-    read_alone(me, l)
+    read_alone(me, local)
 }
 
 // The whole call of a server alone: of its rounds only what they store is left.
-fn alone_move(me: u32, result: u32, l: Local) -> Move
-    ensures { λ r. ⌜ r ≡ aloneMove me result l ⌝ }
+fn alone_move(me: u32, result: u32, local: Local) -> Move
+    ensures { λ r. ⌜ r ≡ aloneMove me result local ⌝ }
 {
     if result == NO_RESULT {
-        let w = own_write_move(me, ready_alone(me, l));
-        let mut m = finished_move(DONE, w.local);
-        m.fills = w.fills;
-        m.keeps = w.keeps;
-        return m;
+        let written = own_write_move(me, ready_alone(me, local));
+        let mut next = finished_move(DONE, written.local);
+        next.fills = written.fills;
+        next.keeps = written.keeps;
+        return next;
     }
-    finished_move(result, read_alone(me, l))
+    finished_move(result, read_alone(me, local))
 }
 
-// Call i, of words of this kind, is taken at one of n servers.
-pub fn begun_move(n: u32, me: u32, i: u32, kind: u32, result: u32, l: Local) -> Move
-    ensures { λ r. ⌜ r ≡ begunMove n me i kind result l ⌝ }
+// The call of this number, of words of this kind, is taken.
+pub fn begun_move(servers: u32, me: u32, number: u32, kind: u32, result: u32, local: Local) -> Move
+    ensures { λ r. ⌜ r ≡ begunMove servers me number kind result local ⌝ }
 {
     let call = Call {
         kind,
-        number: i,
+        number,
         rounds: 0,
         sent: 0,
     };
-    let a = with_call(call, l);
-    if n <= 1 {
-        return alone_move(me, result, a);
+    let after = with_call(call, local);
+    if servers <= 1 {
+        return alone_move(me, result, after);
     }
-    started_move(me, result, a)
+    started_move(me, result, after)
 }
 
 // The kinds of calls that may write: `set`, `setif` and `del`.
@@ -253,13 +254,13 @@ fn may_write(kind: u32) -> bool
 }
 
 // Whether the line of a call needs the call's effect: with one server, and on a recovered copy for a call that may write.
-pub fn needs_effect(n: u32, kind: u32, l: Local) -> bool
-    ensures { λ r. ⌜ r ≡ needsEffect n kind l ⌝ }
+pub fn needs_effect(servers: u32, kind: u32, local: Local) -> bool
+    ensures { λ r. ⌜ r ≡ needsEffect servers kind local ⌝ }
 {
-    if n <= 1 {
+    if servers <= 1 {
         return true;
     }
-    if recovered(l.head, l.version) {
+    if recovered(local.head, local.version) {
         return may_write(kind);
     }
     false

@@ -26,15 +26,15 @@ pub struct Local {
 // What a step makes of it.
 pub struct Move {
     pub local: Local,
-    // the kind of message that is sent, 0 for none: 1, 4 and 7 go to all others, a reply to the sender of what it answers
+    // the kind of message that is sent, or NO_MESSAGE: a broadcast goes to all others, a reply to the sender of what it answers
     pub sends: u32,
-    // the version that kinds 4 and 8 carry
+    // the version that REPLICA_WRITE and ACK_READ carry
     pub written: Version,
-    // the working content of the slot becomes: 0 what it is, 1 the copy's content, 2 the new table, 3 the message's content
+    // what the working content of the slot becomes: WORK_STAYS, FILLS_COPY, FILLS_TABLE or FILLS_MESSAGE
     pub fills: u32,
-    // then the copy's content becomes: 0 what it is, 1 the working content, 2 the message's content
+    // what the copy's content then becomes: COPY_STAYS, KEEPS_WORK or KEEPS_MESSAGE
     pub keeps: u32,
-    // the answer to the slot's call; with result 0 there is none
+    // the answer to the slot's call; with NO_RESULT there is none
     pub answer: Answer,
     // whether leading ends, and with it all open calls of the server
     pub ceases: bool,

@@ -1,9 +1,9 @@
 // The parts that moves are made of.
 use crate::Local;
 use crate::Move;
-use crate::codes::FILLS_NOTHING;
-use crate::codes::KEEPS_NOTHING;
-use crate::nothing::no_version;
+use crate::codes::COPY_STAYS;
+use crate::codes::WORK_STAYS;
+use rounds::opening::no_version;
 use server::Answer;
 use server::Call;
 use server::Head;
@@ -17,35 +17,35 @@ ghost use Rattle.rounds.specs.Rounds.{noVersion};
 ghost use Rattle.moves.specs.Moves.{withHead, withRound, withCall, sending, quiet, ceasing};
 
 // The same local with another head.
-pub fn with_head(h: Head, l: Local) -> Local
-    ensures { λ r. ⌜ r ≡ withHead h l ⌝ }
+pub fn with_head(head: Head, local: Local) -> Local
+    ensures { λ r. ⌜ r ≡ withHead head local ⌝ }
 {
-    let mut a = l;
-    a.head = h;
-    a
+    let mut after = local;
+    after.head = head;
+    after
 }
 
 // The same local with another round.
-pub fn with_round(k: Round, l: Local) -> Local
-    ensures { λ r. ⌜ r ≡ withRound k l ⌝ }
+pub fn with_round(round: Round, local: Local) -> Local
+    ensures { λ r. ⌜ r ≡ withRound round local ⌝ }
 {
-    let mut a = l;
-    a.round = k;
-    a
+    let mut after = local;
+    after.round = round;
+    after
 }
 
 // The same local with another call.
-pub fn with_call(c: Call, l: Local) -> Local
-    ensures { λ r. ⌜ r ≡ withCall c l ⌝ }
+pub fn with_call(call: Call, local: Local) -> Local
+    ensures { λ r. ⌜ r ≡ withCall call local ⌝ }
 {
-    let mut a = l;
-    a.call = c;
-    a
+    let mut after = local;
+    after.call = call;
+    after
 }
 
-// A step that sends a message under version v and does nothing else.
-pub fn sending(kind: u32, v: Version, l: Local) -> Move
-    ensures { λ r. ⌜ r ≡ sending kind v l ⌝ }
+// A step that sends a message under this version and does nothing else.
+pub fn sending(kind: u32, version: Version, local: Local) -> Move
+    ensures { λ r. ⌜ r ≡ sending kind version local ⌝ }
 {
     let answer = Answer {
         call: 0,
@@ -53,11 +53,11 @@ pub fn sending(kind: u32, v: Version, l: Local) -> Move
         rounds: 0,
     };
     Move {
-        local: l,
+        local,
         sends: kind,
-        written: v,
-        fills: FILLS_NOTHING,
-        keeps: KEEPS_NOTHING,
+        written: version,
+        fills: WORK_STAYS,
+        keeps: COPY_STAYS,
         answer,
         ceases: false,
         forgets: false,
@@ -65,34 +65,34 @@ pub fn sending(kind: u32, v: Version, l: Local) -> Move
 }
 
 // A step that sends a message without a version.
-pub fn plain(kind: u32, l: Local) -> Move
-    ensures { λ r. ⌜ r ≡ sending kind noVersion l ⌝ }
+pub fn plain(kind: u32, local: Local) -> Move
+    ensures { λ r. ⌜ r ≡ sending kind noVersion local ⌝ }
 {
-    sending(kind, no_version(), l)
+    sending(kind, no_version(), local)
 }
 
 // A step that changes the head and sends a message without a version.
-pub fn headed(kind: u32, h: Head, l: Local) -> Move
-    ensures { λ r. ⌜ r ≡ sending kind noVersion (withHead h l) ⌝ }
+pub fn headed(kind: u32, head: Head, local: Local) -> Move
+    ensures { λ r. ⌜ r ≡ sending kind noVersion (withHead head local) ⌝ }
 {
-    plain(kind, with_head(h, l))
+    plain(kind, with_head(head, local))
 }
 
 // A step that sends nothing.
-pub fn quiet(l: Local) -> Move
-    ensures { λ r. ⌜ r ≡ quiet l ⌝ }
+pub fn quiet(local: Local) -> Move
+    ensures { λ r. ⌜ r ≡ quiet local ⌝ }
 {
-    plain(NO_MESSAGE, l)
+    plain(NO_MESSAGE, local)
 }
 
 // The same step, with the end of leading and of all calls.
-pub fn ceasing(m: Move) -> Move
-    ensures { λ r. ⌜ r ≡ ceasing m ⌝ }
+pub fn ceasing(next: Move) -> Move
+    ensures { λ r. ⌜ r ≡ ceasing next ⌝ }
 {
-    let l = m.local;
-    let next = with_head(ceased(l.head), l);
-    let mut a = m;
-    a.local = next;
-    a.ceases = true;
-    a
+    let local = next.local;
+    let follower = with_head(ceased(local.head), local);
+    let mut after = next;
+    after.local = follower;
+    after.ceases = true;
+    after
 }

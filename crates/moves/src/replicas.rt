@@ -1,8 +1,8 @@
 // What others ask of a server, as a voter and as a replica.
 use crate::Local;
 use crate::Move;
+use crate::codes::COPY_STAYS;
 use crate::codes::KEEPS_MESSAGE;
-use crate::codes::KEEPS_NOTHING;
 use crate::parts::ceasing;
 use crate::parts::headed;
 use crate::parts::plain;
@@ -47,83 +47,87 @@ fn role_acts(role: u32) -> bool
 
 // A leader or candidate whose vote rises above its own number is one no more. Most requests reach a follower, which is left
 // alone, so that nobody walks over its slots.
-fn stepped_down(m: Move) -> Move
-    ensures { λ r. ⌜ r ≡ steppedDown m ⌝ }
+fn stepped_down(next: Move) -> Move
+    ensures { λ r. ⌜ r ≡ steppedDown next ⌝ }
 {
-    let l = m.local;
-    let h = l.head;
-    if role_acts(h.role) {
-        if must_step_down(h) {
-            return ceasing(m);
+    let local = next.local;
+    let head = local.head;
+    if role_acts(head.role) {
+        if must_step_down(head) {
+            return ceasing(next);
         }
-        return m;
+        return next;
     }
-    m
+    next
 }
 
 // PLEASEVOTE is answered by ACKVOTE or NACKVOTE.
-fn vote_move(m: Message, l: Local) -> Move
-    ensures { λ r. ⌜ r ≡ voteMove m l ⌝ }
+fn vote_move(message: Message, local: Local) -> Move
+    ensures { λ r. ⌜ r ≡ voteMove message local ⌝ }
 {
-    let h = l.head;
-    let kind = chosen(grants(m.election, m.sender, h), ACK_VOTE, NACK_VOTE);
-    let voted = after_vote(m.election, m.sender, h);
-    stepped_down(headed(kind, voted, l))
+    let head = local.head;
+    let kind = chosen(
+        grants(message.election, message.sender, head),
+        ACK_VOTE,
+        NACK_VOTE,
+    );
+    let voted = after_vote(message.election, message.sender, head);
+    stepped_down(headed(kind, voted, local))
 }
 
 // A read that is accepted reports the copy.
-fn read_request_move(m: Message, l: Local) -> Move
-    ensures { λ r. ⌜ r ≡ readRequestMove m l ⌝ }
+fn read_request_move(message: Message, local: Local) -> Move
+    ensures { λ r. ⌜ r ≡ readRequestMove message local ⌝ }
 {
-    let voted = voting(m.election, m.sender, l.head);
-    sending(ACK_READ, l.version, with_head(voted, l))
+    let voted = voting(message.election, message.sender, local.head);
+    sending(ACK_READ, local.version, with_head(voted, local))
 }
 
 // A write that is accepted is stored only if its version is above the stored one.
-fn write_request_move(m: Message, l: Local) -> Move
-    ensures { λ r. ⌜ r ≡ writeRequestMove m l ⌝ }
+fn write_request_move(message: Message, local: Local) -> Move
+    ensures { λ r. ⌜ r ≡ writeRequestMove message local ⌝ }
 {
-    let stores = above(m.version, l.version);
-    let version = pick_version(stores, m.version, l.version);
-    let head = voting(m.election, m.sender, l.head);
-    let mut a = l;
-    a.head = head;
-    a.version = version;
-    let mut b = plain(ACK_WRITE, a);
-    b.keeps = chosen(stores, KEEPS_MESSAGE, KEEPS_NOTHING);
-    b
+    let stores = above(message.version, local.version);
+    let version = pick_version(stores, message.version, local.version);
+    let head = voting(message.election, message.sender, local.head);
+    let mut after = local;
+    after.head = head;
+    after.version = version;
+    let mut next = plain(ACK_WRITE, after);
+    next.keeps = chosen(stores, KEEPS_MESSAGE, COPY_STAYS);
+    next
 }
 
 // A request that is accepted.
-fn accepted_move(writes: bool, m: Message, l: Local) -> Move
-    ensures { λ r. ⌜ r ≡ elim writes [ true ↦ writeRequestMove m l | false ↦ readRequestMove m l ] ⌝ }
+fn accepted_move(writes: bool, message: Message, local: Local) -> Move
+    ensures { λ r. ⌜ r ≡ elim writes [ true ↦ writeRequestMove message local | false ↦ readRequestMove message local ] ⌝ }
 {
     if writes {
-        return write_request_move(m, l);
+        return write_request_move(message, local);
     }
-    read_request_move(m, l)
+    read_request_move(message, local)
 }
 
 // A request under a number below the server's vote is refused.
-pub fn request_move(writes: bool, m: Message, l: Local) -> Move
-    ensures { λ r. ⌜ r ≡ requestMove writes m l ⌝ }
+pub fn request_move(writes: bool, message: Message, local: Local) -> Move
+    ensures { λ r. ⌜ r ≡ requestMove writes message local ⌝ }
 {
-    if may_accept(m.election, l.head) {
-        return stepped_down(accepted_move(writes, m, l));
+    if may_accept(message.election, local.head) {
+        return stepped_down(accepted_move(writes, message, local));
     }
-    plain(chosen(writes, NACK_WRITE, NACK_READ), l)
+    plain(chosen(writes, NACK_WRITE, NACK_READ), local)
 }
 
 // PLEASEVOTE is answered, ACKVOTE counts for a candidate, NACKVOTE is ignored.
-pub fn voting_move(n: u32, kind: u32, m: Message, l: Local) -> Move
-    ensures { λ r. ⌜ r ≡ votingMove n kind m l ⌝ }
+pub fn voting_move(servers: u32, kind: u32, message: Message, local: Local) -> Move
+    ensures { λ r. ⌜ r ≡ votingMove servers kind message local ⌝ }
 {
     if kind == PLEASE_VOTE {
-        return vote_move(m, l);
+        return vote_move(message, local);
     }
     if kind == ACK_VOTE {
-        let h = on_ack_vote(n, m.sender, m.election, l.head);
-        return headed(NO_MESSAGE, h, l);
+        let head = on_ack_vote(servers, message.sender, message.election, local.head);
+        return headed(NO_MESSAGE, head, local);
     }
-    quiet(l)
+    quiet(local)
 }

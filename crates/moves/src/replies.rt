@@ -3,10 +3,10 @@ use crate::Local;
 use crate::Move;
 use crate::codes::FILLS_MESSAGE;
 use crate::leading::closed_move;
-use crate::nothing::no_version;
 use crate::parts::quiet;
 use crate::parts::with_round;
-use crate::roles::timed_out_move;
+use crate::roles::ceased_move;
+use rounds::opening::no_version;
 use rounds::replies::closes;
 use rounds::replies::counted;
 use rounds::replies::fails;
@@ -23,83 +23,83 @@ ghost use mathlib.Core.List.{[]};
 ghost use Rattle.model.specs.Leader.{fails};
 ghost use Rattle.server.specs.declared.Handling.the-variants.{Reply};
 ghost use Rattle.server.specs.Views.{openIn};
-ghost use Rattle.moves.specs.Moves.{timedOutMove, quiet, withRound, fetching, countedMove, replyMove, handlingMove, readsBy};
+ghost use Rattle.moves.specs.Moves.{ceasedMove, quiet, withRound, fetching, countedMove, replyMove, handlingMove, readsBy};
 
 // The same step, with the message's content as working content where it is the best one reported.
-fn fetching(better: bool, m: Move) -> Move
-    ensures { λ r. ⌜ r ≡ fetching better m ⌝ }
+fn fetching(better: bool, next: Move) -> Move
+    ensures { λ r. ⌜ r ≡ fetching better next ⌝ }
 {
-    let mut a = m;
-    a.fills = chosen(better, FILLS_MESSAGE, m.fills);
-    a
+    let mut after = next;
+    after.fills = chosen(better, FILLS_MESSAGE, next.fills);
+    after
 }
 
 // A round that does not close fails or waits for more replies.
-fn waiting_move(n: u32, k: Counted, l: Local) -> Move
-    ensures { λ r. ⌜ r ≡ elim (fails n (openIn n (k .round) [])) [ true ↦ timedOutMove l | false ↦ fetching (k .better) (quiet (withRound (k .round) l)) ] ⌝ }
+fn waiting_move(servers: u32, after: Counted, local: Local) -> Move
+    ensures { λ r. ⌜ r ≡ elim (fails servers (openIn servers (after .round) [])) [ true ↦ ceasedMove local | false ↦ fetching (after .better) (quiet (withRound (after .round) local)) ] ⌝ }
 {
-    if fails(n, k.round) {
-        return timed_out_move(l);
+    if fails(servers, after.round) {
+        return ceased_move(local);
     }
-    fetching(k.better, quiet(with_round(k.round, l)))
+    fetching(after.better, quiet(with_round(after.round, local)))
 }
 
 // A round with a reply counted: it closes, fails or stays open.
-fn counted_move(n: u32, me: u32, result: u32, k: Counted, l: Local) -> Move
-    ensures { λ r. ⌜ r ≡ countedMove n me result k l ⌝ }
+fn counted_move(servers: u32, me: u32, result: u32, after: Counted, local: Local) -> Move
+    ensures { λ r. ⌜ r ≡ countedMove servers me result after local ⌝ }
 {
-    if closes(n, k.round) {
-        let next = closed_move(me, result, with_round(k.round, l));
-        return fetching(k.better, next);
+    if closes(servers, after.round) {
+        let next = closed_move(me, result, with_round(after.round, local));
+        return fetching(after.better, next);
     }
-    waiting_move(n, k, l)
+    waiting_move(servers, after, local)
 }
 
 // A reply that does not belong to the round of the slot changes nothing.
 fn reply_move(
-    n: u32,
+    servers: u32,
     me: u32,
     result: u32,
     mark: u32,
     report: Version,
-    m: Message,
-    l: Local,
+    message: Message,
+    local: Local,
 ) -> Move
-    ensures { λ r. ⌜ r ≡ replyMove n me result mark report m l ⌝ }
+    ensures { λ r. ⌜ r ≡ replyMove servers me result mark report message local ⌝ }
 {
-    if matches(l.round, m.election, m.round) {
-        let k = counted(n, m.sender, mark, report, l.round);
-        return counted_move(n, me, result, k, l);
+    if matches(local.round, message.election, message.round) {
+        let after = counted(servers, message.sender, mark, report, local.round);
+        return counted_move(servers, me, result, after, local);
     }
-    quiet(l)
+    quiet(local)
 }
 
 // A reply by its mark, and whether it reports the version that it carries.
 pub fn reported_move(
-    n: u32,
+    servers: u32,
     me: u32,
     result: u32,
     mark: u32,
     reports: bool,
-    m: Message,
-    l: Local,
+    message: Message,
+    local: Local,
 ) -> Move
-    ensures { λ r. ⌜ r ≡ handlingMove n me result m l (Reply mark reports) ⌝ }
+    ensures { λ r. ⌜ r ≡ handlingMove servers me result message local (Reply mark reports) ⌝ }
 {
-    let report = pick_version(reports, m.version, no_version());
-    reply_move(n, me, result, mark, report, m, l)
+    let report = pick_version(reports, message.version, no_version());
+    reply_move(servers, me, result, mark, report, message, local)
 }
 
 // Whether a reply closes the checking round of the slot.
-pub fn closes_check(n: u32, mark: u32, reports: bool, m: Message, l: Local) -> bool
-    ensures { λ r. ⌜ r ≡ readsBy n m l (Reply mark reports) ⌝ }
+pub fn closes_check(servers: u32, mark: u32, reports: bool, message: Message, local: Local) -> bool
+    ensures { λ r. ⌜ r ≡ readsBy servers message local (Reply mark reports) ⌝ }
 {
-    let round = l.round;
+    let round = local.round;
     if round.purpose == CHECK {
-        if matches(round, m.election, m.round) {
-            let report = pick_version(reports, m.version, no_version());
-            let k = counted(n, m.sender, mark, report, round);
-            return closes(n, k.round);
+        if matches(round, message.election, message.round) {
+            let report = pick_version(reports, message.version, no_version());
+            let after = counted(servers, message.sender, mark, report, round);
+            return closes(servers, after.round);
         }
     }
     false

@@ -9,29 +9,29 @@ use server::codes::PLEASE_VOTE;
 use server::codes::STOPPED;
 use server::votes::elected;
 ghost use mathlib.Core.Path.{_≡_};
-ghost use Rattle.moves.specs.Moves.{electedMove, timedOutMove, stoppedMove};
+ghost use Rattle.moves.specs.Moves.{electedMove, ceasedMove, stoppedMove};
 
 // An election: PLEASEVOTE is sent under the server's next number.
-pub fn elected_move(n: u32, me: u32, l: Local) -> Move
-    ensures { λ r. ⌜ r ≡ electedMove n me l ⌝ }
+pub fn elected_move(servers: u32, me: u32, local: Local) -> Move
+    ensures { λ r. ⌜ r ≡ electedMove servers me local ⌝ }
 {
-    let mut m = headed(PLEASE_VOTE, elected(n, me, l.head), l);
-    m.ceases = true;
-    m
+    let mut next = headed(PLEASE_VOTE, elected(servers, me, local.head), local);
+    next.ceases = true;
+    next
 }
 
 // Leading ends.
-pub fn timed_out_move(l: Local) -> Move
-    ensures { λ r. ⌜ r ≡ timedOutMove l ⌝ }
+pub fn ceased_move(local: Local) -> Move
+    ensures { λ r. ⌜ r ≡ ceasedMove local ⌝ }
 {
-    ceasing(quiet(l))
+    ceasing(quiet(local))
 }
 
 // The server is marked as stopped.
-pub fn stopped_move(l: Local) -> Move
-    ensures { λ r. ⌜ r ≡ stoppedMove l ⌝ }
+pub fn stopped_move(local: Local) -> Move
+    ensures { λ r. ⌜ r ≡ stoppedMove local ⌝ }
 {
-    let mut h = l.head;
-    h.stopped = STOPPED;
-    headed(NO_MESSAGE, h, l)
+    let mut head = local.head;
+    head.stopped = STOPPED;
+    headed(NO_MESSAGE, head, local)
 }

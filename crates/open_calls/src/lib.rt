@@ -27,15 +27,15 @@ fn sent_by(own: bool, sent: u32) -> u32
 }
 
 // One more round made for a call; `own` where it is the call's own write.
-pub fn one_more(own: bool, c: Call) -> Call
-    ensures is { λ r. ⌜ r ≡ oneMoreOf own c ⌝ }
-    ensures means { λ r. ⌜ ((words : calls.Words) → c .rounds + 1 < 2 ^ 32 → callIn r words ≡ oneMore own (callIn c words)) ⌝ }
+pub fn one_more(own: bool, call: Call) -> Call
+    ensures is { λ r. ⌜ r ≡ oneMoreOf own call ⌝ }
+    ensures means { λ r. ⌜ ((words : calls.Words) → call .rounds + 1 < 2 ^ 32 → callIn r words ≡ oneMore own (callIn call words)) ⌝ }
 {
-    let sent = sent_by(own, c.sent);
-    let rounds = wrapping_add_u32(c.rounds, 1);
+    let sent = sent_by(own, call.sent);
+    let rounds = wrapping_add_u32(call.rounds, 1);
     Call {
-        kind: c.kind,
-        number: c.number,
+        kind: call.kind,
+        number: call.number,
         rounds,
         sent,
     }
@@ -49,32 +49,32 @@ fn ended_as(sent: u32) -> u32
 }
 
 // The answer to a call that ends because leading ends.
-pub fn ended(c: Call) -> Answer
-    ensures is { λ r. ⌜ r ≡ endedOf c ⌝ }
-    ensures means { λ r. ⌜ ((words : calls.Words) (v : List ℕ) (t : List Entry) → answerIn r v t ≡ ended (takenIn c words)) ⌝ }
+pub fn ended(call: Call) -> Answer
+    ensures is { λ r. ⌜ r ≡ endedOf call ⌝ }
+    ensures means { λ r. ⌜ ((words : calls.Words) (v : List ℕ) (t : List Entry) → answerIn r v t ≡ ended (takenIn call words)) ⌝ }
 {
-    let result = ended_as(c.sent);
+    let result = ended_as(call.sent);
     Answer {
-        call: c.number,
+        call: call.number,
         result,
-        rounds: c.rounds,
+        rounds: call.rounds,
     }
 }
 
-// The next version under the leader's number, above version v of its copy.
-pub fn next_version(number: u32, v: Version) -> Version
-    ensures is { λ r. ⌜ r ≡ nextVersionOf number v ⌝ }
-    ensures means { λ r. ⌜ ((b : ℕ) (s : Server) → v .counter + 1 < 2 ^ 32 → number ≡ s .stored .number → versionIn v ≡ copyAt (s .stored) b .version → versionIn r ≡ nextVersion b s) ⌝ }
+// The next version under the leader's number, above that of its copy.
+pub fn next_version(number: u32, version: Version) -> Version
+    ensures is { λ r. ⌜ r ≡ nextVersionOf number version ⌝ }
+    ensures means { λ r. ⌜ ((b : ℕ) (s : Server) → version .counter + 1 < 2 ^ 32 → number ≡ s .stored .number → versionIn version ≡ copyAt (s .stored) b .version → versionIn r ≡ nextVersion b s) ⌝ }
 {
     Version {
         election: number,
-        counter: wrapping_add_u32(v.counter, 1),
+        counter: wrapping_add_u32(version.counter, 1),
     }
 }
 
-// Whether the copy with version v was recovered under the leader's number.
-pub fn recovered(h: Head, v: Version) -> bool
-    ensures { λ b. ⌜ b ≡ eqb (versionIn v .election) (storedIn h [] .number) ⌝ }
+// Whether the copy with this version was recovered under the leader's number.
+pub fn recovered(head: Head, version: Version) -> bool
+    ensures { λ b. ⌜ b ≡ eqb (versionIn version .election) (storedIn head [] .number) ⌝ }
 {
-    v.election == h.number
+    version.election == head.number
 }

@@ -14,9 +14,9 @@ use Rattle.server.specs.declared.Effect.{Effect}
 use Rattle.server.specs.Views.{among}
 use Rattle.open_calls.specs.Calls.{endedOf}
 use Rattle.memory.specs.declared.Counts.{Counts}
-use Rattle.memory.specs.Layout.{countsAt, callAt}
+use Rattle.memory.specs.Layout.{slotOf, countsAt, callAt}
 use Rattle.moves.specs.declared.Move.{Move}
-use Rattle.views.specs.Memory.{Memory, standing, slotOf}
+use Rattle.views.specs.Memory.{Memory, standing}
 use Rattle.views.specs.Changes.{putAnswer, Written, endedCalls, answered}
 use Rattle.plans.specs.declared.Step.{Step}
 use Rattle.plans.specs.declared.Plan.{Plan}

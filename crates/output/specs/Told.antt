@@ -11,7 +11,7 @@ use Rattle.entries.specs.declared.Decoded.{Decoded}
 use Rattle.model.specs.Print.{keysText}
 use Rattle.server.specs.declared.Answer.{Answer}
 use Rattle.server.specs.Views.{resultIn}
-use Rattle.print.specs.declared.Outcome.{Outcome}
+use Rattle.print.specs.declared.ResultWord.{ResultWord}
 use Rattle.print.specs.declared.KeyList.{KeyList}
 use Rattle.print.specs.Answers.{keysIn, resultFor}
 use Rattle.print.specs.Printed.{Printed}
@@ -25,8 +25,8 @@ pub record Told (text before : List ℕ) (at : ℕ) (after : List ℕ) (p : ℕ)
   pub printed : Printed text before at after p
   pub within : p ≤ at + lineRoom
 
--- the kind of a result number, whatever the data
-pub record OutcomeOf (x : ℕ) (o : Outcome) : Type 0 where
+-- the word of a result number, whatever the data
+pub record ResultWordOf (x : ℕ) (o : ResultWord) : Type 0 where
   pub is : (v : List ℕ) (t : List Entry) → resultFor o v (keysOf t) ≡ resultIn x v t
 
 -- the key of a slot, of at most eight bytes

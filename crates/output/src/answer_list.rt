@@ -3,11 +3,23 @@ use entries::Decoded;
 use entries::Key;
 use entries::Slot;
 use entries::Value;
-use memory::ANSWER;
+use memory::ANSWER_SIZE;
+use memory::AnswerWords;
+use memory::offsets::ANSWER_CALL;
+use memory::offsets::ANSWER_RESULT;
+use memory::offsets::ANSWER_ROUNDS;
+use print::AnswerLine;
 use print::KeyList;
-use print::Outcome;
+use print::ResultWord;
 use print::answer_text::put_answer;
 use server::Answer;
+use server::codes::ABSENT;
+use server::codes::DONE;
+use server::codes::FULL;
+use server::codes::LISTED;
+use server::codes::MISMATCH;
+use server::codes::NOTDONE;
+use server::codes::VALUE;
 ghost use mathlib.Core.Path.{_≡_};
 ghost use Prim.Native.Nat.{_≤_, _<_, _+_};
 ghost use lib.ListN.{length};
@@ -18,102 +30,102 @@ ghost use Rattle.server.specs.Views.{answerIn};
 ghost use Rattle.views.specs.Changes.{answerAt, answersAt};
 ghost use Rattle.print.specs.Printed.{Printed};
 ghost use Rattle.print.specs.Room.{answerRoom, lineRoom};
-ghost use Rattle.output.specs.Told.{Told, OutcomeOf, KeyOf, KeysOf, answerFields};
+ghost use Rattle.output.specs.Told.{Told, ResultWordOf, KeyOf, KeysOf, answerFields};
 
-// The kind of a result; a number that is none of 1 to 6 and 8 stands for `unknown`, as in the definition.
-fn outcome(result: u32) -> Outcome
-    ensures { λ r. ⌜ OutcomeOf result r ⌝ }
+// The word of a result; any other number stands for `unknown`, as in the definition.
+fn result_word(result: u32) -> ResultWord
+    ensures { λ r. ⌜ ResultWordOf result r ⌝ }
 {
     match result {
-        1 => Outcome::Value,
-        2 => Outcome::Keys,
-        3 => Outcome::Done,
-        4 => Outcome::Mismatch,
-        5 => Outcome::Full,
-        6 => Outcome::NotDone,
-        8 => Outcome::Absent,
-        _ => Outcome::Unknown,
+        VALUE => ResultWord::Value,
+        LISTED => ResultWord::Keys,
+        DONE => ResultWord::Done,
+        MISMATCH => ResultWord::Mismatch,
+        FULL => ResultWord::Full,
+        NOTDONE => ResultWord::NotDone,
+        ABSENT => ResultWord::Absent,
+        _ => ResultWord::Unknown,
     }
 }
 
 // The key of a slot; its contract says that it is short, which bounds what is printed.
-fn key_of(s: Slot) -> Key
-    ensures { λ r. ⌜ KeyOf s r ⌝ }
+fn key_of(entry: Slot) -> Key
+    ensures { λ r. ⌜ KeyOf entry r ⌝ }
 {
-    s.key
+    entry.key
 }
 
 // The keys of a table.
-fn key_list(t: Decoded) -> KeyList
-    ensures { λ r. ⌜ KeysOf t r ⌝ }
+fn key_list(table: Decoded) -> KeyList
+    ensures { λ r. ⌜ KeysOf table r ⌝ }
 {
-    let slots = t.slots;
-    let a = key_of(slots[0]);
-    let b = key_of(slots[1]);
-    let c = key_of(slots[2]);
-    let d = key_of(slots[3]);
+    let slots = table.slots;
+    let first = key_of(slots[0]);
+    let second = key_of(slots[1]);
+    let third = key_of(slots[2]);
+    let fourth = key_of(slots[3]);
     KeyList {
-        count: t.count,
-        keys: [a, b, c, d],
+        count: table.count,
+        keys: [first, second, third, fourth],
     }
 }
 
 // Answer i.
-fn load_answer(answers: &[u32; 32], i: usize) -> Answer
-    requires { ⌜ i < mostAnswers ⌝ }
-    ensures { λ r. ⌜ r ≡ answerAt (now (answers .entry)) i ⌝ }
+fn load_answer(answers: &AnswerWords, place: usize) -> Answer
+    requires { ⌜ place < mostAnswers ⌝ }
+    ensures { λ r. ⌜ r ≡ answerAt (now (answers .entry)) place ⌝ }
 {
-    answer_fields(answers, i)
+    answer_fields(answers, place)
 }
 
 // The same, with the fields written out in the contract.
-fn answer_fields(answers: &[u32; 32], i: usize) -> Answer
-    requires { ⌜ i < mostAnswers ⌝ }
-    ensures { λ r. ⌜ r ≡ answerFields (now (answers .entry)) i ⌝ }
+fn answer_fields(answers: &AnswerWords, place: usize) -> Answer
+    requires { ⌜ place < mostAnswers ⌝ }
+    ensures { λ r. ⌜ r ≡ answerFields (now (answers .entry)) place ⌝ }
 {
-    let p = i * ANSWER;
+    let base = place * ANSWER_SIZE;
     Answer {
-        call: answers[p + 0],
-        result: answers[p + 1],
-        rounds: answers[p + 2],
+        call: answers[base + ANSWER_CALL],
+        result: answers[base + ANSWER_RESULT],
+        rounds: answers[base + ANSWER_ROUNDS],
     }
 }
 
 // An answer with the data of `value` and `keys`.
-fn put_one(out: &mut [u8], at: usize, a: Answer, v: Value, t: Decoded) -> usize
+fn put_one(out: &mut [u8], at: usize, answer: Answer, value: Value, table: Decoded) -> usize
     requires { ⌜ at + answerRoom ≤ length (now out) ⌝ }
-    ensures { λ r. ⌜ Printed (answerText (answerIn a (valueBytes v) (tableIn t))) (now (out .entry)) at (now (out .exit)) r × (r ≤ at + answerRoom) ⌝ }
+    ensures { λ r. ⌜ Printed (answerText (answerIn answer (valueBytes value) (tableIn table))) (now (out .entry)) at (now (out .exit)) r × (r ≤ at + answerRoom) ⌝ }
 {
-    let keys = key_list(t);
-    let o = outcome(a.result);
-    let x = print::Answer {
-        call: a.call,
-        outcome: o,
-        rounds: a.rounds,
-        value: v,
+    let keys = key_list(table);
+    let word = result_word(answer.result);
+    let printed = AnswerLine {
+        call: answer.call,
+        word,
+        rounds: answer.rounds,
+        value,
         keys,
     };
-    put_answer(out, at, x)
+    put_answer(out, at, printed)
 }
 
-// The first n answers.
+// The first answers, so many as the line has.
 pub fn put_answers(
     out: &mut [u8],
     at: usize,
-    n: usize,
-    answers: &[u32; 32],
-    v: Value,
-    t: Decoded,
+    count: usize,
+    answers: &AnswerWords,
+    value: Value,
+    table: Decoded,
 ) -> usize
-    requires { ⌜ (at + lineRoom ≤ length (now out)) × (n ≤ mostAnswers) ⌝ }
-    ensures { λ r. ⌜ Told (answerTexts (answersAt n (now (answers .entry)) (valueBytes v) (tableIn t))) (now (out .entry)) at (now (out .exit)) r ⌝ }
+    requires { ⌜ (at + lineRoom ≤ length (now out)) × (count ≤ mostAnswers) ⌝ }
+    ensures { λ r. ⌜ Told (answerTexts (answersAt count (now (answers .entry)) (valueBytes value) (tableIn table))) (now (out .entry)) at (now (out .exit)) r ⌝ }
 {
-    let mut p = at;
+    let mut next = at;
     let mut i = 0;
-    while i < n {
-        let a = load_answer(answers, i);
-        p = put_one(out, p, a, v, t);
+    while i < count {
+        let answer = load_answer(answers, i);
+        next = put_one(out, next, answer, value, table);
         i += 1;
     }
-    p
+    next
 }

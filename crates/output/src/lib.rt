@@ -1,5 +1,6 @@
 // What is printed for a line, from the machine's report of it (RULES, Output).
 use crate::answer_list::put_answers;
+use memory::AnswerWords;
 use print::other_lines::put_refusal;
 use print::other_lines::put_tally;
 use runs::Report;
@@ -16,24 +17,45 @@ ghost use Rattle.output.specs.Told.{Told};
 mod answer_list;
 
 // The refusal, or the answers.
-pub fn put_outcome(out: &mut [u8], at: usize, line: u32, r: Report, answers: &[u32; 32]) -> usize
-    requires { ⌜ (at + lineRoom ≤ length (now out)) × (r .answers ≤ mostAnswers) ⌝ }
-    ensures { λ p. ⌜ Told (outcomeText line (outcomeIn r (now (answers .entry)))) (now (out .entry)) at (now (out .exit)) p ⌝ }
+pub fn put_outcome(
+    out: &mut [u8],
+    at: usize,
+    line: u32,
+    report: Report,
+    answers: &AnswerWords,
+) -> usize
+    requires { ⌜ (at + lineRoom ≤ length (now out)) × (report .answers ≤ mostAnswers) ⌝ }
+    ensures { λ p. ⌜ Told (outcomeText line (outcomeIn report (now (answers .entry)))) (now (out .entry)) at (now (out .exit)) p ⌝ }
 {
-    if r.refusal != 0 {
-        return put_refusal(out, at, line, r.refusal);
+    if report.refusal != 0 {
+        return put_refusal(out, at, line, report.refusal);
     }
-    if r.answers == 0 {
+    if report.answers == 0 {
         return at;
     }
-    let f = r.effect;
-    put_answers(out, at, r.answers as usize, answers, f.value, f.table)
+    let effect = report.effect;
+    put_answers(
+        out,
+        at,
+        report.answers as usize,
+        answers,
+        effect.value,
+        effect.table,
+    )
 }
 
 // The tally, after the last line.
-pub fn put_end(out: &mut [u8], at: usize, t: Tally) -> usize
+pub fn put_end(out: &mut [u8], at: usize, tally: Tally) -> usize
     requires { ⌜ at + tallyRoom ≤ length (now out) ⌝ }
-    ensures { λ p. ⌜ Printed (tallyText (tallyIn t)) (now (out .entry)) at (now (out .exit)) p × (p ≤ at + tallyRoom) ⌝ }
+    ensures { λ p. ⌜ Printed (tallyText (tallyIn tally)) (now (out .entry)) at (now (out .exit)) p × (p ≤ at + tallyRoom) ⌝ }
 {
-    put_tally(out, at, t.sent, t.copied, t.delivered, t.lost, t.flight)
+    put_tally(
+        out,
+        at,
+        tally.sent,
+        tally.copied,
+        tally.delivered,
+        tally.lost,
+        tally.flight,
+    )
 }

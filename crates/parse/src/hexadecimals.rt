@@ -2,7 +2,9 @@
 use crate::digits::hex_digit;
 use crate::words::same_word;
 use entries::Item;
+use entries::KEY_ROOM;
 use entries::Key;
+use entries::VALUE_ROOM;
 use entries::Value;
 use entries::keys::at_most;
 ghost use mathlib.Core.Path.{_≡_};
@@ -16,9 +18,9 @@ ghost use Rattle.parse.specs.Kept.{keyFor, valueFor, itemFor};
 fn is_pairs(word: &[u8]) -> bool
     ensures { λ r. ⌜ r ≡ present (pairs (now (word .entry))) ⌝ }
 {
-    let n = word.len();
+    let len = word.len();
     let mut i = 0;
-    while i + 1 < n {
+    while i + 1 < len {
         if 15 < hex_digit(word[i]) {
             return false;
         }
@@ -27,7 +29,7 @@ fn is_pairs(word: &[u8]) -> bool
         }
         i += 2;
     }
-    if i < n {
+    if i < len {
         return false;
     }
     true
@@ -63,12 +65,12 @@ pub fn is_item(word: &[u8]) -> bool
 }
 
 // The digit that a byte is, 0 for others.
-fn nibble(b: u8) -> u8
-    ensures { λ r. ⌜ Nibble b r ⌝ }
+fn nibble(byte: u8) -> u8
+    ensures { λ r. ⌜ Nibble byte r ⌝ }
 {
-    let d = hex_digit(b);
-    if d < 16 {
-        return d;
+    let figure = hex_digit(byte);
+    if figure < 16 {
+        return figure;
     }
     0
 }
@@ -86,10 +88,10 @@ pub fn key_in(word: &[u8]) -> Key
     ensures { λ r. ⌜ r ≡ keyFor (pairBytes (now (word .entry))) ⌝ }
 {
     let len = word.len() / 2;
-    let n = at_most(len, 8);
-    let mut bytes = [0u8; 8];
+    let kept = at_most(len, KEY_ROOM);
+    let mut bytes = [0u8; KEY_ROOM];
     let mut i = 0;
-    while i < n {
+    while i < kept {
         bytes[i] = pair_at(word, i);
         i += 1;
     }
@@ -101,10 +103,10 @@ fn value_in(word: &[u8]) -> Value
     ensures { λ r. ⌜ r ≡ valueFor (pairBytes (now (word .entry))) ⌝ }
 {
     let len = word.len() / 2;
-    let n = at_most(len, 16);
-    let mut bytes = [0u8; 16];
+    let kept = at_most(len, VALUE_ROOM);
+    let mut bytes = [0u8; VALUE_ROOM];
     let mut i = 0;
-    while i < n {
+    while i < kept {
         bytes[i] = pair_at(word, i);
         i += 1;
     }

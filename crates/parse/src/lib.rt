@@ -53,11 +53,14 @@ pub struct Line {
     pub has_value: bool,
 }
 
+// The most bytes of a line (RULES, Lines 2).
+pub const MAX_LINE: usize = 120;
+
 // The line of these bytes, which end before its line feed.
 pub fn parse_line(line: &[u8]) -> Line
     ensures { λ r. ⌜ r ≡ parsed (parse (now (line .entry))) ⌝ }
 {
-    if 120 < line.len() {
+    if MAX_LINE < line.len() {
         return malformed();
     }
     let end = word_end(line);

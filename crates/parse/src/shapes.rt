@@ -11,35 +11,28 @@ use crate::words::same_word;
 use crate::words::word_end;
 use entries::Item;
 use entries::Key;
+use entries::keys::no_key;
 use entries::slots::absent;
 ghost use mathlib.Core.Path.{_≡_};
-ghost use mathlib.Core.List.{[], _∷_};
+ghost use mathlib.Core.List.{_∷_};
 ghost use mathlib.Core.Option.{none};
 ghost use Rattle.model.specs.Text.{bytes};
 ghost use Rattle.model.specs.Parse.{number, hexadecimal, item, words, lineOf1, lineOf2, lineOf3, lineOf4, lineOf};
 ghost use Rattle.parse.specs.Digits.{present, allThree};
-ghost use Rattle.parse.specs.Kept.{keyFor};
 ghost use Rattle.parse.specs.Meaning.{twoNumbersLine, lineOfParts, lineWithNumbers, parsed, numberFor, numbersFor, callFor};
-
-fn blank_key() -> Key
-    ensures { λ r. ⌜ r ≡ keyFor [] ⌝ }
-{
-    let bytes = [0u8; 8];
-    Key { bytes, len: 0 }
-}
 
 fn of_words(kind: Kind, first: u32, second: u32, key: Key, expected: Item, value: Item) -> Line
     ensures { λ r. ⌜ r ≡ lineOfParts kind first second key expected value ⌝ }
 {
-    let e = expected.value;
-    let v = value.value;
+    let expected_value = expected.value;
+    let new_value = value.value;
     Line {
         kind,
         first,
         second,
         key,
-        expected: e,
-        value: v,
+        expected: expected_value,
+        value: new_value,
         has_expected: expected.there,
         has_value: value.there,
     }
@@ -48,7 +41,7 @@ fn of_words(kind: Kind, first: u32, second: u32, key: Key, expected: Item, value
 fn of_numbers(kind: Kind, first: u32, second: u32) -> Line
     ensures { λ r. ⌜ r ≡ lineWithNumbers kind first second ⌝ }
 {
-    of_words(kind, first, second, blank_key(), absent(), absent())
+    of_words(kind, first, second, no_key(), absent(), absent())
 }
 
 // A line that is malformed (RULES, Lines 2).
@@ -62,10 +55,10 @@ pub fn malformed() -> Line
 fn number_line(kind: Kind, word: &[u8]) -> Line
     ensures { λ r. ⌜ r ≡ numberFor kind (number (now (word .entry))) ⌝ }
 {
-    let n = number(word);
-    match n {
+    let reading = number(word);
+    match reading {
         Number::Not => malformed(),
-        Number::Is(x) => of_numbers(kind, x, 0),
+        Number::Is(first) => of_numbers(kind, first, 0),
     }
 }
 
@@ -73,14 +66,14 @@ fn number_line(kind: Kind, word: &[u8]) -> Line
 fn numbers_line(kind: Kind, first: &[u8], second: &[u8]) -> Line
     ensures { λ r. ⌜ r ≡ numbersFor kind (number (now (first .entry))) (number (now (second .entry))) ⌝ }
 {
-    let n = number(first);
-    match n {
+    let reading = number(first);
+    match reading {
         Number::Not => malformed(),
-        Number::Is(a) => {
-            let m = number(second);
-            match m {
+        Number::Is(first_number) => {
+            let second_reading = number(second);
+            match second_reading {
                 Number::Not => malformed(),
-                Number::Is(b) => of_numbers(kind, a, b),
+                Number::Is(second_number) => of_numbers(kind, first_number, second_number),
             }
         }
     }
@@ -103,41 +96,41 @@ fn all_readable(key: &[u8], expected: &[u8], value: &[u8]) -> bool
 fn call_line(kind: Kind, server: &[u8], key: &[u8], expected: &[u8], value: &[u8]) -> Line
     ensures { λ r. ⌜ r ≡ callFor kind (number (now (server .entry))) (hexadecimal (now (key .entry))) (item (now (expected .entry))) (item (now (value .entry))) ⌝ }
 {
-    let n = number(server);
-    match n {
+    let reading = number(server);
+    match reading {
         Number::Not => malformed(),
-        Number::Is(s) => {
+        Number::Is(server_number) => {
             if all_readable(key, expected, value) {
-                let k = key_in(key);
-                let e = item_in(expected);
-                let v = item_in(value);
-                return of_words(kind, s, 0, k, e, v);
+                let key_read = key_in(key);
+                let expected_read = item_in(expected);
+                let value_read = item_in(value);
+                return of_words(kind, server_number, 0, key_read, expected_read, value_read);
             }
             malformed()
         }
     }
 }
 
-fn line_of_1(word: &[u8], a: &[u8]) -> Line
-    ensures { λ r. ⌜ r ≡ parsed (lineOf1 (now (word .entry)) (now (a .entry))) ⌝ }
+fn line_of_1(word: &[u8], first: &[u8]) -> Line
+    ensures { λ r. ⌜ r ≡ parsed (lineOf1 (now (word .entry)) (now (first .entry))) ⌝ }
 {
     if same_word(word, b"elect") {
-        return number_line(Kind::Elect, a);
+        return number_line(Kind::Elect, first);
     }
     if same_word(word, b"deliver") {
-        return number_line(Kind::Deliver, a);
+        return number_line(Kind::Deliver, first);
     }
     if same_word(word, b"copy") {
-        return number_line(Kind::Copy, a);
+        return number_line(Kind::Copy, first);
     }
     if same_word(word, b"lose") {
-        return number_line(Kind::Lose, a);
+        return number_line(Kind::Lose, first);
     }
     if same_word(word, b"stop") {
-        return number_line(Kind::Stop, a);
+        return number_line(Kind::Stop, first);
     }
     if same_word(word, b"start") {
-        return number_line(Kind::Start, a);
+        return number_line(Kind::Start, first);
     }
     malformed()
 }
@@ -150,87 +143,87 @@ fn key_line(kind: Kind, server: &[u8], key: &[u8]) -> Line
 }
 
 // A line of two numbers behind its first word: a server and a bucket, or a message and how many stores.
-fn two_numbers_line(word: &[u8], a: &[u8], b: &[u8]) -> Line
-    ensures { λ r. ⌜ r ≡ parsed (twoNumbersLine (now (word .entry)) (now (a .entry)) (now (b .entry))) ⌝ }
+fn two_numbers_line(word: &[u8], first: &[u8], second: &[u8]) -> Line
+    ensures { λ r. ⌜ r ≡ parsed (twoNumbersLine (now (word .entry)) (now (first .entry)) (now (second .entry))) ⌝ }
 {
     if same_word(word, b"keys") {
-        return numbers_line(Kind::Keys, a, b);
+        return numbers_line(Kind::Keys, first, second);
     }
     if same_word(word, b"timeout") {
-        return numbers_line(Kind::Timeout, a, b);
+        return numbers_line(Kind::Timeout, first, second);
     }
     if same_word(word, b"cut") {
-        return numbers_line(Kind::Cut, a, b);
+        return numbers_line(Kind::Cut, first, second);
     }
     malformed()
 }
 
-fn line_of_2(word: &[u8], a: &[u8], b: &[u8]) -> Line
-    ensures { λ r. ⌜ r ≡ parsed (lineOf2 (now (word .entry)) (now (a .entry)) (now (b .entry))) ⌝ }
+fn line_of_2(word: &[u8], first: &[u8], second: &[u8]) -> Line
+    ensures { λ r. ⌜ r ≡ parsed (lineOf2 (now (word .entry)) (now (first .entry)) (now (second .entry))) ⌝ }
 {
     if same_word(word, b"cluster") {
-        return numbers_line(Kind::Cluster, a, b);
+        return numbers_line(Kind::Cluster, first, second);
     }
     if same_word(word, b"get") {
-        return key_line(Kind::Get, a, b);
+        return key_line(Kind::Get, first, second);
     }
     if same_word(word, b"del") {
-        return key_line(Kind::Del, a, b);
+        return key_line(Kind::Del, first, second);
     }
-    two_numbers_line(word, a, b)
+    two_numbers_line(word, first, second)
 }
 
-fn line_of_3(word: &[u8], a: &[u8], b: &[u8], c: &[u8]) -> Line
-    ensures { λ r. ⌜ r ≡ parsed (lineOf3 (now (word .entry)) (now (a .entry)) (now (b .entry)) (now (c .entry))) ⌝ }
+fn line_of_3(word: &[u8], first: &[u8], second: &[u8], third: &[u8]) -> Line
+    ensures { λ r. ⌜ r ≡ parsed (lineOf3 (now (word .entry)) (now (first .entry)) (now (second .entry)) (now (third .entry))) ⌝ }
 {
     if same_word(word, b"set") {
-        return call_line(Kind::Set, a, b, b"-", c);
+        return call_line(Kind::Set, first, second, b"-", third);
     }
     malformed()
 }
 
-fn line_of_4(word: &[u8], a: &[u8], b: &[u8], c: &[u8], d: &[u8]) -> Line
-    ensures { λ r. ⌜ r ≡ parsed (lineOf4 (now (word .entry)) (now (a .entry)) (now (b .entry)) (now (c .entry)) (now (d .entry))) ⌝ }
+fn line_of_4(word: &[u8], first: &[u8], second: &[u8], third: &[u8], fourth: &[u8]) -> Line
+    ensures { λ r. ⌜ r ≡ parsed (lineOf4 (now (word .entry)) (now (first .entry)) (now (second .entry)) (now (third .entry)) (now (fourth .entry))) ⌝ }
 {
     if same_word(word, b"setif") {
-        return call_line(Kind::SetIf, a, b, c, d);
+        return call_line(Kind::SetIf, first, second, third, fourth);
     }
     malformed()
 }
 
 // The words before `rest` are read, and `rest` holds one more, or several.
-fn with_four(word: &[u8], a: &[u8], b: &[u8], c: &[u8], rest: &[u8]) -> Line
-    ensures { λ r. ⌜ r ≡ parsed (lineOf (now (word .entry) ∷ (now (a .entry) ∷ (now (b .entry) ∷ (now (c .entry) ∷ (words (now (rest .entry)))))))) ⌝ }
+fn with_four(word: &[u8], first: &[u8], second: &[u8], third: &[u8], rest: &[u8]) -> Line
+    ensures { λ r. ⌜ r ≡ parsed (lineOf (now (word .entry) ∷ (now (first .entry) ∷ (now (second .entry) ∷ (now (third .entry) ∷ (words (now (rest .entry)))))))) ⌝ }
 {
     let end = word_end(rest);
     if end < rest.len() {
         return malformed();
     }
-    line_of_4(word, a, b, c, rest)
+    line_of_4(word, first, second, third, rest)
 }
 
 // The words before `rest` are read, and `rest` holds one more, or several.
-fn with_three(word: &[u8], a: &[u8], b: &[u8], rest: &[u8]) -> Line
-    ensures { λ r. ⌜ r ≡ parsed (lineOf (now (word .entry) ∷ (now (a .entry) ∷ (now (b .entry) ∷ (words (now (rest .entry))))))) ⌝ }
+fn with_three(word: &[u8], first: &[u8], second: &[u8], rest: &[u8]) -> Line
+    ensures { λ r. ⌜ r ≡ parsed (lineOf (now (word .entry) ∷ (now (first .entry) ∷ (now (second .entry) ∷ (words (now (rest .entry))))))) ⌝ }
 {
     let end = word_end(rest);
     if end < rest.len() {
         let next = end + 1;
-        return with_four(word, a, b, &rest[..end], &rest[next..]);
+        return with_four(word, first, second, &rest[..end], &rest[next..]);
     }
-    line_of_3(word, a, b, rest)
+    line_of_3(word, first, second, rest)
 }
 
 // The words before `rest` are read, and `rest` holds one more, or several.
-fn with_two(word: &[u8], a: &[u8], rest: &[u8]) -> Line
-    ensures { λ r. ⌜ r ≡ parsed (lineOf (now (word .entry) ∷ (now (a .entry) ∷ (words (now (rest .entry)))))) ⌝ }
+fn with_two(word: &[u8], first: &[u8], rest: &[u8]) -> Line
+    ensures { λ r. ⌜ r ≡ parsed (lineOf (now (word .entry) ∷ (now (first .entry) ∷ (words (now (rest .entry)))))) ⌝ }
 {
     let end = word_end(rest);
     if end < rest.len() {
         let next = end + 1;
-        return with_three(word, a, &rest[..end], &rest[next..]);
+        return with_three(word, first, &rest[..end], &rest[next..]);
     }
-    line_of_2(word, a, rest)
+    line_of_2(word, first, rest)
 }
 
 // The words before `rest` are read, and `rest` holds one more, or several.

@@ -9,7 +9,7 @@ pub fn word_end(line: &[u8]) -> usize
 {
     let mut i = 0;
     while i < line.len() {
-        if line[i] == 32 {
+        if line[i] == b' ' {
             return i;
         }
         i += 1;

@@ -3,15 +3,16 @@ use mathlib.Core.Path.{_≡_}
 use mathlib.Core.List.{List, []}
 use mathlib.Core.Bool.{true, false}
 use Prim.Native.Nat.{ℕ, _≤_}
+use Rattle.model.specs.Measures.{maxServers, maxBuckets, maxMessages}
 use Rattle.model.specs.Calls as calls
 use Rattle.server.specs.declared.Words.{Words}
 use Rattle.server.specs.declared.Effect.{Effect}
 use Rattle.server.specs.Views.{wordsIn}
 use Rattle.memory.specs.declared.Counts.{Counts}
-use Rattle.memory.specs.Layout.{wordsAt}
+use Rattle.memory.specs.Layout.{slotOf, wordsAt}
 use Rattle.refusals.specs.Refusals.{inside}
 use Rattle.moves.specs.Reactions.{EffectNeeded}
-use Rattle.views.specs.Memory.{Memory, memory, slotOf, localAt, tableAt}
+use Rattle.views.specs.Memory.{Memory, memory, localAt, tableAt}
 use Rattle.plans.specs.declared.Step.{Step}
 use Rattle.plans.specs.declared.Plan.{Plan}
 use Rattle.plans.specs.Plans.{electAt, timeoutAt, stopAt, startAt, cutAt, badLengths, callBucket, callPlan, callAt}
@@ -19,10 +20,10 @@ use Rattle.plans.specs.Plans.{electAt, timeoutAt, stopAt, startAt, cutAt
 -- counts within the measures
 pub record Measured (c : Counts) : Type 0 where
   pub someServers : 1 ≤ c .servers
-  pub servers : c .servers ≤ 7
+  pub servers : c .servers ≤ maxServers
   pub someBuckets : 1 ≤ c .buckets
-  pub buckets : c .buckets ≤ 8
-  pub messages : c .messages ≤ 64
+  pub buckets : c .buckets ≤ maxBuckets
+  pub messages : c .messages ≤ maxMessages
 
 -- a memory of which only these arrays are looked at
 abbrev pub servers : (heads slots : List ℕ) → Memory

@@ -5,11 +5,9 @@ use Prim.Native.Nat.{ℕ, _+_, _%_, _^_, min}
 use lib.Dec.{eqb, leb, ltb}
 use lib.ListN.{replicate}
 use Rattle.hash.specs.Fnv.{bucketOf}
-use Rattle.entries.specs.declared.Key.{Key}
 use Rattle.entries.specs.declared.Item.{Item}
-use Rattle.entries.specs.Decoded.{keyBytes, absentItem}
+use Rattle.entries.specs.Decoded.{keyBytes, noKey, absentItem}
 use Rattle.model.specs.Measures.{maxElection, maxKeyBytes, maxValueBytes}
-use Rattle.model.specs.Calls as calls
 use Rattle.server.specs.declared.Head.{Head}
 use Rattle.server.specs.declared.Message.{Message}
 use Rattle.server.specs.declared.Words.{Words}
@@ -18,20 +16,17 @@ use Rattle.server.specs.Heads.{largerNumberOf}
 use Rattle.server.specs.Views.{among, chosen}
 use Rattle.rounds.specs.Rounds.{noVersion}
 use Rattle.memory.specs.declared.Counts.{Counts}
-use Rattle.memory.specs.Layout.{messageAt}
+use Rattle.memory.specs.Layout.{slotOf, messageAt}
 use Rattle.refusals.specs.Refusals.{placesLeft, serverRefusal, startRefusal, noReceiver, inside, messageRefusal}
 use Rattle.moves.specs.declared.Local.{Local}
 use Rattle.moves.specs.declared.Move.{Move}
-use Rattle.moves.specs.Moves.{noRound, noCall, local, quiet, begunMove, handledMove, electedMove, timedOutMove, stoppedMove}
+use Rattle.moves.specs.Moves.{noRound, noCall, localOf, quiet, begunMove, handledMove, electedMove, ceasedMove, stoppedMove}
 use Rattle.restarts.specs.Restarts.{restartedMove, cuttable, cutMove}
-use Rattle.views.specs.Memory.{Memory, slotOf, localAt}
+use Rattle.views.specs.Memory.{Memory, localAt}
 use Rattle.plans.specs.declared.Step.{Step}
 use Rattle.plans.specs.declared.Plan.{Plan}
 
 -- ---- nothing to carry out
-
-abbrev pub noKey : Key
-noKey = record { bytes = replicate 8 0; len = 0 }
 
 abbrev pub noWords : Words
 noWords = record { kind = 0; bucket = 0; key = noKey; expected = absentItem; value = absentItem }
@@ -40,13 +35,13 @@ abbrev pub noMessage : Message
 noMessage = record { kind = 0; sender = 0; receiver = 0; bucket = 0; election = 0; round = 0; version = noVersion }
 
 abbrev pub noStep : Step
-noStep = record { server = 0; bucket = 0; message = 0; removes = false; asked = noMessage; copied = 0; delivered = 0; lost = 0; calls = 0 }
+noStep = record { server = 0; bucket = 0; place = 0; removes = false; asked = noMessage; copied = 0; delivered = 0; lost = 0; calls = 0 }
 
 abbrev pub noHead : Head
 noHead = record { number = 0; vote = 0; leader = 0; role = 0; last = 0; stopped = 0; votes = replicate 7 0 }
 
 abbrev pub noMove : Move
-noMove = quiet (local noHead noVersion noRound noCall)
+noMove = quiet (localOf noHead noVersion noRound noCall)
 
 -- a line that is refused, where f is any effect
 abbrev pub refusedPlan : ℕ → Effect → Plan
@@ -54,14 +49,14 @@ refusedPlan r f = record { refusal = r; loses = false; takes = false; words = no
 
 -- ---- 12: more to send than places left
 
-unfoldable pub roomy : Counts → Plan → Plan
-roomy c p = elim (placesLeft c (p .step .removes) (p .next .sends)) [ true ↦ p | false ↦ refusedPlan 12 (p .effect) ]
+unfoldable pub ifPlacesLeft : Counts → Plan → Plan
+ifPlacesLeft c p = elim (placesLeft c (p .step .removes) (p .next .sends)) [ true ↦ p | false ↦ refusedPlan 12 (p .effect) ]
 
 -- ---- lines that name a server
 
 abbrev pub lineStep : Counts → ℕ → ℕ → Step
 lineStep c s b =
-    record { server = s; bucket = b; message = 0; removes = false; asked = noMessage; copied = 0; delivered = 0; lost = 0; calls = c .calls }
+    record { server = s; bucket = b; place = 0; removes = false; asked = noMessage; copied = 0; delivered = 0; lost = 0; calls = c .calls }
 
 abbrev pub movePlan : Step → Move → Effect → Plan
 movePlan x v f = record { refusal = 0; loses = false; takes = false; words = noWords; step = x; next = v; effect = f }
@@ -72,15 +67,15 @@ unless r f p = elim (eqb r 0) [ true ↦ p | false ↦ refusedPlan r f ]
 unfoldable pub electPlan : Counts → ℕ → Local → Effect → Plan
 electPlan c s l f =
     unless (serverRefusal c (l .head)) f
-    (elim (leb maxElection (largerNumberOf (l .head))) [ true ↦ refusedPlan 11 f | false ↦ roomy c (movePlan (lineStep c s 0) (electedMove (c .servers) s l) f) ])
+    (elim (leb maxElection (largerNumberOf (l .head))) [ true ↦ refusedPlan 11 f | false ↦ ifPlacesLeft c (movePlan (lineStep c s 0) (electedMove (c .servers) s l) f) ])
 
 unfoldable pub timeoutPlan : Counts → ℕ → ℕ → Local → Effect → Plan
 timeoutPlan c s b l f =
     unless (serverRefusal c (l .head)) f
-    (elim (among 4 (l .round .purpose)) [ true ↦ roomy c (movePlan (lineStep c s b) (timedOutMove l) f) | false ↦ refusedPlan 10 f ])
+    (elim (among 4 (l .round .purpose)) [ true ↦ ifPlacesLeft c (movePlan (lineStep c s b) (ceasedMove l) f) | false ↦ refusedPlan 10 f ])
 
 unfoldable pub stopPlan : Counts → ℕ → Local → Effect → Plan
-stopPlan c s l f = unless (serverRefusal c (l .head)) f (roomy c (movePlan (lineStep c s 0) (stoppedMove l) f))
+stopPlan c s l f = unless (serverRefusal c (l .head)) f (ifPlacesLeft c (movePlan (lineStep c s 0) (stoppedMove l) f))
 
 unfoldable pub electAt : Memory → Counts → ℕ → Effect → Plan
 electAt m c s f = elim (inside c s 0) [ true ↦ electPlan c s (localAt m s (slotOf s 0)) f | false ↦ refusedPlan 3 f ]
@@ -92,7 +87,7 @@ unfoldable pub stopAt : Memory → Counts → ℕ → Effect → Plan
 stopAt m c s f = elim (inside c s 0) [ true ↦ stopPlan c s (localAt m s (slotOf s 0)) f | false ↦ refusedPlan 3 f ]
 
 unfoldable pub startPlan : Counts → ℕ → Local → Effect → Plan
-startPlan c s l f = unless (startRefusal c (l .head)) f (roomy c (movePlan (lineStep c s 0) (restartedMove l) f))
+startPlan c s l f = unless (startRefusal c (l .head)) f (ifPlacesLeft c (movePlan (lineStep c s 0) (restartedMove l) f))
 
 unfoldable pub startAt : Memory → Counts → ℕ → Effect → Plan
 startAt m c s f = elim (inside c s 0) [ true ↦ startPlan c s (localAt m s (slotOf s 0)) f | false ↦ refusedPlan 3 f ]
@@ -124,7 +119,7 @@ callBucket c w = elim (eqb (w .kind) 5) [ true ↦ w .bucket | false ↦ bucketO
 
 abbrev pub callStep : Counts → ℕ → ℕ → Step
 callStep c s b =
-    record { server = s; bucket = b; message = 0; removes = false; asked = noMessage; copied = 0; delivered = 0; lost = 0; calls = (c .calls + 1) % 2 ^ 32 }
+    record { server = s; bucket = b; place = 0; removes = false; asked = noMessage; copied = 0; delivered = 0; lost = 0; calls = (c .calls + 1) % 2 ^ 32 }
 
 abbrev pub takePlan : Step → Words → Move → Effect → Plan
 takePlan x w v f = record { refusal = 0; loses = false; takes = true; words = w; step = x; next = v; effect = f }
@@ -141,7 +136,7 @@ callRefusal c l =
 unfoldable pub callPlan : Counts → ℕ → ℕ → Words → Local → Effect → Plan
 callPlan c s b w l f =
     unless (callRefusal c l) f
-    (roomy c (takePlan (callStep c s b) w (begunMove (c .servers) s ((c .calls + 1) % 2 ^ 32) (w .kind) (f .result) l) f))
+    (ifPlacesLeft c (takePlan (callStep c s b) w (begunMove (c .servers) s ((c .calls + 1) % 2 ^ 32) (w .kind) (f .result) l) f))
 
 unfoldable pub callAt : Memory → Counts → ℕ → Words → Effect → Plan
 callAt m c s w f =
@@ -159,7 +154,7 @@ messageStep c i removes x =
     record {
       server = min 6 (x .receiver);
       bucket = min 7 (x .bucket);
-      message = i;
+      place = i;
       removes = removes;
       asked = x;
       copied = chosen removes 0 1;
@@ -175,7 +170,7 @@ lostPlan c i removes f =
       loses = true;
       takes = false;
       words = noWords;
-      step = record { server = 0; bucket = 0; message = i; removes = removes; asked = noMessage; copied = chosen removes 0 1; delivered = 0; lost = 1; calls = c .calls };
+      step = record { server = 0; bucket = 0; place = i; removes = removes; asked = noMessage; copied = chosen removes 0 1; delivered = 0; lost = 1; calls = c .calls };
       next = noMove;
       effect = f;
     }
@@ -188,8 +183,8 @@ gone c x l = noReceiver c (x .asked .receiver) (l .head)
 unfoldable pub handPlan : Counts → Step → Message → Local → Effect → Plan
 handPlan c x m l f =
     elim (gone c x l) [
-      | true ↦ lostPlan c (x .message) (x .removes) f
-      | false ↦ roomy c (movePlan x (handledMove (c .servers) (x .server) (f .result) m l) f)
+      | true ↦ lostPlan c (x .place) (x .removes) f
+      | false ↦ ifPlacesLeft c (movePlan x (handledMove (c .servers) (x .server) (f .result) m l) f)
     ]
 
 abbrev pub receiverAt : Memory → ℕ → Local
@@ -211,7 +206,7 @@ cutStep c i x =
     record {
       server = min 6 (x .receiver);
       bucket = min 7 (x .bucket);
-      message = i;
+      place = i;
       removes = true;
       asked = x;
       copied = 0;
@@ -226,7 +221,7 @@ cutPlan c x k m l f =
     elim (gone c x l) [
       | true ↦ refusedPlan 18 f
       | false ↦
-          elim (cuttable k m l) [ true ↦ roomy c (movePlan x (cutMove k m l) f) | false ↦ refusedPlan 18 f ]
+          elim (cuttable k m l) [ true ↦ ifPlacesLeft c (movePlan x (cutMove k m l) f) | false ↦ refusedPlan 18 f ]
     ]
 
 unfoldable pub cutAt : Memory → Counts → ℕ → ℕ → Effect → Plan

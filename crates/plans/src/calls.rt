@@ -5,16 +5,22 @@ use crate::parts::no_effect;
 use crate::parts::no_message;
 use crate::parts::refused_plan;
 use crate::parts::take_plan;
-use crate::room::roomy;
+use crate::room::if_places_left;
 use crate::servers::load_local;
 use decoding::decode;
 use effects::effect;
 use entries::Item;
+use entries::KEY_ROOM;
 use entries::Key;
+use entries::VALUE_ROOM;
 use entries::keys::key_length;
 use hash::bucket_of;
-use memory::CONTENT;
+use memory::CONTENT_SIZE;
+use memory::CopyBytes;
 use memory::Counts;
+use memory::HeadWords;
+use memory::SlotWords;
+use memory::slot_of;
 use moves::Local;
 use moves::leading::begun_move;
 use moves::leading::needs_effect;
@@ -27,11 +33,12 @@ use refusals::inside;
 use refusals::server_refusal;
 use server::Effect;
 use server::Words;
-use server::codes::GET;
 use server::codes::KEYS;
 use server::codes::LEADING;
 use server::codes::NOTDONE;
+use server::kinds::is_open_call;
 use std::num::wrapping_add_u32;
+use table::BUCKET_SIZE;
 ghost use mathlib.Core.Path.{_≡_};
 ghost use mathlib.Core.Option.{none};
 ghost use Prim.Native.Nat.{_<_, _*_};
@@ -39,8 +46,8 @@ ghost use lib.ListN.{length};
 ghost use Rattle.hash.specs.Fnv.{bucketOf};
 ghost use Rattle.entries.specs.Decoded.{keyBytes};
 ghost use Rattle.model.specs.Calls as calls;
-ghost use Rattle.server.specs.Views.{among, effectIn, wordsIn};
-ghost use Rattle.memory.specs.Layout.{serverRoom, slotRoom, contentSize};
+ghost use Rattle.server.specs.Views.{effectIn, wordsIn};
+ghost use Rattle.memory.specs.Layout.{serverRoom, bucketRoom, slotRoom, contentSize};
 ghost use Rattle.moves.specs.Reactions.{EffectNeeded};
 ghost use Rattle.views.specs.Memory.{tableAt};
 ghost use Rattle.plans.specs.Plans.{badKey, badItem, badLengths, callBucket, callStep, callRefusal, callPlan};
@@ -52,28 +59,28 @@ fn bad_key(len: usize) -> bool
     if len == 0 {
         return true;
     }
-    8 < len
+    KEY_ROOM < len
 }
 
 // A value that is there and too long.
-fn bad_item(i: Item) -> bool
-    ensures { λ r. ⌜ r ≡ badItem i ⌝ }
+fn bad_item(item: Item) -> bool
+    ensures { λ r. ⌜ r ≡ badItem item ⌝ }
 {
-    let value = i.value;
-    if i.there {
-        return 16 < value.len;
+    let value = item.value;
+    if item.there {
+        return VALUE_ROOM < value.len;
     }
     false
 }
 
 // 4: a key or value of wrong length.
-fn bad_lengths(w: Words) -> bool
-    ensures { λ r. ⌜ r ≡ badLengths w ⌝ }
+fn bad_lengths(words: Words) -> bool
+    ensures { λ r. ⌜ r ≡ badLengths words ⌝ }
 {
-    let key = w.key;
-    let expected = w.expected;
-    let value = w.value;
-    if w.kind == KEYS {
+    let key = words.key;
+    let expected = words.expected;
+    let value = words.value;
+    if words.kind == KEYS {
         return false;
     }
     if bad_key(key.len) {
@@ -85,43 +92,34 @@ fn bad_lengths(w: Words) -> bool
     bad_item(value)
 }
 
-fn key_bucket(k: Key, buckets: u32) -> u32
-    ensures { λ r. ⌜ r ≡ bucketOf buckets (keyBytes k) ⌝ }
+fn key_bucket(key: Key, buckets: u32) -> u32
+    ensures { λ r. ⌜ r ≡ bucketOf buckets (keyBytes key) ⌝ }
 {
-    let n = key_length(k);
-    let bytes = k.bytes;
-    bucket_of(&bytes[..n], buckets)
+    let len = key_length(key);
+    let bytes = key.bytes;
+    bucket_of(&bytes[..len], buckets)
 }
 
 // A key's bucket, or the one named.
-fn call_bucket(c: Counts, w: Words) -> u32
-    ensures { λ r. ⌜ r ≡ callBucket c w ⌝ }
+fn call_bucket(cluster: Counts, words: Words) -> u32
+    ensures { λ r. ⌜ r ≡ callBucket cluster words ⌝ }
 {
-    if w.kind == KEYS {
-        return w.bucket;
+    if words.kind == KEYS {
+        return words.bucket;
     }
-    key_bucket(w.key, c.buckets)
-}
-
-fn is_taken(kind: u32) -> bool
-    ensures { λ r. ⌜ r ≡ among 5 kind ⌝ }
-{
-    if kind < GET {
-        return false;
-    }
-    kind <= KEYS
+    key_bucket(words.key, cluster.buckets)
 }
 
 // 5, 6, 8 and 9, or 0.
-fn call_refusal(c: Counts, l: Local) -> u32
-    ensures { λ r. ⌜ r ≡ callRefusal c l ⌝ }
+fn call_refusal(cluster: Counts, local: Local) -> u32
+    ensures { λ r. ⌜ r ≡ callRefusal cluster local ⌝ }
 {
-    let h = l.head;
-    let k = l.call;
-    let r = server_refusal(c, h);
-    if r == NONE {
-        if h.role == LEADING {
-            return if is_taken(k.kind) {
+    let head = local.head;
+    let call = local.call;
+    let refusal = server_refusal(cluster, head);
+    if refusal == NONE {
+        if head.role == LEADING {
+            return if is_open_call(call.kind) {
                 BUCKET_OCCUPIED
             } else {
                 NONE
@@ -129,115 +127,135 @@ fn call_refusal(c: Counts, l: Local) -> u32
         }
         return NOT_LEADING;
     }
-    r
+    refusal
 }
 
-fn call_step(c: Counts, s: u32, b: u32) -> Step
-    ensures { λ r. ⌜ r ≡ callStep c s b ⌝ }
+fn call_step(cluster: Counts, server: u32, bucket: u32) -> Step
+    ensures { λ r. ⌜ r ≡ callStep cluster server bucket ⌝ }
 {
     Step {
-        server: s,
-        bucket: b,
-        message: 0,
+        server,
+        bucket,
+        place: 0,
         removes: false,
         asked: no_message(),
         copied: 0,
         delivered: 0,
         lost: 0,
-        calls: wrapping_add_u32(c.calls, 1),
+        calls: wrapping_add_u32(cluster.calls, 1),
     }
 }
 
 // 5 to 12, or the call.
-fn call_plan(c: Counts, s: u32, b: u32, w: Words, l: Local, f: Effect) -> Plan
-    requires { ⌜ Measured c ⌝ }
-    ensures { λ r. ⌜ r ≡ callPlan c s b w l f ⌝ }
+fn call_plan(
+    cluster: Counts,
+    server: u32,
+    bucket: u32,
+    words: Words,
+    local: Local,
+    effect: Effect,
+) -> Plan
+    requires { ⌜ Measured cluster ⌝ }
+    ensures { λ r. ⌜ r ≡ callPlan cluster server bucket words local effect ⌝ }
 {
-    let r = call_refusal(c, l);
-    if r == NONE {
-        let x = call_step(c, s, b);
-        let v = begun_move(c.servers, s, x.calls, w.kind, f.result, l);
-        return roomy(c, take_plan(x, w, v, f));
+    let refusal = call_refusal(cluster, local);
+    if refusal == NONE {
+        let step = call_step(cluster, server, bucket);
+        let next = begun_move(
+            cluster.servers,
+            server,
+            step.calls,
+            words.kind,
+            effect.result,
+            local,
+        );
+        return if_places_left(cluster, take_plan(step, words, next, effect));
     }
-    refused_plan(r, f)
+    refused_plan(refusal, effect)
 }
 
-// What a call does to the table of content k.
-fn effect_on(copies: &[u8], k: usize, w: Words) -> Effect
-    requires { ⌜ (k < slotRoom) × (length (now copies) ≡ slotRoom * contentSize) ⌝ }
-    ensures { λ r. ⌜ effectIn r ≡ calls.effect (wordsIn w) (tableAt (now (copies .entry)) k) ⌝ }
+// What a call does to the table of this slot's copy.
+fn effect_on(copies: &[u8], slot: usize, words: Words) -> Effect
+    requires { ⌜ (slot < slotRoom) × (length (now copies) ≡ slotRoom * contentSize) ⌝ }
+    ensures { λ r. ⌜ effectIn r ≡ calls.effect (wordsIn words) (tableAt (now (copies .entry)) slot) ⌝ }
 {
-    let from = k * CONTENT;
-    let end = from + 113;
-    let t = decode(&copies[from..end]);
-    effect(w, t)
+    let from = slot * CONTENT_SIZE;
+    let end = from + BUCKET_SIZE;
+    let table = decode(&copies[from..end]);
+    effect(words, table)
 }
 
 // The same in the array of the copies.
-pub fn effect_of(copies: &[u8; 7168], k: usize, w: Words) -> Effect
-    requires { ⌜ k < slotRoom ⌝ }
-    ensures { λ r. ⌜ effectIn r ≡ calls.effect (wordsIn w) (tableAt (now (copies .entry)) k) ⌝ }
+pub fn effect_of(copies: &CopyBytes, slot: usize, words: Words) -> Effect
+    requires { ⌜ slot < slotRoom ⌝ }
+    ensures { λ r. ⌜ effectIn r ≡ calls.effect (wordsIn words) (tableAt (now (copies .entry)) slot) ⌝ }
 {
-    effect_on(copies, k, w)
+    effect_on(copies, slot, words)
 }
 
 // What stands for an effect that writes nothing: any result but 0 will do.
 fn nothing_written() -> Effect
     ensures { λ r. ⌜ calls.effectWrites (effectIn r) ≡ none ⌝ }
 {
-    let mut f = no_effect();
-    f.result = NOTDONE;
-    f
+    let mut effect = no_effect();
+    effect.result = NOTDONE;
+    effect
 }
 
 // What the line of a call needs of the call's effect; where it needs nothing, nothing is worked out.
-fn call_effect(copies: &[u8; 7168], c: Counts, k: usize, w: Words, l: Local) -> Effect
-    requires { ⌜ k < slotRoom ⌝ }
-    ensures { λ r. ⌜ EffectNeeded (c .servers) l (wordsIn w) (tableAt (now (copies .entry)) k) r ⌝ }
+fn call_effect(
+    copies: &CopyBytes,
+    cluster: Counts,
+    slot: usize,
+    words: Words,
+    local: Local,
+) -> Effect
+    requires { ⌜ slot < slotRoom ⌝ }
+    ensures { λ r. ⌜ EffectNeeded (cluster .servers) local (wordsIn words) (tableAt (now (copies .entry)) slot) r ⌝ }
 {
-    if needs_effect(c.servers, w.kind, l) {
-        return effect_of(copies, k, w);
+    if needs_effect(cluster.servers, words.kind, local) {
+        return effect_of(copies, slot, words);
     }
     nothing_written()
 }
 
 // 5 to 12, or the call, at a server and a bucket that are there.
 fn plan_at(
-    heads: &[u32; 112],
-    slots: &[u32; 1792],
-    copies: &[u8; 7168],
-    c: Counts,
-    s: u32,
-    b: u32,
-    w: Words,
+    heads: &HeadWords,
+    slots: &SlotWords,
+    copies: &CopyBytes,
+    cluster: Counts,
+    server: u32,
+    bucket: u32,
+    words: Words,
 ) -> Plan
-    requires { ⌜ Measured c × ((s < serverRoom) × (b < 8)) ⌝ }
-    ensures { λ p. ⌜ Called (now (heads .entry)) (now (slots .entry)) (now (copies .entry)) c s b w p ⌝ }
+    requires { ⌜ Measured cluster × ((server < serverRoom) × (bucket < bucketRoom)) ⌝ }
+    ensures { λ p. ⌜ Called (now (heads .entry)) (now (slots .entry)) (now (copies .entry)) cluster server bucket words p ⌝ }
 {
-    let at = s as usize;
-    let k = at * 8 + b as usize;
-    let l = load_local(heads, slots, at, k);
-    let f = call_effect(copies, c, k, w, l);
-    call_plan(c, s, b, w, l, f)
+    let at = server as usize;
+    let slot = slot_of(at, bucket as usize);
+    let local = load_local(heads, slots, at, slot);
+    let effect = call_effect(copies, cluster, slot, words, local);
+    call_plan(cluster, server, bucket, words, local, effect)
 }
 
 pub fn plan_call(
-    heads: &[u32; 112],
-    slots: &[u32; 1792],
-    copies: &[u8; 7168],
-    c: Counts,
-    s: u32,
-    w: Words,
+    heads: &HeadWords,
+    slots: &SlotWords,
+    copies: &CopyBytes,
+    cluster: Counts,
+    server: u32,
+    words: Words,
 ) -> Plan
-    requires { ⌜ Measured c ⌝ }
-    ensures { λ p. ⌜ CallPlanned (now (heads .entry)) (now (slots .entry)) (now (copies .entry)) c s w p ⌝ }
+    requires { ⌜ Measured cluster ⌝ }
+    ensures { λ p. ⌜ CallPlanned (now (heads .entry)) (now (slots .entry)) (now (copies .entry)) cluster server words p ⌝ }
 {
-    let b = call_bucket(c, w);
-    if inside(c, s, b) {
-        if bad_lengths(w) {
+    let bucket = call_bucket(cluster, words);
+    if inside(cluster, server, bucket) {
+        if bad_lengths(words) {
             return refused_plan(BAD_LENGTH, no_effect());
         }
-        return plan_at(heads, slots, copies, c, s, b, w);
+        return plan_at(heads, slots, copies, cluster, server, bucket, words);
     }
     refused_plan(NOT_THERE, no_effect())
 }

@@ -5,7 +5,7 @@ use crate::deliveries::is_gone;
 use crate::deliveries::message_step;
 use crate::parts::move_plan;
 use crate::parts::refused_plan;
-use crate::room::roomy;
+use crate::room::if_places_left;
 use memory::Counts;
 use moves::Local;
 use refusals::codes::BAD_CUT_OR_START;
@@ -18,25 +18,35 @@ ghost use Rattle.plans.specs.Plans.{cutStep, cutPlan};
 ghost use Rattle.plans.specs.Arrays.{Measured};
 
 // The message leaves the list and counts as lost.
-pub fn cut_step(c: Counts, i: u32, m: Message) -> Step
-    ensures { λ r. ⌜ r ≡ cutStep c i m ⌝ }
+pub fn cut_step(cluster: Counts, place: u32, message: Message) -> Step
+    ensures { λ r. ⌜ r ≡ cutStep cluster place message ⌝ }
 {
-    let mut x = message_step(c, i, true, m);
-    x.delivered = 0;
-    x.lost = 1;
-    x
+    let mut step = message_step(cluster, place, true, message);
+    step.delivered = 0;
+    step.lost = 1;
+    step
 }
 
-// 18, or the cut after k stores.
-pub fn cut_plan(c: Counts, x: Step, k: u32, m: Message, l: Local, f: Effect) -> Plan
-    requires { ⌜ Measured c ⌝ }
-    ensures { λ r. ⌜ r ≡ cutPlan c x k m l f ⌝ }
+// 18, or the cut after so many stores.
+pub fn cut_plan(
+    cluster: Counts,
+    step: Step,
+    stores: u32,
+    message: Message,
+    local: Local,
+    effect: Effect,
+) -> Plan
+    requires { ⌜ Measured cluster ⌝ }
+    ensures { λ r. ⌜ r ≡ cutPlan cluster step stores message local effect ⌝ }
 {
-    if is_gone(c, x, l) {
-        return refused_plan(BAD_CUT_OR_START, f);
+    if is_gone(cluster, step, local) {
+        return refused_plan(BAD_CUT_OR_START, effect);
     }
-    if can_cut(k, m, l) {
-        return roomy(c, move_plan(x, cut_move(k, m, l), f));
+    if can_cut(stores, message, local) {
+        return if_places_left(
+            cluster,
+            move_plan(step, cut_move(stores, message, local), effect),
+        );
     }
-    refused_plan(BAD_CUT_OR_START, f)
+    refused_plan(BAD_CUT_OR_START, effect)
 }

@@ -8,7 +8,12 @@ use crate::parts::no_move;
 use crate::parts::no_words;
 use crate::room::unless;
 use crate::servers::load_local;
+use memory::CopyBytes;
 use memory::Counts;
+use memory::HeadWords;
+use memory::SlotWords;
+use memory::TextBytes;
+use memory::slot_of;
 use moves::Local;
 use moves::handling::reads_table;
 use records::words::load_words;
@@ -17,54 +22,56 @@ use refusals::has_no_receiver;
 use refusals::message_refusal;
 use server::Effect;
 use server::Message;
+use server::measures::LAST_BUCKET;
+use server::measures::LAST_SERVER;
 use server::numbers::chosen;
 ghost use mathlib.Core.Path.{_≡_};
 ghost use mathlib.Core.Bool.{true};
 ghost use mathlib.Core.List.{[]};
 ghost use Prim.Native.Nat.{_<_, min};
 ghost use Rattle.server.specs.Views.{effectIn};
-ghost use Rattle.memory.specs.Layout.{serverRoom, slotRoom};
+ghost use Rattle.memory.specs.Layout.{serverRoom, bucketRoom, slotOf};
 ghost use Rattle.moves.specs.Moves.{readsTable};
-ghost use Rattle.views.specs.Memory.{memory, slotOf, localAt};
+ghost use Rattle.views.specs.Memory.{memory, localAt};
 ghost use Rattle.plans.specs.Plans.{messageStep, lostPlan, gone, loseAt};
 ghost use Rattle.plans.specs.Arrays.{askedAt};
 
-fn lesser(top: u32, x: u32) -> u32
-    ensures { λ r. ⌜ r ≡ min top x ⌝ }
+fn lesser(top: u32, number: u32) -> u32
+    ensures { λ r. ⌜ r ≡ min top number ⌝ }
 {
-    if top < x { top } else { x }
+    if top < number { top } else { number }
 }
 
 // A message that is handed over; `copy` leaves it in the list.
-pub fn message_step(c: Counts, i: u32, removes: bool, m: Message) -> Step
-    ensures { λ r. ⌜ r ≡ messageStep c i removes m ⌝ }
+pub fn message_step(cluster: Counts, place: u32, removes: bool, message: Message) -> Step
+    ensures { λ r. ⌜ r ≡ messageStep cluster place removes message ⌝ }
 {
     Step {
-        server: lesser(6, m.receiver),
-        bucket: lesser(7, m.bucket),
-        message: i,
+        server: lesser(LAST_SERVER, message.receiver),
+        bucket: lesser(LAST_BUCKET, message.bucket),
+        place,
         removes,
-        asked: m,
+        asked: message,
         copied: chosen(removes, 0, 1),
         delivered: 1,
         lost: 0,
-        calls: c.calls,
+        calls: cluster.calls,
     }
 }
 
-fn lost_plan(c: Counts, i: u32, removes: bool, f: Effect) -> Plan
-    ensures { λ r. ⌜ r ≡ lostPlan c i removes f ⌝ }
+fn lost_plan(cluster: Counts, place: u32, removes: bool, effect: Effect) -> Plan
+    ensures { λ r. ⌜ r ≡ lostPlan cluster place removes effect ⌝ }
 {
     let step = Step {
         server: 0,
         bucket: 0,
-        message: i,
+        place,
         removes,
         asked: no_message(),
         copied: chosen(removes, 0, 1),
         delivered: 0,
         lost: 1,
-        calls: c.calls,
+        calls: cluster.calls,
     };
     Plan {
         refusal: NONE,
@@ -73,62 +80,62 @@ fn lost_plan(c: Counts, i: u32, removes: bool, f: Effect) -> Plan
         words: no_words(),
         step,
         next: no_move(),
-        effect: f,
+        effect,
     }
 }
 
 // The receiver of a message that is handed over.
-pub fn receiver(heads: &[u32; 112], slots: &[u32; 1792], x: Step) -> Local
-    requires { ⌜ (x .server < serverRoom) × (slotOf (x .server) (x .bucket) < slotRoom) ⌝ }
-    ensures { λ r. ⌜ r ≡ localAt (memory [] (now (heads .entry)) (now (slots .entry)) [] [] [] [] []) (x .server) (slotOf (x .server) (x .bucket)) ⌝ }
+pub fn receiver(heads: &HeadWords, slots: &SlotWords, step: Step) -> Local
+    requires { ⌜ (step .server < serverRoom) × (step .bucket < bucketRoom) ⌝ }
+    ensures { λ r. ⌜ r ≡ localAt (memory [] (now (heads .entry)) (now (slots .entry)) [] [] [] [] []) (step .server) (slotOf (step .server) (step .bucket)) ⌝ }
 {
-    let s = x.server as usize;
-    let k = s * 8 + x.bucket as usize;
-    load_local(heads, slots, s, k)
+    let server = step.server as usize;
+    let slot = slot_of(server, step.bucket as usize);
+    load_local(heads, slots, server, slot)
 }
 
 // Whether a message has no receiver. The step's server is within the arrays whatever the message says, so the message itself is
 // asked.
-pub fn is_gone(c: Counts, x: Step, l: Local) -> bool
-    ensures { λ r. ⌜ r ≡ gone c x l ⌝ }
+pub fn is_gone(cluster: Counts, step: Step, local: Local) -> bool
+    ensures { λ r. ⌜ r ≡ gone cluster step local ⌝ }
 {
-    let m = x.asked;
-    has_no_receiver(c, m.receiver, l.head)
+    let message = step.asked;
+    has_no_receiver(cluster, message.receiver, local.head)
 }
 
 // What the call does that stands where a message is handed over.
-fn hand_effect(slots: &[u32; 1792], copies: &[u8; 7168], texts: &[u8; 3584], x: Step) -> Effect
-    requires { ⌜ slotOf (x .server) (x .bucket) < slotRoom ⌝ }
-    ensures { λ r. ⌜ effectIn r ≡ askedAt (memory [] [] (now (slots .entry)) (now (copies .entry)) [] (now (texts .entry)) [] []) x ⌝ }
+fn hand_effect(slots: &SlotWords, copies: &CopyBytes, texts: &TextBytes, step: Step) -> Effect
+    requires { ⌜ (step .server < serverRoom) × (step .bucket < bucketRoom) ⌝ }
+    ensures { λ r. ⌜ effectIn r ≡ askedAt (memory [] [] (now (slots .entry)) (now (copies .entry)) [] (now (texts .entry)) [] []) step ⌝ }
 {
-    let k = x.server as usize * 8 + x.bucket as usize;
-    let w = load_words(slots, texts, k);
-    effect_of(copies, k, w)
+    let slot = slot_of(step.server as usize, step.bucket as usize);
+    let words = load_words(slots, texts, slot);
+    effect_of(copies, slot, words)
 }
 
 // The effect that a message asks for; one that does not close a checking round asks for none.
 pub fn asked_effect(
-    slots: &[u32; 1792],
-    copies: &[u8; 7168],
-    texts: &[u8; 3584],
-    n: u32,
-    m: Message,
-    l: Local,
-    x: Step,
+    slots: &SlotWords,
+    copies: &CopyBytes,
+    texts: &TextBytes,
+    servers: u32,
+    message: Message,
+    local: Local,
+    step: Step,
 ) -> Effect
-    requires { ⌜ slotOf (x .server) (x .bucket) < slotRoom ⌝ }
-    ensures { λ r. ⌜ (readsTable n m l ≡ true → effectIn r ≡ askedAt (memory [] [] (now (slots .entry)) (now (copies .entry)) [] (now (texts .entry)) [] []) x) ⌝ }
+    requires { ⌜ (step .server < serverRoom) × (step .bucket < bucketRoom) ⌝ }
+    ensures { λ r. ⌜ (readsTable servers message local ≡ true → effectIn r ≡ askedAt (memory [] [] (now (slots .entry)) (now (copies .entry)) [] (now (texts .entry)) [] []) step) ⌝ }
 {
-    if reads_table(n, m, l) {
-        return hand_effect(slots, copies, texts, x);
+    if reads_table(servers, message, local) {
+        return hand_effect(slots, copies, texts, step);
     }
     no_effect()
 }
 
-pub fn plan_lose(c: Counts, i: u32) -> Plan
-    ensures { λ p. ⌜ p ≡ loseAt c i (p .effect) ⌝ }
+pub fn plan_lose(cluster: Counts, place: u32) -> Plan
+    ensures { λ p. ⌜ p ≡ loseAt cluster place (p .effect) ⌝ }
 {
-    let f = no_effect();
-    let r = message_refusal(c, i);
-    unless(r, f, lost_plan(c, i, true, f))
+    let effect = no_effect();
+    let refusal = message_refusal(cluster, place);
+    unless(refusal, effect, lost_plan(cluster, place, true, effect))
 }

@@ -17,7 +17,7 @@ pub struct Step {
     pub server: u32,
     pub bucket: u32,
     // the place of the message that is handed over, and whether it leaves the list
-    pub message: u32,
+    pub place: u32,
     pub removes: bool,
     pub asked: Message,
     pub copied: u32,
@@ -27,7 +27,7 @@ pub struct Step {
     pub calls: u32,
 }
 
-// With refusal 0 the line is accepted: its message is lost and nothing else happens (`loses`), or its move is carried out. A message that is
+// With refusal NONE the line is accepted: its message is lost and nothing else happens (`loses`), or its move is carried out. A message that is
 // cut counts as lost with its move.
 pub struct Plan {
     pub refusal: u32,

@@ -1,40 +1,45 @@
 // The parts of a plan: what is refused, what is carried out, and what stands where there is nothing.
 use crate::Plan;
 use crate::Step;
-use entries::Decoded;
-use entries::Key;
-use entries::Value;
+use entries::keys::no_key;
+use entries::keys::no_value;
 use entries::slots::absent;
-use entries::slots::blank_slot;
+use entries::slots::no_table;
 use memory::Counts;
 use moves::Local;
 use moves::Move;
+use moves::codes::COPY_STAYS;
+use moves::codes::WORK_STAYS;
 use moves::nothing::no_call;
 use moves::nothing::no_round;
-use moves::nothing::no_version;
+use refusals::codes::NONE;
+use rounds::opening::no_version;
 use server::Answer;
 use server::Effect;
 use server::Head;
 use server::Message;
 use server::Words;
+use server::codes::FOLLOWER;
+use server::codes::NO_CALL;
+use server::codes::NO_MESSAGE;
+use server::codes::NO_RESULT;
+use server::codes::RUNNING;
+use server::measures::SERVERS;
 ghost use mathlib.Core.Path.{_≡_};
 ghost use mathlib.Core.List.{[]};
 ghost use Rattle.entries.specs.Decoded.{tableIn};
 ghost use Rattle.rounds.specs.Rounds.{noVersion};
-ghost use Rattle.moves.specs.Moves.{noRound, noCall, local};
+ghost use Rattle.moves.specs.Moves.{noRound, noCall, localOf};
 ghost use Rattle.plans.specs.Plans.{noWords, noMessage, noStep, noHead, noMove, refusedPlan, lineStep, movePlan, takePlan};
 
 // The words of no call.
 pub fn no_words() -> Words
     ensures { λ r. ⌜ r ≡ noWords ⌝ }
 {
-    let key = Key {
-        bytes: [0u8; 8],
-        len: 0,
-    };
+    let key = no_key();
     let none = absent();
     Words {
-        kind: 0,
+        kind: NO_CALL,
         bucket: 0,
         key,
         expected: none,
@@ -47,7 +52,7 @@ pub fn no_message() -> Message
     ensures { λ r. ⌜ r ≡ noMessage ⌝ }
 {
     Message {
-        kind: 0,
+        kind: NO_MESSAGE,
         sender: 0,
         receiver: 0,
         bucket: 0,
@@ -63,7 +68,7 @@ fn no_step() -> Step
     Step {
         server: 0,
         bucket: 0,
-        message: 0,
+        place: 0,
         removes: false,
         asked: no_message(),
         copied: 0,
@@ -80,15 +85,15 @@ fn no_head() -> Head
         number: 0,
         vote: 0,
         leader: 0,
-        role: 0,
+        role: FOLLOWER,
         last: 0,
-        stopped: 0,
-        votes: [0u32; 7],
+        stopped: RUNNING,
+        votes: [0u32; SERVERS],
     }
 }
 
 fn no_local() -> Local
-    ensures { λ r. ⌜ r ≡ local noHead noVersion noRound noCall ⌝ }
+    ensures { λ r. ⌜ r ≡ localOf noHead noVersion noRound noCall ⌝ }
 {
     Local {
         head: no_head(),
@@ -104,99 +109,92 @@ pub fn no_move() -> Move
 {
     let answer = Answer {
         call: 0,
-        result: 0,
+        result: NO_RESULT,
         rounds: 0,
     };
     Move {
         local: no_local(),
-        sends: 0,
+        sends: NO_MESSAGE,
         written: no_version(),
-        fills: 0,
-        keeps: 0,
+        fills: WORK_STAYS,
+        keeps: COPY_STAYS,
         answer,
         ceases: false,
         forgets: false,
     }
 }
 
-// Zeros, which stand for the effect where a line asks for none.
+// No result, no value and no entry, which stand for the effect where a line asks for none.
 pub fn no_effect() -> Effect
     ensures { λ r. ⌜ (r .result ≡ 0) × (tableIn (r .table) ≡ []) ⌝ }
 {
-    let value = Value {
-        bytes: [0u8; 16],
-        len: 0,
-    };
-    let blank = blank_slot();
-    let table = Decoded {
-        count: 0,
-        slots: [blank; 4],
-    };
+    let value = no_value();
+    let table = no_table();
     Effect {
-        result: 0,
+        result: NO_RESULT,
         value,
         table,
     }
 }
 
-// The line is refused with r.
-pub fn refused_plan(r: u32, f: Effect) -> Plan
-    ensures { λ p. ⌜ p ≡ refusedPlan r f ⌝ }
+// The line is refused with this number.
+pub fn refused_plan(refusal: u32, effect: Effect) -> Plan
+    ensures { λ p. ⌜ p ≡ refusedPlan refusal effect ⌝ }
 {
     Plan {
-        refusal: r,
+        refusal,
         loses: false,
         takes: false,
         words: no_words(),
         step: no_step(),
         next: no_move(),
-        effect: f,
+        effect,
     }
 }
 
-// A step of server s at bucket b that no message brings about.
-pub fn line_step(c: Counts, s: u32, b: u32) -> Step
-    ensures { λ r. ⌜ r ≡ lineStep c s b ⌝ }
+// A step at this server and bucket that no message brings about.
+pub fn line_step(cluster: Counts, server: u32, bucket: u32) -> Step
+    ensures { λ r. ⌜ r ≡ lineStep cluster server bucket ⌝ }
 {
     Step {
-        server: s,
-        bucket: b,
-        message: 0,
+        server,
+        bucket,
+        place: 0,
         removes: false,
         asked: no_message(),
         copied: 0,
         delivered: 0,
         lost: 0,
-        calls: c.calls,
+        calls: cluster.calls,
     }
 }
 
 // A move is carried out.
-pub fn move_plan(x: Step, v: Move, f: Effect) -> Plan
-    ensures { λ p. ⌜ p ≡ movePlan x v f ⌝ }
+pub fn move_plan(step: Step, next: Move, effect: Effect) -> Plan
+    ensures { λ p. ⌜ p ≡ movePlan step next effect ⌝ }
 {
     Plan {
-        refusal: 0,
+        refusal: NONE,
         loses: false,
         takes: false,
         words: no_words(),
-        step: x,
-        next: v,
-        effect: f,
+        step,
+        next,
+        effect,
     }
 }
 
 // A call is taken, and its first move carried out.
-pub fn take_plan(x: Step, w: Words, v: Move, f: Effect) -> Plan
-    ensures { λ p. ⌜ p ≡ takePlan x w v f ⌝ }
+pub fn take_plan(step: Step, words: Words, next: Move, effect: Effect) -> Plan
+    ensures { λ p. ⌜ p ≡ takePlan step words next effect ⌝ }
 {
     Plan {
-        refusal: 0,
+        refusal: NONE,
         loses: false,
         takes: true,
-        words: w,
-        step: x,
-        next: v,
-        effect: f,
+        words,
+        step,
+        next,
+        effect,
     }
 }

@@ -8,27 +8,28 @@ use refusals::places_left;
 use server::Effect;
 ghost use mathlib.Core.Path.{_≡_};
 ghost use Prim.Native.Nat.{_≤_};
-ghost use Rattle.plans.specs.Plans.{roomy, unless};
+ghost use Rattle.memory.specs.Layout.{serverRoom, messageRoom};
+ghost use Rattle.plans.specs.Plans.{ifPlacesLeft, unless};
 
 // 12: more to send than places left.
-pub fn roomy(c: Counts, p: Plan) -> Plan
-    requires { ⌜ (c .servers ≤ 7) × (c .messages ≤ 64) ⌝ }
-    ensures { λ r. ⌜ r ≡ roomy c p ⌝ }
+pub fn if_places_left(cluster: Counts, plan: Plan) -> Plan
+    requires { ⌜ (cluster .servers ≤ serverRoom) × (cluster .messages ≤ messageRoom) ⌝ }
+    ensures { λ r. ⌜ r ≡ ifPlacesLeft cluster plan ⌝ }
 {
-    let x = p.step;
-    let v = p.next;
-    if places_left(c, x.removes, v.sends) {
-        return p;
+    let step = plan.step;
+    let next = plan.next;
+    if places_left(cluster, step.removes, next.sends) {
+        return plan;
     }
-    refused_plan(NO_PLACES, p.effect)
+    refused_plan(NO_PLACES, plan.effect)
 }
 
-// The plan, unless the line is refused with r.
-pub fn unless(r: u32, f: Effect, p: Plan) -> Plan
-    ensures { λ x. ⌜ x ≡ unless r f p ⌝ }
+// The plan, unless the line is refused with this number.
+pub fn unless(refusal: u32, effect: Effect, plan: Plan) -> Plan
+    ensures { λ x. ⌜ x ≡ unless refusal effect plan ⌝ }
 {
-    if r == NONE {
-        return p;
+    if refusal == NONE {
+        return plan;
     }
-    refused_plan(r, f)
+    refused_plan(refusal, effect)
 }

@@ -4,13 +4,16 @@ use crate::parts::line_step;
 use crate::parts::move_plan;
 use crate::parts::no_effect;
 use crate::parts::refused_plan;
-use crate::room::roomy;
+use crate::room::if_places_left;
 use crate::room::unless;
 use memory::Counts;
+use memory::HeadWords;
+use memory::SlotWords;
+use memory::slot_of;
 use moves::Local;
+use moves::roles::ceased_move;
 use moves::roles::elected_move;
 use moves::roles::stopped_move;
-use moves::roles::timed_out_move;
 use records::heads::load_head;
 use records::slots::load_call;
 use records::slots::load_round;
@@ -29,131 +32,154 @@ use server::votes::last_number;
 ghost use mathlib.Core.Path.{_≡_};
 ghost use Prim.Native.Nat.{_<_};
 ghost use Rattle.memory.specs.Layout.{serverRoom, slotRoom, headAt, versionAt, roundAt, callAt};
-ghost use Rattle.moves.specs.Moves.{local};
+ghost use Rattle.moves.specs.Moves.{localOf};
 ghost use Rattle.plans.specs.Plans.{electPlan, timeoutPlan, stopPlan, startPlan};
 ghost use Rattle.plans.specs.Arrays.{Measured, electIn, timeoutIn, stopIn, startIn};
 
-// The head of server s with slot k.
-pub fn load_local(heads: &[u32; 112], slots: &[u32; 1792], s: usize, k: usize) -> Local
-    requires { ⌜ (s < serverRoom) × (k < slotRoom) ⌝ }
-    ensures { λ r. ⌜ r ≡ local (headAt (now (heads .entry)) s) (versionAt (now (slots .entry)) k) (roundAt (now (slots .entry)) k) (callAt (now (slots .entry)) k) ⌝ }
+// The head of this server with this slot.
+pub fn load_local(heads: &HeadWords, slots: &SlotWords, server: usize, slot: usize) -> Local
+    requires { ⌜ (server < serverRoom) × (slot < slotRoom) ⌝ }
+    ensures { λ r. ⌜ r ≡ localOf (headAt (now (heads .entry)) server) (versionAt (now (slots .entry)) slot) (roundAt (now (slots .entry)) slot) (callAt (now (slots .entry)) slot) ⌝ }
 {
     Local {
-        head: load_head(heads, s),
-        version: load_version(slots, k),
-        round: load_round(slots, k),
-        call: load_call(slots, k),
+        head: load_head(heads, server),
+        version: load_version(slots, slot),
+        round: load_round(slots, slot),
+        call: load_call(slots, slot),
     }
 }
 
 // 5, 6, 11 and 12, or the election.
-fn elect_plan(c: Counts, s: u32, l: Local, f: Effect) -> Plan
-    requires { ⌜ Measured c ⌝ }
-    ensures { λ r. ⌜ r ≡ electPlan c s l f ⌝ }
+fn elect_plan(cluster: Counts, server: u32, local: Local, effect: Effect) -> Plan
+    requires { ⌜ Measured cluster ⌝ }
+    ensures { λ r. ⌜ r ≡ electPlan cluster server local effect ⌝ }
 {
-    let h = l.head;
-    let r = server_refusal(c, h);
-    if r == NONE {
-        if last_number(h) {
-            return refused_plan(LAST_ELECTION, f);
+    let head = local.head;
+    let refusal = server_refusal(cluster, head);
+    if refusal == NONE {
+        if last_number(head) {
+            return refused_plan(LAST_ELECTION, effect);
         }
-        return roomy(
-            c,
-            move_plan(line_step(c, s, 0), elected_move(c.servers, s, l), f),
+        return if_places_left(
+            cluster,
+            move_plan(
+                line_step(cluster, server, 0),
+                elected_move(cluster.servers, server, local),
+                effect,
+            ),
         );
     }
-    refused_plan(r, f)
+    refused_plan(refusal, effect)
 }
 
-pub fn plan_elect(heads: &[u32; 112], slots: &[u32; 1792], c: Counts, s: u32) -> Plan
-    requires { ⌜ Measured c ⌝ }
-    ensures { λ r. ⌜ r ≡ electIn (now (heads .entry)) (now (slots .entry)) c s (r .effect) ⌝ }
+pub fn plan_elect(heads: &HeadWords, slots: &SlotWords, cluster: Counts, server: u32) -> Plan
+    requires { ⌜ Measured cluster ⌝ }
+    ensures { λ r. ⌜ r ≡ electIn (now (heads .entry)) (now (slots .entry)) cluster server (r .effect) ⌝ }
 {
-    let f = no_effect();
-    if inside(c, s, 0) {
-        let at = s as usize;
-        let l = load_local(heads, slots, at, at * 8);
-        return elect_plan(c, s, l, f);
+    let effect = no_effect();
+    if inside(cluster, server, 0) {
+        let at = server as usize;
+        let local = load_local(heads, slots, at, slot_of(at, 0));
+        return elect_plan(cluster, server, local, effect);
     }
-    refused_plan(NOT_THERE, f)
+    refused_plan(NOT_THERE, effect)
 }
 
-// 5, 6, 10 and 12, or the end of leading.
-fn timeout_plan(c: Counts, s: u32, b: u32, l: Local, f: Effect) -> Plan
-    requires { ⌜ Measured c ⌝ }
-    ensures { λ r. ⌜ r ≡ timeoutPlan c s b l f ⌝ }
+// 5, 6 and 10, or the end of leading; it sends nothing, so the test of places left never gives 12 (RULES, Refusals 6).
+fn timeout_plan(cluster: Counts, server: u32, bucket: u32, local: Local, effect: Effect) -> Plan
+    requires { ⌜ Measured cluster ⌝ }
+    ensures { λ r. ⌜ r ≡ timeoutPlan cluster server bucket local effect ⌝ }
 {
-    let r = server_refusal(c, l.head);
-    if r == NONE {
-        if is_open(l.round) {
-            return roomy(c, move_plan(line_step(c, s, b), timed_out_move(l), f));
+    let refusal = server_refusal(cluster, local.head);
+    if refusal == NONE {
+        if is_open(local.round) {
+            return if_places_left(
+                cluster,
+                move_plan(
+                    line_step(cluster, server, bucket),
+                    ceased_move(local),
+                    effect,
+                ),
+            );
         }
-        return refused_plan(NO_ROUND_OPEN, f);
+        return refused_plan(NO_ROUND_OPEN, effect);
     }
-    refused_plan(r, f)
+    refused_plan(refusal, effect)
 }
 
-pub fn plan_timeout(heads: &[u32; 112], slots: &[u32; 1792], c: Counts, s: u32, b: u32) -> Plan
-    requires { ⌜ Measured c ⌝ }
-    ensures { λ r. ⌜ r ≡ timeoutIn (now (heads .entry)) (now (slots .entry)) c s b (r .effect) ⌝ }
+pub fn plan_timeout(
+    heads: &HeadWords,
+    slots: &SlotWords,
+    cluster: Counts,
+    server: u32,
+    bucket: u32,
+) -> Plan
+    requires { ⌜ Measured cluster ⌝ }
+    ensures { λ r. ⌜ r ≡ timeoutIn (now (heads .entry)) (now (slots .entry)) cluster server bucket (r .effect) ⌝ }
 {
-    let f = no_effect();
-    if inside(c, s, b) {
-        let at = s as usize;
-        let l = load_local(heads, slots, at, at * 8 + b as usize);
-        return timeout_plan(c, s, b, l, f);
+    let effect = no_effect();
+    if inside(cluster, server, bucket) {
+        let at = server as usize;
+        let local = load_local(heads, slots, at, slot_of(at, bucket as usize));
+        return timeout_plan(cluster, server, bucket, local, effect);
     }
-    refused_plan(NOT_THERE, f)
+    refused_plan(NOT_THERE, effect)
 }
 
-// 5, 6 and 12, or the stop.
-fn stop_plan(c: Counts, s: u32, l: Local, f: Effect) -> Plan
-    requires { ⌜ Measured c ⌝ }
-    ensures { λ r. ⌜ r ≡ stopPlan c s l f ⌝ }
+// 5 and 6, or the stop; it sends nothing, so the test of places left never gives 12 (RULES, Refusals 6).
+fn stop_plan(cluster: Counts, server: u32, local: Local, effect: Effect) -> Plan
+    requires { ⌜ Measured cluster ⌝ }
+    ensures { λ r. ⌜ r ≡ stopPlan cluster server local effect ⌝ }
 {
-    let r = server_refusal(c, l.head);
+    let refusal = server_refusal(cluster, local.head);
     unless(
-        r,
-        f,
-        roomy(c, move_plan(line_step(c, s, 0), stopped_move(l), f)),
+        refusal,
+        effect,
+        if_places_left(
+            cluster,
+            move_plan(line_step(cluster, server, 0), stopped_move(local), effect),
+        ),
     )
 }
 
-pub fn plan_stop(heads: &[u32; 112], slots: &[u32; 1792], c: Counts, s: u32) -> Plan
-    requires { ⌜ Measured c ⌝ }
-    ensures { λ r. ⌜ r ≡ stopIn (now (heads .entry)) (now (slots .entry)) c s (r .effect) ⌝ }
+pub fn plan_stop(heads: &HeadWords, slots: &SlotWords, cluster: Counts, server: u32) -> Plan
+    requires { ⌜ Measured cluster ⌝ }
+    ensures { λ r. ⌜ r ≡ stopIn (now (heads .entry)) (now (slots .entry)) cluster server (r .effect) ⌝ }
 {
-    let f = no_effect();
-    if inside(c, s, 0) {
-        let at = s as usize;
-        let l = load_local(heads, slots, at, at * 8);
-        return stop_plan(c, s, l, f);
+    let effect = no_effect();
+    if inside(cluster, server, 0) {
+        let at = server as usize;
+        let local = load_local(heads, slots, at, slot_of(at, 0));
+        return stop_plan(cluster, server, local, effect);
     }
-    refused_plan(NOT_THERE, f)
+    refused_plan(NOT_THERE, effect)
 }
 
 // 5 and 18, or the start.
-fn start_plan(c: Counts, s: u32, l: Local, f: Effect) -> Plan
-    requires { ⌜ Measured c ⌝ }
-    ensures { λ r. ⌜ r ≡ startPlan c s l f ⌝ }
+fn start_plan(cluster: Counts, server: u32, local: Local, effect: Effect) -> Plan
+    requires { ⌜ Measured cluster ⌝ }
+    ensures { λ r. ⌜ r ≡ startPlan cluster server local effect ⌝ }
 {
-    let r = start_refusal(c, l.head);
+    let refusal = start_refusal(cluster, local.head);
     unless(
-        r,
-        f,
-        roomy(c, move_plan(line_step(c, s, 0), restarted_move(l), f)),
+        refusal,
+        effect,
+        if_places_left(
+            cluster,
+            move_plan(line_step(cluster, server, 0), restarted_move(local), effect),
+        ),
     )
 }
 
-pub fn plan_start(heads: &[u32; 112], slots: &[u32; 1792], c: Counts, s: u32) -> Plan
-    requires { ⌜ Measured c ⌝ }
-    ensures { λ r. ⌜ r ≡ startIn (now (heads .entry)) (now (slots .entry)) c s (r .effect) ⌝ }
+pub fn plan_start(heads: &HeadWords, slots: &SlotWords, cluster: Counts, server: u32) -> Plan
+    requires { ⌜ Measured cluster ⌝ }
+    ensures { λ r. ⌜ r ≡ startIn (now (heads .entry)) (now (slots .entry)) cluster server (r .effect) ⌝ }
 {
-    let f = no_effect();
-    if inside(c, s, 0) {
-        let at = s as usize;
-        let l = load_local(heads, slots, at, at * 8);
-        return start_plan(c, s, l, f);
+    let effect = no_effect();
+    if inside(cluster, server, 0) {
+        let at = server as usize;
+        let local = load_local(heads, slots, at, slot_of(at, 0));
+        return start_plan(cluster, server, local, effect);
     }
-    refused_plan(NOT_THERE, f)
+    refused_plan(NOT_THERE, effect)
 }

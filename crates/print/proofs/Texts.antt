@@ -13,10 +13,10 @@ use Rattle.entries.proofs.Lists.{take-as-many}
 use Rattle.model.specs.Text.{bytes}
 use Rattle.model.specs.Lines.{Tally, refusal}
 use Rattle.model.specs.Print.{decimal, hexPairs, valueText, keyList, keysText, wordOf, dataOf, answerText, outcomeText, tallyText}
-use Rattle.print.specs.declared.Outcome.{Outcome}
-use Rattle.print.specs.declared.Outcome.the-variants as O
+use Rattle.print.specs.declared.ResultWord.{ResultWord}
+use Rattle.print.specs.declared.ResultWord.the-variants as O
 use Rattle.print.specs.declared.KeyList.{KeyList}
-use Rattle.print.specs.declared.Answer.{Answer}
+use Rattle.print.specs.declared.AnswerLine.{AnswerLine}
 use Rattle.print.specs.Answers.{keysIn, resultFor, answerIn, wordFor}
 use Rattle.print.specs.Counted.{Counted}
 use Rattle.print.proofs.Printing.{Next}
@@ -33,7 +33,7 @@ tally-text t = simp append-assoc
 
 -- ---- answers
 
-word-of : (o : Outcome) (v : List ℕ) (l : List (List ℕ)) → wordOf (resultFor o v l) ≡ wordFor o
+word-of : (o : ResultWord) (v : List ℕ) (l : List (List ℕ)) → wordOf (resultFor o v l) ≡ wordFor o
 unfolding wordFor resultFor wordOf
 word-of O.Value v l = refl
 word-of O.Keys v l = refl
@@ -44,9 +44,9 @@ word-of O.NotDone v l = refl
 word-of O.Unknown v l = refl
 word-of O.Absent v l = refl
 
-pub answer-text : (a : Answer) → answerText (answerIn a) ≡ (decimal (a .call) ++ ((bytes " " ++ (wordFor (a .outcome) ++ bytes " ")) ++ decimal (a .rounds))) ++ (dataOf (answerIn a .result) ++ bytes "\n")
+pub answer-text : (a : AnswerLine) → answerText (answerIn a) ≡ (decimal (a .call) ++ ((bytes " " ++ (wordFor (a .word) ++ bytes " ")) ++ decimal (a .rounds))) ++ (dataOf (answerIn a .result) ++ bytes "\n")
 unfolding answerText answerIn
-answer-text a = rw (word-of (a .outcome) (valueBytes (a .value)) (keysIn (a .keys))) (simp append-assoc)
+answer-text a = rw (word-of (a .word) (valueBytes (a .value)) (keysIn (a .keys))) (simp append-assoc)
 
 -- ---- keys
 
@@ -95,14 +95,14 @@ within c = omega (arith, c .low, c .four)
 
 -- ---- the data of an answer
 
-pub data-value : (a : Answer) → a .outcome ≡ O.Value → dataOf (answerIn a .result) ≡ bytes " " ++ valueText (some (valueBytes (a .value)))
+pub data-value : (a : AnswerLine) → a .word ≡ O.Value → dataOf (answerIn a .result) ≡ bytes " " ++ valueText (some (valueBytes (a .value)))
 unfolding answerIn resultFor dataOf
 data-value a e = rw e
 
-pub data-absent : (a : Answer) → a .outcome ≡ O.Absent → dataOf (answerIn a .result) ≡ bytes " -"
+pub data-absent : (a : AnswerLine) → a .word ≡ O.Absent → dataOf (answerIn a .result) ≡ bytes " -"
 unfolding answerIn resultFor dataOf valueText bytes
 data-absent a e = rw e
 
-pub data-keys : (a : Answer) → a .outcome ≡ O.Keys → dataOf (answerIn a .result) ≡ keysText (keysIn (a .keys))
+pub data-keys : (a : AnswerLine) → a .word ≡ O.Keys → dataOf (answerIn a .result) ≡ keysText (keysIn (a .keys))
 unfolding answerIn resultFor dataOf
 data-keys a e = rw e

@@ -1,11 +1,12 @@
 // Answers: the call's number, its result, its rounds, and the data.
-use crate::Answer;
+use crate::AnswerLine;
 use crate::KeyList;
-use crate::Outcome;
+use crate::ResultWord;
 use crate::bytes::put_bytes;
 use crate::decimals::put_decimal;
 use crate::hexadecimals::put_key;
 use crate::hexadecimals::put_value;
+use entries::TABLE_ROOM;
 use entries::keys::at_most;
 ghost use mathlib.Core.List.{_++_};
 ghost use Prim.Native.Nat.{_≤_, _+_};
@@ -19,7 +20,7 @@ ghost use Rattle.print.specs.Counted.{Counted};
 fn key_count(list: KeyList) -> usize
     ensures { λ r. ⌜ Counted list r ⌝ }
 {
-    at_most(list.count, 4)
+    at_most(list.count, TABLE_ROOM)
 }
 
 // Keys, each after a space.
@@ -27,16 +28,16 @@ fn put_each_key(out: &mut [u8], at: usize, list: KeyList) -> usize
     requires { ⌜ at + length (keyList (keysIn list)) ≤ length (now out) ⌝ }
     ensures { λ r. ⌜ Printed (keyList (keysIn list)) (now (out .entry)) at (now (out .exit)) r ⌝ }
 {
-    let n = key_count(list);
+    let count = key_count(list);
     let keys = list.keys;
-    let mut p = at;
+    let mut end = at;
     let mut i = 0;
-    while i < n {
-        let k = keys[i];
-        p = put_key(out, p, k);
+    while i < count {
+        let key = keys[i];
+        end = put_key(out, end, key);
         i += 1;
     }
-    p
+    end
 }
 
 // The same, with `-` for none.
@@ -51,63 +52,63 @@ fn put_keys(out: &mut [u8], at: usize, list: KeyList) -> usize
 }
 
 // The word of a result, between spaces.
-fn put_word(out: &mut [u8], at: usize, o: Outcome) -> usize
-    requires { ⌜ at + length (bytes " " ++ (wordFor o ++ bytes " ")) ≤ length (now out) ⌝ }
-    ensures { λ r. ⌜ Printed (bytes " " ++ (wordFor o ++ bytes " ")) (now (out .entry)) at (now (out .exit)) r ⌝ }
+fn put_word(out: &mut [u8], at: usize, word: ResultWord) -> usize
+    requires { ⌜ at + length (bytes " " ++ (wordFor word ++ bytes " ")) ≤ length (now out) ⌝ }
+    ensures { λ r. ⌜ Printed (bytes " " ++ (wordFor word ++ bytes " ")) (now (out .entry)) at (now (out .exit)) r ⌝ }
 {
-    match o {
-        Outcome::Value => put_bytes(out, at, b" value "),
-        Outcome::Keys => put_bytes(out, at, b" keys "),
-        Outcome::Done => put_bytes(out, at, b" done "),
-        Outcome::Mismatch => put_bytes(out, at, b" mismatch "),
-        Outcome::Full => put_bytes(out, at, b" full "),
-        Outcome::NotDone => put_bytes(out, at, b" notdone "),
-        Outcome::Unknown => put_bytes(out, at, b" unknown "),
-        Outcome::Absent => put_bytes(out, at, b" value "),
+    match word {
+        ResultWord::Value => put_bytes(out, at, b" value "),
+        ResultWord::Keys => put_bytes(out, at, b" keys "),
+        ResultWord::Done => put_bytes(out, at, b" done "),
+        ResultWord::Mismatch => put_bytes(out, at, b" mismatch "),
+        ResultWord::Full => put_bytes(out, at, b" full "),
+        ResultWord::NotDone => put_bytes(out, at, b" notdone "),
+        ResultWord::Unknown => put_bytes(out, at, b" unknown "),
+        ResultWord::Absent => put_bytes(out, at, b" value "),
     }
 }
 
 // The data of `value` and `keys`.
-fn put_data(out: &mut [u8], at: usize, a: Answer) -> usize
-    requires { ⌜ at + length (dataOf (answerIn a .result)) ≤ length (now out) ⌝ }
-    ensures { λ r. ⌜ Printed (dataOf (answerIn a .result)) (now (out .entry)) at (now (out .exit)) r ⌝ }
+fn put_data(out: &mut [u8], at: usize, answer: AnswerLine) -> usize
+    requires { ⌜ at + length (dataOf (answerIn answer .result)) ≤ length (now out) ⌝ }
+    ensures { λ r. ⌜ Printed (dataOf (answerIn answer .result)) (now (out .entry)) at (now (out .exit)) r ⌝ }
 {
-    let o = a.outcome;
-    match o {
-        Outcome::Value => {
-            let v = a.value;
-            put_value(out, at, v)
+    let word = answer.word;
+    match word {
+        ResultWord::Value => {
+            let value = answer.value;
+            put_value(out, at, value)
         }
-        Outcome::Keys => {
-            let keys = a.keys;
+        ResultWord::Keys => {
+            let keys = answer.keys;
             put_keys(out, at, keys)
         }
-        Outcome::Done => at,
-        Outcome::Mismatch => at,
-        Outcome::Full => at,
-        Outcome::NotDone => at,
-        Outcome::Unknown => at,
-        Outcome::Absent => put_bytes(out, at, b" -"),
+        ResultWord::Done => at,
+        ResultWord::Mismatch => at,
+        ResultWord::Full => at,
+        ResultWord::NotDone => at,
+        ResultWord::Unknown => at,
+        ResultWord::Absent => put_bytes(out, at, b" -"),
     }
 }
 
 // The call's number, its result's word and its rounds.
-fn put_head(out: &mut [u8], at: usize, call: u32, o: Outcome, rounds: u32) -> usize
-    requires { ⌜ at + length (decimal call ++ ((bytes " " ++ (wordFor o ++ bytes " ")) ++ decimal rounds)) ≤ length (now out) ⌝ }
-    ensures { λ r. ⌜ Printed (decimal call ++ ((bytes " " ++ (wordFor o ++ bytes " ")) ++ decimal rounds)) (now (out .entry)) at (now (out .exit)) r ⌝ }
+fn put_head(out: &mut [u8], at: usize, call: u32, word: ResultWord, rounds: u32) -> usize
+    requires { ⌜ at + length (decimal call ++ ((bytes " " ++ (wordFor word ++ bytes " ")) ++ decimal rounds)) ≤ length (now out) ⌝ }
+    ensures { λ r. ⌜ Printed (decimal call ++ ((bytes " " ++ (wordFor word ++ bytes " ")) ++ decimal rounds)) (now (out .entry)) at (now (out .exit)) r ⌝ }
 {
-    let p = put_decimal(out, at, call);
-    let q = put_word(out, p, o);
-    put_decimal(out, q, rounds)
+    let after_call = put_decimal(out, at, call);
+    let after_word = put_word(out, after_call, word);
+    put_decimal(out, after_word, rounds)
 }
 
 // An answer's line.
-pub fn put_answer(out: &mut [u8], at: usize, a: Answer) -> usize
-    requires { ⌜ at + length (answerText (answerIn a)) ≤ length (now out) ⌝ }
-    ensures { λ r. ⌜ Printed (answerText (answerIn a)) (now (out .entry)) at (now (out .exit)) r ⌝ }
+pub fn put_answer(out: &mut [u8], at: usize, answer: AnswerLine) -> usize
+    requires { ⌜ at + length (answerText (answerIn answer)) ≤ length (now out) ⌝ }
+    ensures { λ r. ⌜ Printed (answerText (answerIn answer)) (now (out .entry)) at (now (out .exit)) r ⌝ }
 {
-    let o = a.outcome;
-    let p = put_head(out, at, a.call, o, a.rounds);
-    let q = put_data(out, p, a);
-    put_bytes(out, q, b"\n")
+    let word = answer.word;
+    let after_head = put_head(out, at, answer.call, word, answer.rounds);
+    let after_data = put_data(out, after_head, answer);
+    put_bytes(out, after_data, b"\n")
 }

@@ -7,12 +7,12 @@ pub fn put_bytes(out: &mut [u8], at: usize, text: &[u8]) -> usize
     requires { ⌜ at + length (now text) ≤ length (now out) ⌝ }
     ensures { λ r. ⌜ Printed (now (text .entry)) (now (out .entry)) at (now (out .exit)) r ⌝ }
 {
-    let mut p = at;
+    let mut end = at;
     let mut i = 0;
     while i < text.len() {
-        out[p] = text[i];
-        p += 1;
+        out[end] = text[i];
+        end += 1;
         i += 1;
     }
-    p
+    end
 }

@@ -14,14 +14,17 @@ ghost use Rattle.model.specs.Text.{bytes};
 ghost use Rattle.model.specs.Print.{hexDigit, hexPairs, valueText};
 ghost use Rattle.print.specs.Printed.{Printed};
 
-fn hex_digit(d: u8) -> u8
-    requires { ⌜ d < 16 ⌝ }
-    ensures { λ r. ⌜ r ≡ hexDigit d ⌝ }
+// What is added to a digit from 10 on: 10 becomes 'a'.
+const BELOW_A: u8 = b'a' - 10;
+
+fn hex_digit(digit: u8) -> u8
+    requires { ⌜ digit < 16 ⌝ }
+    ensures { λ r. ⌜ r ≡ hexDigit digit ⌝ }
 {
-    if d < 10 {
-        return 48 + d;
+    if digit < 10 {
+        return b'0' + digit;
     }
-    87 + d
+    BELOW_A + digit
 }
 
 // Two digits for each byte.
@@ -29,16 +32,16 @@ fn put_pairs(out: &mut [u8], at: usize, bytes: &[u8]) -> usize
     requires { ⌜ at + length (hexPairs (now bytes)) ≤ length (now out) ⌝ }
     ensures { λ r. ⌜ Printed (hexPairs (now (bytes .entry))) (now (out .entry)) at (now (out .exit)) r ⌝ }
 {
-    let mut p = at;
+    let mut end = at;
     let mut i = 0;
     while i < bytes.len() {
-        let b = bytes[i];
-        out[p] = hex_digit(b / 16);
-        out[p + 1] = hex_digit(b % 16);
-        p += 2;
+        let byte = bytes[i];
+        out[end] = hex_digit(byte / 16);
+        out[end + 1] = hex_digit(byte % 16);
+        end += 2;
         i += 1;
     }
-    p
+    end
 }
 
 // The same, with `.` for no bytes.
@@ -53,23 +56,23 @@ fn put_there(out: &mut [u8], at: usize, bytes: &[u8]) -> usize
 }
 
 // A value that is there, after a space.
-pub fn put_value(out: &mut [u8], at: usize, v: Value) -> usize
-    requires { ⌜ at + length (bytes " " ++ valueText (some (valueBytes v))) ≤ length (now out) ⌝ }
-    ensures { λ r. ⌜ Printed (bytes " " ++ valueText (some (valueBytes v))) (now (out .entry)) at (now (out .exit)) r ⌝ }
+pub fn put_value(out: &mut [u8], at: usize, value: Value) -> usize
+    requires { ⌜ at + length (bytes " " ++ valueText (some (valueBytes value))) ≤ length (now out) ⌝ }
+    ensures { λ r. ⌜ Printed (bytes " " ++ valueText (some (valueBytes value))) (now (out .entry)) at (now (out .exit)) r ⌝ }
 {
-    let n = value_length(v);
-    let b = v.bytes;
-    let p = put_bytes(out, at, b" ");
-    put_there(out, p, &b[..n])
+    let len = value_length(value);
+    let bytes = value.bytes;
+    let next = put_bytes(out, at, b" ");
+    put_there(out, next, &bytes[..len])
 }
 
 // A key after a space.
-pub fn put_key(out: &mut [u8], at: usize, k: Key) -> usize
-    requires { ⌜ at + length (bytes " " ++ hexPairs (keyBytes k)) ≤ length (now out) ⌝ }
-    ensures { λ r. ⌜ Printed (bytes " " ++ hexPairs (keyBytes k)) (now (out .entry)) at (now (out .exit)) r ⌝ }
+pub fn put_key(out: &mut [u8], at: usize, key: Key) -> usize
+    requires { ⌜ at + length (bytes " " ++ hexPairs (keyBytes key)) ≤ length (now out) ⌝ }
+    ensures { λ r. ⌜ Printed (bytes " " ++ hexPairs (keyBytes key)) (now (out .entry)) at (now (out .exit)) r ⌝ }
 {
-    let n = key_length(k);
-    let b = k.bytes;
-    let p = put_bytes(out, at, b" ");
-    put_pairs(out, p, &b[..n])
+    let len = key_length(key);
+    let bytes = key.bytes;
+    let next = put_bytes(out, at, b" ");
+    put_pairs(out, next, &bytes[..len])
 }

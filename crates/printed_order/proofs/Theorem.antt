@@ -20,15 +20,15 @@ texts-so-far script =
     (ap (λ (s : State). fedText start script ++ tallyText (s .tally)) (sym (state-so-far script)) ∙ printed-so-far script ∙ printed-outcomes 1 initialState (completeLines script))
 
 pub calls-in-order : CallsInOrder
-calls-in-order heads slots copies works texts queue loads answers line script text v c =
+calls-in-order heads slots copies working texts queue payloads answers line script text v c =
     record {
-      prints = sym (calls-from-zeros heads slots copies works texts queue loads answers line c .prints) ∙ texts-so-far script;
+      prints = sym (calls-from-zeros heads slots copies working texts queue payloads answers line c .prints) ∙ texts-so-far script;
       orders = one-order-for-every-script (completeLines script);
     }
 
 pub script-in-order : ScriptInOrder
-script-in-order heads slots copies works texts queue loads answers line script text v c out u out′ r room f =
+script-in-order heads slots copies working texts queue payloads answers line script text v c out u out′ r room f =
     record {
-      prints = script-whole heads slots copies works texts queue loads answers line c out u out′ r room f .prints ∙ run-prints script;
+      prints = script-whole heads slots copies working texts queue payloads answers line c out u out′ r room f .prints ∙ run-prints script;
       orders = one-order-for-every-script (linesOf script);
     }

@@ -28,13 +28,13 @@ pub record EndedInOrder (lines : List (List ℕ)) (text : List ℕ) : Type 0 whe
 -- any calls of `feed_value` from the start of a script on: what they wrote is the text of the complete lines among the bytes taken
 abbrev pub CallsInOrder : Type 0
 CallsInOrder =
-    (heads slots copies works texts queue loads answers line : List ℕ) (script text : List ℕ) (v : Session)
-    → Calls (zeros heads slots copies works texts queue loads answers line) script text v → PrintedInOrder (completeLines script) text
+    (heads slots copies working texts queue payloads answers line : List ℕ) (script text : List ℕ) (v : Session)
+    → Calls (zeros heads slots copies working texts queue payloads answers line) script text v → PrintedInOrder (completeLines script) text
 
 -- and then `finish_value`, with room for what it prints: all lines, the last one without a line feed too, and the tally
 abbrev pub ScriptInOrder : Type 0
 ScriptInOrder =
-    (heads slots copies works texts queue loads answers line : List ℕ) (script text : List ℕ) (v : Session)
-    → Calls (zeros heads slots copies works texts queue loads answers line) script text v
+    (heads slots copies working texts queue payloads answers line : List ℕ) (script text : List ℕ) (v : Session)
+    → Calls (zeros heads slots copies working texts queue payloads answers line) script text v
     → (out : List ℕ) (u : Session) (out′ : List ℕ) (r : ℕ) → finishRoom ≤ length out → Finished v out u out′ r
     → EndedInOrder (linesOf script) (text ++ take r out′)

@@ -1,4 +1,5 @@
 // How far a part of the input was dealt with, by value, and what is kept of it between two parts, in three lent words.
+use parse::MAX_LINE;
 use print::LINE_ROOM;
 use runs::Tally;
 ghost use mathlib.Core.Path.{_≡_};
@@ -6,8 +7,32 @@ ghost use mathlib.Core.List.{[], _∷_};
 ghost use Prim.Native.Nat.{_+_, _≤_, _<_};
 ghost use lib.Dec.{leb};
 ghost use lib.ListN.{take, set};
+ghost use Rattle.model.specs.Measures.{maxLines};
 ghost use Rattle.print.specs.Room.{lineRoom};
 ghost use Rattle.progress.specs.Progress.{begunAt, waitingAt, endedAt, passedAt, lastFeed};
+
+// What ends a line.
+pub const LINE_FEED: u8 = 10;
+
+// How many lines are read: their numbers are below 2^32.
+pub const MAX_LINES: usize = 4294967295;
+
+// What is kept between two parts: how many lines were read, how many bytes of the present line are kept, how many bytes the last call
+// wrote.
+pub const READER_LEN: usize = 3;
+
+pub const LINES_READ: usize = 0;
+
+pub const BYTES_KEPT: usize = 1;
+
+pub const BYTES_WRITTEN: usize = 2;
+
+pub type ReaderWords = [usize; READER_LEN];
+
+// Bytes kept of a line: one more than a line may have, so that a longer one is known.
+pub const KEPT_LEN: usize = MAX_LINE + 1;
+
+pub type KeptLine = [u8; KEPT_LEN];
 
 // The bytes kept of the present line, and how far the input was read for it.
 pub struct Kept {
@@ -33,11 +58,11 @@ pub struct Progress {
 }
 
 // Nothing taken or written yet.
-pub fn begun(t: Tally, lines: usize, count: usize) -> Progress
-    ensures { λ r. ⌜ r ≡ begunAt t lines count ⌝ }
+pub fn begun(tally: Tally, lines: usize, count: usize) -> Progress
+    ensures { λ r. ⌜ r ≡ begunAt tally lines count ⌝ }
 {
     Progress {
-        tally: t,
+        tally,
         lines,
         held: count,
         taken: 0,
@@ -47,44 +72,44 @@ pub fn begun(t: Tally, lines: usize, count: usize) -> Progress
 }
 
 // The present line is not at its end, or has no room for what it prints: its bytes are kept.
-pub fn waiting(p: Progress, k: Kept) -> Progress
-    ensures { λ r. ⌜ r ≡ waitingAt p k ⌝ }
+pub fn waiting(progress: Progress, kept: Kept) -> Progress
+    ensures { λ r. ⌜ r ≡ waitingAt progress kept ⌝ }
 {
-    let tally = p.tally;
+    let tally = progress.tally;
     Progress {
         tally,
-        lines: p.lines,
-        held: k.held,
-        taken: k.taken,
-        written: p.written,
+        lines: progress.lines,
+        held: kept.held,
+        taken: kept.taken,
+        written: progress.written,
         more: false,
     }
 }
 
 // The present line was run; the byte after its line feed is at `next`.
-pub fn ended(p: Progress, e: Ending, next: usize) -> Progress
-    requires { ⌜ p .lines < 4294967295 ⌝ }
-    ensures { λ r. ⌜ r ≡ endedAt p e next ⌝ }
+pub fn ended(progress: Progress, ending: Ending, next: usize) -> Progress
+    requires { ⌜ progress .lines < maxLines ⌝ }
+    ensures { λ r. ⌜ r ≡ endedAt progress ending next ⌝ }
 {
-    let tally = e.tally;
+    let tally = ending.tally;
     Progress {
         tally,
-        lines: p.lines + 1,
+        lines: progress.lines + 1,
         held: 0,
         taken: next,
-        written: e.written,
+        written: ending.written,
         more: true,
     }
 }
 
 // Past the last line that is read: all bytes of the part are taken.
-pub fn passed(p: Progress, size: usize) -> Progress
-    ensures { λ r. ⌜ r ≡ passedAt p size ⌝ }
+pub fn passed(progress: Progress, size: usize) -> Progress
+    ensures { λ r. ⌜ r ≡ passedAt progress size ⌝ }
 {
-    let mut a = p;
-    a.taken = size;
-    a.more = false;
-    a
+    let mut after = progress;
+    after.taken = size;
+    after.more = false;
+    after
 }
 
 // Whether an output of this size has room for what a line can print.
@@ -111,10 +136,10 @@ pub fn line_feeds(count: usize) -> usize
 }
 
 // What is kept between two parts, and how many bytes were written.
-pub fn put_reader(reader: &mut [usize; 3], p: Progress, written: usize)
-    ensures { λ _. ⌜ now (reader .exit) ≡ set (set (set (now (reader .entry)) 0 (p .lines)) 1 (p .held)) 2 written ⌝ }
+pub fn put_reader(reader: &mut ReaderWords, progress: Progress, written: usize)
+    ensures { λ _. ⌜ now (reader .exit) ≡ set (set (set (now (reader .entry)) 0 (progress .lines)) 1 (progress .held)) 2 written ⌝ }
 {
-    reader[0] = p.lines;
-    reader[1] = p.held;
-    reader[2] = written;
+    reader[LINES_READ] = progress.lines;
+    reader[BYTES_KEPT] = progress.held;
+    reader[BYTES_WRITTEN] = written;
 }

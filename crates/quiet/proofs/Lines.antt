@@ -8,7 +8,7 @@ use Prim.Native.Nat.{ℕ, _+_, _-_, _≤_, _<_}
 use native.Mathlib.Omega.{arith}
 use lib.ListN.{length, getD}
 use borrow.Author.Tests.{le-leb, lt-leb}
-use Rattle.model.specs.Measures.{majority, maxServers, maxMessages, maxAccepted}
+use Rattle.model.specs.Measures.{majority, maxServers, maxMessages, maxAccepted, maxElection}
 use Rattle.model.specs.Calls.{Answer}
 use Rattle.model.specs.Cluster.{acknowledged, refused, Round, Call, Cluster, freshServer}
 use Rattle.model.specs.Leader.{closes, acknowledgements}
@@ -35,7 +35,7 @@ pub record Taken (c : Cluster) (y : Line) (x : LineResult) (out : List Answer) :
 
 pub accepted-line : (s : State) (c : Cluster) (l : List ℕ) (y : Line) (out : List Answer) → s .cluster ≡ some c → parse l ≡ some y →
     step s l .outcome ≡ printed out → Taken c y (step s l) out
-accepted-line s c l y out is reads accepted = go (parse l) reads (step s l) (comes-out s l) accepted
+accepted-line s c l y out is reads accepted = go (parse l) reads (step s l) (comes-out maxElection s l) accepted
   where
     go : (o : Option Line) → o ≡ some y → (x : LineResult) → ComesOut s o x → x .outcome ≡ printed out → Taken c y x out
     go o r x (refused-by k low high) a = let z : _≡_ {A = ℕ} 0 1 = cc in absurd (omega arith)

@@ -8,7 +8,7 @@ use Prim.Native.Nat.{ℕ, zero, suc, _+_, _-_, _≤_, _<_}
 use native.Mathlib.Omega.{arith}
 use lib.ListN.{length, getD, set, replicate, length-set}
 use lib.Seq.{getD-set-same, getD-set-other}
-use Rattle.model.specs.Measures.{maxServers}
+use Rattle.model.specs.Measures.{maxServers, maxElection}
 use Rattle.model.specs.Calls.{Words, bucketFor, Answer}
 use Rattle.model.specs.Cluster.{Round, Message, Cluster, freshServer, roundAt, callAt}
 use Rattle.model.specs.Leader.{Reaction, beginCall}
@@ -257,7 +257,7 @@ stands-shaped h =
 
 -- and so have all that a script reaches
 reached-shaped : (ls : List (List ℕ)) (c : Cluster) → stateAfter initialState ls .cluster ≡ some c → Shaped c
-reached-shaped ls c is = stands-shaped (subst (λ o. Measured o (stateAfter initialState ls .tally)) is (within-always ls))
+reached-shaped ls c is = stands-shaped (subst (λ o. Measured o (stateAfter initialState ls .tally)) is (within-always maxElection ls))
 
 pub quiet-call-of-a-script : QuietCallOfAScript
 quiet-call-of-a-script ls c is = quiet-call (stateAfter initialState ls) c is (reached-shaped ls c is)

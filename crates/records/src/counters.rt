@@ -1,39 +1,45 @@
 // The cluster's counts in eight lent words, three of them spare.
+use memory::CountWords;
 use memory::Counts;
+use memory::offsets::COUNT_BUCKETS;
+use memory::offsets::COUNT_CALLS;
+use memory::offsets::COUNT_LINES;
+use memory::offsets::COUNT_MESSAGES;
+use memory::offsets::COUNT_SERVERS;
 ghost use mathlib.Core.Path.{_≡_};
 ghost use Rattle.memory.specs.Layout.{countsFields, countsStores, countsAt, putCounts};
 
-pub fn load_counts(counts: &[u32; 8]) -> Counts
+pub fn load_counts(counts: &CountWords) -> Counts
     ensures { λ r. ⌜ r ≡ countsAt (now (counts .entry)) ⌝ }
 {
     counts_fields(counts)
 }
 
 // The same, with the fields written out in the contract.
-fn counts_fields(counts: &[u32; 8]) -> Counts
+fn counts_fields(counts: &CountWords) -> Counts
     ensures { λ r. ⌜ r ≡ countsFields (now (counts .entry)) ⌝ }
 {
     Counts {
-        servers: counts[0],
-        buckets: counts[1],
-        messages: counts[2],
-        lines: counts[3],
-        calls: counts[4],
+        servers: counts[COUNT_SERVERS],
+        buckets: counts[COUNT_BUCKETS],
+        messages: counts[COUNT_MESSAGES],
+        lines: counts[COUNT_LINES],
+        calls: counts[COUNT_CALLS],
     }
 }
 
-pub fn store_counts(counts: &mut [u32; 8], c: Counts)
-    ensures { λ _. ⌜ now (counts .exit) ≡ putCounts (now (counts .entry)) c ⌝ }
+pub fn store_counts(counts: &mut CountWords, cluster: Counts)
+    ensures { λ _. ⌜ now (counts .exit) ≡ putCounts (now (counts .entry)) cluster ⌝ }
 {
-    counts_stores(counts, c);
+    counts_stores(counts, cluster);
 }
 
-fn counts_stores(counts: &mut [u32; 8], c: Counts)
-    ensures { λ _. ⌜ now (counts .exit) ≡ countsStores (now (counts .entry)) c ⌝ }
+fn counts_stores(counts: &mut CountWords, cluster: Counts)
+    ensures { λ _. ⌜ now (counts .exit) ≡ countsStores (now (counts .entry)) cluster ⌝ }
 {
-    counts[0] = c.servers;
-    counts[1] = c.buckets;
-    counts[2] = c.messages;
-    counts[3] = c.lines;
-    counts[4] = c.calls;
+    counts[COUNT_SERVERS] = cluster.servers;
+    counts[COUNT_BUCKETS] = cluster.buckets;
+    counts[COUNT_MESSAGES] = cluster.messages;
+    counts[COUNT_LINES] = cluster.lines;
+    counts[COUNT_CALLS] = cluster.calls;
 }

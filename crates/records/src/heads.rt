@@ -1,78 +1,93 @@
-// Heads of servers in 112 lent words: seven blocks of sixteen.
-use memory::HEAD;
+// Heads of servers in lent words, a block for each.
+use memory::HEAD_SIZE;
+use memory::HeadWords;
+use memory::offsets::HEAD_LAST;
+use memory::offsets::HEAD_LEADER;
+use memory::offsets::HEAD_NUMBER;
+use memory::offsets::HEAD_ROLE;
+use memory::offsets::HEAD_STOPPED;
+use memory::offsets::HEAD_VOTE;
+use memory::offsets::VOTE_0;
+use memory::offsets::VOTE_1;
+use memory::offsets::VOTE_2;
+use memory::offsets::VOTE_3;
+use memory::offsets::VOTE_4;
+use memory::offsets::VOTE_5;
+use memory::offsets::VOTE_6;
 use server::Head;
+use server::measures::SERVERS;
 ghost use mathlib.Core.Path.{_≡_};
 ghost use Prim.Native.Nat.{_+_, _*_, _<_};
 ghost use Rattle.memory.specs.Rows.{row, putRow};
 ghost use Rattle.memory.specs.Layout.{serverRoom, headSize, headNumbers, headFields, headAt, putHead};
 
-// The head of server s.
-pub fn load_head(heads: &[u32; 112], s: usize) -> Head
-    requires { ⌜ s < serverRoom ⌝ }
-    ensures { λ r. ⌜ r ≡ headAt (now (heads .entry)) s ⌝ }
+// The head of this server.
+pub fn load_head(heads: &HeadWords, server: usize) -> Head
+    requires { ⌜ server < serverRoom ⌝ }
+    ensures { λ r. ⌜ r ≡ headAt (now (heads .entry)) server ⌝ }
 {
-    head_fields(heads, s)
+    head_fields(heads, server)
 }
 
 // The same, with the fields written out in the contract.
-fn head_fields(heads: &[u32; 112], s: usize) -> Head
-    requires { ⌜ s < serverRoom ⌝ }
-    ensures { λ r. ⌜ r ≡ headFields (now (heads .entry)) s ⌝ }
+fn head_fields(heads: &HeadWords, server: usize) -> Head
+    requires { ⌜ server < serverRoom ⌝ }
+    ensures { λ r. ⌜ r ≡ headFields (now (heads .entry)) server ⌝ }
 {
-    let b = s * HEAD;
+    let base = server * HEAD_SIZE;
     let votes = [
-        heads[b + 6],
-        heads[b + 7],
-        heads[b + 8],
-        heads[b + 9],
-        heads[b + 10],
-        heads[b + 11],
-        heads[b + 12],
+        heads[base + VOTE_0],
+        heads[base + VOTE_1],
+        heads[base + VOTE_2],
+        heads[base + VOTE_3],
+        heads[base + VOTE_4],
+        heads[base + VOTE_5],
+        heads[base + VOTE_6],
     ];
     Head {
-        number: heads[b + 0],
-        vote: heads[b + 1],
-        leader: heads[b + 2],
-        role: heads[b + 3],
-        last: heads[b + 4],
-        stopped: heads[b + 5],
+        number: heads[base + HEAD_NUMBER],
+        vote: heads[base + HEAD_VOTE],
+        leader: heads[base + HEAD_LEADER],
+        role: heads[base + HEAD_ROLE],
+        last: heads[base + HEAD_LAST],
+        stopped: heads[base + HEAD_STOPPED],
         votes,
     }
 }
 
-// Server s gets the head h.
-pub fn store_head(heads: &mut [u32; 112], s: usize, h: Head)
-    requires { ⌜ s < serverRoom ⌝ }
-    ensures { λ _. ⌜ now (heads .exit) ≡ putHead (now (heads .entry)) s h ⌝ }
+// This server gets this head.
+pub fn store_head(heads: &mut HeadWords, server: usize, head: Head)
+    requires { ⌜ server < serverRoom ⌝ }
+    ensures { λ _. ⌜ now (heads .exit) ≡ putHead (now (heads .entry)) server head ⌝ }
 {
-    let votes = h.votes;
-    head_numbers(heads, s, h);
-    head_votes(heads, s, votes);
+    let votes = head.votes;
+    head_numbers(heads, server, head);
+    head_votes(heads, server, votes);
 }
 
-fn head_numbers(heads: &mut [u32; 112], s: usize, h: Head)
-    requires { ⌜ s < serverRoom ⌝ }
-    ensures { λ _. ⌜ now (heads .exit) ≡ putRow (now (heads .entry)) (s * headSize) 0 (headNumbers h) ⌝ }
+fn head_numbers(heads: &mut HeadWords, server: usize, head: Head)
+    requires { ⌜ server < serverRoom ⌝ }
+    ensures { λ _. ⌜ now (heads .exit) ≡ putRow (now (heads .entry)) (server * headSize) 0 (headNumbers head) ⌝ }
 {
-    let b = s * HEAD;
-    heads[b + 0] = h.number;
-    heads[b + 1] = h.vote;
-    heads[b + 2] = h.leader;
-    heads[b + 3] = h.role;
-    heads[b + 4] = h.last;
-    heads[b + 5] = h.stopped;
+    let base = server * HEAD_SIZE;
+    heads[base + HEAD_NUMBER] = head.number;
+    heads[base + HEAD_VOTE] = head.vote;
+    heads[base + HEAD_LEADER] = head.leader;
+    heads[base + HEAD_ROLE] = head.role;
+    heads[base + HEAD_LAST] = head.last;
+    heads[base + HEAD_STOPPED] = head.stopped;
 }
 
-fn head_votes(heads: &mut [u32; 112], s: usize, votes: [u32; 7])
-    requires { ⌜ s < serverRoom ⌝ }
-    ensures { λ _. ⌜ now (heads .exit) ≡ putRow (now (heads .entry)) (s * headSize) 6 (row 0 0 serverRoom votes) ⌝ }
+fn head_votes(heads: &mut HeadWords, server: usize, votes: [u32; SERVERS])
+    requires { ⌜ server < serverRoom ⌝ }
+    ensures { λ _. ⌜ now (heads .exit) ≡ putRow (now (heads .entry)) (server * headSize) 6 (row 0 0 serverRoom votes) ⌝ }
 {
-    let b = s * HEAD;
-    heads[b + 6] = votes[0];
-    heads[b + 7] = votes[1];
-    heads[b + 8] = votes[2];
-    heads[b + 9] = votes[3];
-    heads[b + 10] = votes[4];
-    heads[b + 11] = votes[5];
-    heads[b + 12] = votes[6];
+    let base = server * HEAD_SIZE;
+    heads[base + VOTE_0] = votes[0];
+    heads[base + VOTE_1] = votes[1];
+    heads[base + VOTE_2] = votes[2];
+    heads[base + VOTE_3] = votes[3];
+    heads[base + VOTE_4] = votes[4];
+    heads[base + VOTE_5] = votes[5];
+    heads[base + VOTE_6] = votes[6];
 }

@@ -1,159 +1,179 @@
-// Slots in 1792 lent words: 56 blocks of 32, that of server s and bucket b at 8 * s + b. A slot holds the version of the copy,
+// Slots in lent words, one block for each server and bucket (`slot_of` in crate `memory`). A slot holds the version of the copy,
 // the open round, the open call and the numbers of the call's words.
-use memory::SLOT;
+use memory::SLOT_SIZE;
+use memory::SlotWords;
+use memory::offsets::BEST_COUNTER;
+use memory::offsets::BEST_ELECTION;
+use memory::offsets::CALL_KIND;
+use memory::offsets::CALL_NUMBER;
+use memory::offsets::CALL_ROUNDS;
+use memory::offsets::CALL_SENT;
+use memory::offsets::MARK_0;
+use memory::offsets::MARK_1;
+use memory::offsets::MARK_2;
+use memory::offsets::MARK_3;
+use memory::offsets::MARK_4;
+use memory::offsets::MARK_5;
+use memory::offsets::MARK_6;
+use memory::offsets::ROUND_ELECTION;
+use memory::offsets::ROUND_NUMBER;
+use memory::offsets::ROUND_PURPOSE;
+use memory::offsets::VERSION_COUNTER;
+use memory::offsets::VERSION_ELECTION;
 use server::Call;
 use server::Round;
 use server::Version;
+use server::measures::SERVERS;
 ghost use mathlib.Core.Path.{_≡_};
 ghost use Prim.Native.Nat.{_+_, _*_, _<_};
 ghost use Rattle.memory.specs.Rows.{row, putRow};
 ghost use Rattle.memory.specs.Layout.{serverRoom, slotRoom, slotSize, versionFields, versionStores, versionAt, putVersion, roundNumbers, roundFields, roundAt, putRound, callFields, callStores, callAt, putCall};
 
-// The version of the copy at slot k.
-pub fn load_version(slots: &[u32; 1792], k: usize) -> Version
-    requires { ⌜ k < slotRoom ⌝ }
-    ensures { λ r. ⌜ r ≡ versionAt (now (slots .entry)) k ⌝ }
+// The version of the copy at this slot.
+pub fn load_version(slots: &SlotWords, slot: usize) -> Version
+    requires { ⌜ slot < slotRoom ⌝ }
+    ensures { λ r. ⌜ r ≡ versionAt (now (slots .entry)) slot ⌝ }
 {
-    version_fields(slots, k)
+    version_fields(slots, slot)
 }
 
 // The same, with the fields written out in the contract: so are those of each load and store below.
-fn version_fields(slots: &[u32; 1792], k: usize) -> Version
-    requires { ⌜ k < slotRoom ⌝ }
-    ensures { λ r. ⌜ r ≡ versionFields (now (slots .entry)) k ⌝ }
+fn version_fields(slots: &SlotWords, slot: usize) -> Version
+    requires { ⌜ slot < slotRoom ⌝ }
+    ensures { λ r. ⌜ r ≡ versionFields (now (slots .entry)) slot ⌝ }
 {
-    let b = k * SLOT;
+    let base = slot * SLOT_SIZE;
     Version {
-        election: slots[b + 0],
-        counter: slots[b + 1],
+        election: slots[base + VERSION_ELECTION],
+        counter: slots[base + VERSION_COUNTER],
     }
 }
 
-// The copy at slot k gets the version v.
-pub fn store_version(slots: &mut [u32; 1792], k: usize, v: Version)
-    requires { ⌜ k < slotRoom ⌝ }
-    ensures { λ _. ⌜ now (slots .exit) ≡ putVersion (now (slots .entry)) k v ⌝ }
+// The copy at this slot gets this version.
+pub fn store_version(slots: &mut SlotWords, slot: usize, version: Version)
+    requires { ⌜ slot < slotRoom ⌝ }
+    ensures { λ _. ⌜ now (slots .exit) ≡ putVersion (now (slots .entry)) slot version ⌝ }
 {
-    version_stores(slots, k, v);
+    version_stores(slots, slot, version);
 }
 
-fn version_stores(slots: &mut [u32; 1792], k: usize, v: Version)
-    requires { ⌜ k < slotRoom ⌝ }
-    ensures { λ _. ⌜ now (slots .exit) ≡ versionStores (now (slots .entry)) k v ⌝ }
+fn version_stores(slots: &mut SlotWords, slot: usize, version: Version)
+    requires { ⌜ slot < slotRoom ⌝ }
+    ensures { λ _. ⌜ now (slots .exit) ≡ versionStores (now (slots .entry)) slot version ⌝ }
 {
-    let b = k * SLOT;
-    slots[b + 0] = v.election;
-    slots[b + 1] = v.counter;
+    let base = slot * SLOT_SIZE;
+    slots[base + VERSION_ELECTION] = version.election;
+    slots[base + VERSION_COUNTER] = version.counter;
 }
 
-// The open round of slot k.
-pub fn load_round(slots: &[u32; 1792], k: usize) -> Round
-    requires { ⌜ k < slotRoom ⌝ }
-    ensures { λ r. ⌜ r ≡ roundAt (now (slots .entry)) k ⌝ }
+// The open round of this slot.
+pub fn load_round(slots: &SlotWords, slot: usize) -> Round
+    requires { ⌜ slot < slotRoom ⌝ }
+    ensures { λ r. ⌜ r ≡ roundAt (now (slots .entry)) slot ⌝ }
 {
-    round_fields(slots, k)
+    round_fields(slots, slot)
 }
 
-fn round_fields(slots: &[u32; 1792], k: usize) -> Round
-    requires { ⌜ k < slotRoom ⌝ }
-    ensures { λ r. ⌜ r ≡ roundFields (now (slots .entry)) k ⌝ }
+fn round_fields(slots: &SlotWords, slot: usize) -> Round
+    requires { ⌜ slot < slotRoom ⌝ }
+    ensures { λ r. ⌜ r ≡ roundFields (now (slots .entry)) slot ⌝ }
 {
-    let b = k * SLOT;
+    let base = slot * SLOT_SIZE;
     let best = Version {
-        election: slots[b + 5],
-        counter: slots[b + 6],
+        election: slots[base + BEST_ELECTION],
+        counter: slots[base + BEST_COUNTER],
     };
     let marks = [
-        slots[b + 7],
-        slots[b + 8],
-        slots[b + 9],
-        slots[b + 10],
-        slots[b + 11],
-        slots[b + 12],
-        slots[b + 13],
+        slots[base + MARK_0],
+        slots[base + MARK_1],
+        slots[base + MARK_2],
+        slots[base + MARK_3],
+        slots[base + MARK_4],
+        slots[base + MARK_5],
+        slots[base + MARK_6],
     ];
     Round {
-        purpose: slots[b + 2],
-        number: slots[b + 3],
-        election: slots[b + 4],
+        purpose: slots[base + ROUND_PURPOSE],
+        number: slots[base + ROUND_NUMBER],
+        election: slots[base + ROUND_ELECTION],
         best,
         marks,
     }
 }
 
-// Slot k gets the open round r.
-pub fn store_round(slots: &mut [u32; 1792], k: usize, r: Round)
-    requires { ⌜ k < slotRoom ⌝ }
-    ensures { λ _. ⌜ now (slots .exit) ≡ putRound (now (slots .entry)) k r ⌝ }
+// This slot gets this open round.
+pub fn store_round(slots: &mut SlotWords, slot: usize, round: Round)
+    requires { ⌜ slot < slotRoom ⌝ }
+    ensures { λ _. ⌜ now (slots .exit) ≡ putRound (now (slots .entry)) slot round ⌝ }
 {
-    let marks = r.marks;
-    round_numbers(slots, k, r);
-    round_marks(slots, k, marks);
+    let marks = round.marks;
+    round_numbers(slots, slot, round);
+    round_marks(slots, slot, marks);
 }
 
-fn round_numbers(slots: &mut [u32; 1792], k: usize, r: Round)
-    requires { ⌜ k < slotRoom ⌝ }
-    ensures { λ _. ⌜ now (slots .exit) ≡ putRow (now (slots .entry)) (k * slotSize) 2 (roundNumbers r) ⌝ }
+fn round_numbers(slots: &mut SlotWords, slot: usize, round: Round)
+    requires { ⌜ slot < slotRoom ⌝ }
+    ensures { λ _. ⌜ now (slots .exit) ≡ putRow (now (slots .entry)) (slot * slotSize) 2 (roundNumbers round) ⌝ }
 {
-    let b = k * SLOT;
-    let best = r.best;
-    slots[b + 2] = r.purpose;
-    slots[b + 3] = r.number;
-    slots[b + 4] = r.election;
-    slots[b + 5] = best.election;
-    slots[b + 6] = best.counter;
+    let base = slot * SLOT_SIZE;
+    let best = round.best;
+    slots[base + ROUND_PURPOSE] = round.purpose;
+    slots[base + ROUND_NUMBER] = round.number;
+    slots[base + ROUND_ELECTION] = round.election;
+    slots[base + BEST_ELECTION] = best.election;
+    slots[base + BEST_COUNTER] = best.counter;
 }
 
-fn round_marks(slots: &mut [u32; 1792], k: usize, marks: [u32; 7])
-    requires { ⌜ k < slotRoom ⌝ }
-    ensures { λ _. ⌜ now (slots .exit) ≡ putRow (now (slots .entry)) (k * slotSize) 7 (row 0 0 serverRoom marks) ⌝ }
+fn round_marks(slots: &mut SlotWords, slot: usize, marks: [u32; SERVERS])
+    requires { ⌜ slot < slotRoom ⌝ }
+    ensures { λ _. ⌜ now (slots .exit) ≡ putRow (now (slots .entry)) (slot * slotSize) 7 (row 0 0 serverRoom marks) ⌝ }
 {
-    let b = k * SLOT;
-    slots[b + 7] = marks[0];
-    slots[b + 8] = marks[1];
-    slots[b + 9] = marks[2];
-    slots[b + 10] = marks[3];
-    slots[b + 11] = marks[4];
-    slots[b + 12] = marks[5];
-    slots[b + 13] = marks[6];
+    let base = slot * SLOT_SIZE;
+    slots[base + MARK_0] = marks[0];
+    slots[base + MARK_1] = marks[1];
+    slots[base + MARK_2] = marks[2];
+    slots[base + MARK_3] = marks[3];
+    slots[base + MARK_4] = marks[4];
+    slots[base + MARK_5] = marks[5];
+    slots[base + MARK_6] = marks[6];
 }
 
-// The open call of slot k, without its words.
-pub fn load_call(slots: &[u32; 1792], k: usize) -> Call
-    requires { ⌜ k < slotRoom ⌝ }
-    ensures { λ r. ⌜ r ≡ callAt (now (slots .entry)) k ⌝ }
+// The open call of this slot, without its words.
+pub fn load_call(slots: &SlotWords, slot: usize) -> Call
+    requires { ⌜ slot < slotRoom ⌝ }
+    ensures { λ r. ⌜ r ≡ callAt (now (slots .entry)) slot ⌝ }
 {
-    call_fields(slots, k)
+    call_fields(slots, slot)
 }
 
-fn call_fields(slots: &[u32; 1792], k: usize) -> Call
-    requires { ⌜ k < slotRoom ⌝ }
-    ensures { λ r. ⌜ r ≡ callFields (now (slots .entry)) k ⌝ }
+fn call_fields(slots: &SlotWords, slot: usize) -> Call
+    requires { ⌜ slot < slotRoom ⌝ }
+    ensures { λ r. ⌜ r ≡ callFields (now (slots .entry)) slot ⌝ }
 {
-    let b = k * SLOT;
+    let base = slot * SLOT_SIZE;
     Call {
-        kind: slots[b + 14],
-        number: slots[b + 15],
-        rounds: slots[b + 16],
-        sent: slots[b + 17],
+        kind: slots[base + CALL_KIND],
+        number: slots[base + CALL_NUMBER],
+        rounds: slots[base + CALL_ROUNDS],
+        sent: slots[base + CALL_SENT],
     }
 }
 
-// Slot k gets the open call c, without its words.
-pub fn store_call(slots: &mut [u32; 1792], k: usize, c: Call)
-    requires { ⌜ k < slotRoom ⌝ }
-    ensures { λ _. ⌜ now (slots .exit) ≡ putCall (now (slots .entry)) k c ⌝ }
+// This slot gets this open call, without its words.
+pub fn store_call(slots: &mut SlotWords, slot: usize, call: Call)
+    requires { ⌜ slot < slotRoom ⌝ }
+    ensures { λ _. ⌜ now (slots .exit) ≡ putCall (now (slots .entry)) slot call ⌝ }
 {
-    call_stores(slots, k, c);
+    call_stores(slots, slot, call);
 }
 
-fn call_stores(slots: &mut [u32; 1792], k: usize, c: Call)
-    requires { ⌜ k < slotRoom ⌝ }
-    ensures { λ _. ⌜ now (slots .exit) ≡ callStores (now (slots .entry)) k c ⌝ }
+fn call_stores(slots: &mut SlotWords, slot: usize, call: Call)
+    requires { ⌜ slot < slotRoom ⌝ }
+    ensures { λ _. ⌜ now (slots .exit) ≡ callStores (now (slots .entry)) slot call ⌝ }
 {
-    let b = k * SLOT;
-    slots[b + 14] = c.kind;
-    slots[b + 15] = c.number;
-    slots[b + 16] = c.rounds;
-    slots[b + 17] = c.sent;
+    let base = slot * SLOT_SIZE;
+    slots[base + CALL_KIND] = call.kind;
+    slots[base + CALL_NUMBER] = call.number;
+    slots[base + CALL_ROUNDS] = call.rounds;
+    slots[base + CALL_SENT] = call.sent;
 }

@@ -1,84 +1,96 @@
-// The words of open calls: their numbers in the slots, their keys and values in 3584 lent bytes, 56 blocks of 64.
+// The words of open calls: their numbers in the slots, their keys and values in lent bytes, a block for each slot.
 use blocks::copy_part_bytes;
 use entries::Item;
+use entries::KEY_ROOM;
 use entries::Key;
+use entries::VALUE_ROOM;
 use entries::Value;
 use entries::keys::key_length;
 use entries::keys::value_length;
 use memory::Numbers;
-use memory::SLOT;
-use memory::TEXT;
+use memory::SLOT_SIZE;
+use memory::SlotWords;
+use memory::TEXT_SIZE;
+use memory::TextBytes;
+use memory::offsets::EXPECTED_NUMBER;
+use memory::offsets::EXPECTED_TEXT;
+use memory::offsets::KEY_NUMBER;
+use memory::offsets::KEY_TEXT;
+use memory::offsets::VALUE_NUMBER;
+use memory::offsets::VALUE_TEXT;
+use memory::offsets::WORDS_BUCKET;
+use memory::offsets::WORDS_KIND;
 use server::Words;
 ghost use mathlib.Core.Path.{_≡_};
 ghost use Prim.Native.Nat.{_+_, _-_, _*_, _<_, _≤_};
 ghost use lib.Seq.{paste};
-ghost use Rattle.memory.specs.Layout.{slotRoom, numbersFields, numbersStores, numbersIn, itemWord, keyFrom, valueFrom, itemFrom, wordsAt, putWords, putTexts};
+ghost use Rattle.memory.specs.Layout.{slotRoom, textSize, keyRoom, valueRoom, numbersFields, numbersStores, numbersIn, itemWord, keyFrom, valueFrom, itemFrom, wordsAt, putWords, putTexts};
 
-// The words of the call of slot k.
-pub fn load_words(slots: &[u32; 1792], texts: &[u8; 3584], k: usize) -> Words
-    requires { ⌜ k < slotRoom ⌝ }
-    ensures { λ r. ⌜ r ≡ wordsAt (now (slots .entry)) (now (texts .entry)) k ⌝ }
+// The words of the call of this slot.
+pub fn load_words(slots: &SlotWords, texts: &TextBytes, slot: usize) -> Words
+    requires { ⌜ slot < slotRoom ⌝ }
+    ensures { λ r. ⌜ r ≡ wordsAt (now (slots .entry)) (now (texts .entry)) slot ⌝ }
 {
-    let n = numbers_fields(slots, k);
-    let b = k * TEXT;
-    let key = key_from(texts, b + 0, n.key as usize);
-    let expected = item_from(texts, b + 8, n.expected as usize);
-    let value = item_from(texts, b + 24, n.value as usize);
+    let numbers = numbers_fields(slots, slot);
+    let base = slot * TEXT_SIZE;
+    let key = key_from(texts, base + KEY_TEXT, numbers.key as usize);
+    let expected = item_from(texts, base + EXPECTED_TEXT, numbers.expected as usize);
+    let value = item_from(texts, base + VALUE_TEXT, numbers.value as usize);
     Words {
-        kind: n.kind,
-        bucket: n.bucket,
+        kind: numbers.kind,
+        bucket: numbers.bucket,
         key,
         expected,
         value,
     }
 }
 
-fn numbers_fields(slots: &[u32; 1792], k: usize) -> Numbers
-    requires { ⌜ k < slotRoom ⌝ }
-    ensures { λ r. ⌜ r ≡ numbersFields (now (slots .entry)) k ⌝ }
+fn numbers_fields(slots: &SlotWords, slot: usize) -> Numbers
+    requires { ⌜ slot < slotRoom ⌝ }
+    ensures { λ r. ⌜ r ≡ numbersFields (now (slots .entry)) slot ⌝ }
 {
-    let b = k * SLOT;
+    let base = slot * SLOT_SIZE;
     Numbers {
-        kind: slots[b + 18],
-        bucket: slots[b + 19],
-        key: slots[b + 20],
-        expected: slots[b + 21],
-        value: slots[b + 22],
+        kind: slots[base + WORDS_KIND],
+        bucket: slots[base + WORDS_BUCKET],
+        key: slots[base + KEY_NUMBER],
+        expected: slots[base + EXPECTED_NUMBER],
+        value: slots[base + VALUE_NUMBER],
     }
 }
 
 // A key whose eight bytes begin at this place, and a value whose sixteen do.
-fn key_from(texts: &[u8; 3584], at: usize, len: usize) -> Key
-    requires { ⌜ at + 8 ≤ 3584 ⌝ }
+fn key_from(texts: &TextBytes, at: usize, len: usize) -> Key
+    requires { ⌜ at + keyRoom ≤ slotRoom * textSize ⌝ }
     ensures { λ r. ⌜ r ≡ keyFrom (now (texts .entry)) at len ⌝ }
 {
-    let mut bytes = [0u8; 8];
-    copy_part_bytes(&mut bytes, 0, texts, at, 8);
+    let mut bytes = [0u8; KEY_ROOM];
+    copy_part_bytes(&mut bytes, 0, texts, at, KEY_ROOM);
     Key { bytes, len }
 }
 
-fn value_from(texts: &[u8; 3584], at: usize, len: usize) -> Value
-    requires { ⌜ at + 16 ≤ 3584 ⌝ }
+fn value_from(texts: &TextBytes, at: usize, len: usize) -> Value
+    requires { ⌜ at + valueRoom ≤ slotRoom * textSize ⌝ }
     ensures { λ r. ⌜ r ≡ valueFrom (now (texts .entry)) at len ⌝ }
 {
-    let mut bytes = [0u8; 16];
-    copy_part_bytes(&mut bytes, 0, texts, at, 16);
+    let mut bytes = [0u8; VALUE_ROOM];
+    copy_part_bytes(&mut bytes, 0, texts, at, VALUE_ROOM);
     Value { bytes, len }
 }
 
 // One less, 0 for 0.
-fn one_less(n: usize) -> usize
-    ensures { λ r. ⌜ r ≡ n - 1 ⌝ }
+fn one_less(number: usize) -> usize
+    ensures { λ r. ⌜ r ≡ number - 1 ⌝ }
 {
-    if n == 0 {
+    if number == 0 {
         return 0;
     }
-    n - 1
+    number - 1
 }
 
 // A value by its word: none for 0, else of a length one below it.
-fn item_from(texts: &[u8; 3584], at: usize, word: usize) -> Item
-    requires { ⌜ at + 16 ≤ 3584 ⌝ }
+fn item_from(texts: &TextBytes, at: usize, word: usize) -> Item
+    requires { ⌜ at + valueRoom ≤ slotRoom * textSize ⌝ }
     ensures { λ r. ⌜ r ≡ itemFrom (now (texts .entry)) at word ⌝ }
 {
     let value = value_from(texts, at, one_less(word));
@@ -88,81 +100,81 @@ fn item_from(texts: &[u8; 3584], at: usize, word: usize) -> Item
     }
 }
 
-// The call of slot k gets the words w.
-pub fn store_words(slots: &mut [u32; 1792], texts: &mut [u8; 3584], k: usize, w: Words)
-    requires { ⌜ k < slotRoom ⌝ }
-    ensures { λ _. ⌜ (now (slots .exit) ≡ putWords (now (slots .entry)) k w) × (now (texts .exit) ≡ putTexts (now (texts .entry)) k w) ⌝ }
+// The call of this slot gets these words.
+pub fn store_words(slots: &mut SlotWords, texts: &mut TextBytes, slot: usize, words: Words)
+    requires { ⌜ slot < slotRoom ⌝ }
+    ensures { λ _. ⌜ (now (slots .exit) ≡ putWords (now (slots .entry)) slot words) × (now (texts .exit) ≡ putTexts (now (texts .entry)) slot words) ⌝ }
 {
-    let n = numbers_in(w);
-    numbers_stores(slots, k, n);
-    store_texts(texts, k, w);
+    let numbers = numbers_in(words);
+    numbers_stores(slots, slot, numbers);
+    store_texts(texts, slot, words);
 }
 
 // The word of a value: 0 where there is none, else one above its length.
-fn item_word(i: Item) -> u32
-    ensures { λ r. ⌜ r ≡ itemWord i ⌝ }
+fn item_word(item: Item) -> u32
+    ensures { λ r. ⌜ r ≡ itemWord item ⌝ }
 {
-    if i.there {
-        let n = value_length(i.value);
-        return n as u32 + 1;
+    if item.there {
+        let len = value_length(item.value);
+        return len as u32 + 1;
     }
     0
 }
 
 // The numbers of words: a length above the room is stored as all of it.
-fn numbers_in(w: Words) -> Numbers
-    ensures { λ r. ⌜ r ≡ numbersIn w ⌝ }
+fn numbers_in(words: Words) -> Numbers
+    ensures { λ r. ⌜ r ≡ numbersIn words ⌝ }
 {
     Numbers {
-        kind: w.kind,
-        bucket: w.bucket,
-        key: key_length(w.key) as u32,
-        expected: item_word(w.expected),
-        value: item_word(w.value),
+        kind: words.kind,
+        bucket: words.bucket,
+        key: key_length(words.key) as u32,
+        expected: item_word(words.expected),
+        value: item_word(words.value),
     }
 }
 
-fn numbers_stores(slots: &mut [u32; 1792], k: usize, n: Numbers)
-    requires { ⌜ k < slotRoom ⌝ }
-    ensures { λ _. ⌜ now (slots .exit) ≡ numbersStores (now (slots .entry)) k n ⌝ }
+fn numbers_stores(slots: &mut SlotWords, slot: usize, numbers: Numbers)
+    requires { ⌜ slot < slotRoom ⌝ }
+    ensures { λ _. ⌜ now (slots .exit) ≡ numbersStores (now (slots .entry)) slot numbers ⌝ }
 {
-    let b = k * SLOT;
-    slots[b + 18] = n.kind;
-    slots[b + 19] = n.bucket;
-    slots[b + 20] = n.key;
-    slots[b + 21] = n.expected;
-    slots[b + 22] = n.value;
+    let base = slot * SLOT_SIZE;
+    slots[base + WORDS_KIND] = numbers.kind;
+    slots[base + WORDS_BUCKET] = numbers.bucket;
+    slots[base + KEY_NUMBER] = numbers.key;
+    slots[base + EXPECTED_NUMBER] = numbers.expected;
+    slots[base + VALUE_NUMBER] = numbers.value;
 }
 
-fn store_texts(texts: &mut [u8; 3584], k: usize, w: Words)
-    requires { ⌜ k < slotRoom ⌝ }
-    ensures { λ _. ⌜ now (texts .exit) ≡ putTexts (now (texts .entry)) k w ⌝ }
+fn store_texts(texts: &mut TextBytes, slot: usize, words: Words)
+    requires { ⌜ slot < slotRoom ⌝ }
+    ensures { λ _. ⌜ now (texts .exit) ≡ putTexts (now (texts .entry)) slot words ⌝ }
 {
-    let b = k * TEXT;
-    let key = w.key;
-    let e = w.expected;
-    let v = w.value;
-    let expected = e.value;
-    let value = v.value;
+    let base = slot * TEXT_SIZE;
+    let key = words.key;
+    let expected_item = words.expected;
+    let value_item = words.value;
+    let expected = expected_item.value;
+    let value = value_item.value;
     let key_bytes = key.bytes;
     let expected_bytes = expected.bytes;
     let value_bytes = value.bytes;
-    put_key(texts, b + 0, &key_bytes);
-    put_value(texts, b + 8, &expected_bytes);
-    put_value(texts, b + 24, &value_bytes);
+    put_key(texts, base + KEY_TEXT, &key_bytes);
+    put_value(texts, base + EXPECTED_TEXT, &expected_bytes);
+    put_value(texts, base + VALUE_TEXT, &value_bytes);
 }
 
-// Eight bytes, or sixteen, are stored from this place on.
-fn put_key(texts: &mut [u8; 3584], at: usize, bytes: &[u8; 8])
-    requires { ⌜ at + 8 ≤ 3584 ⌝ }
-    ensures { λ _. ⌜ now (texts .exit) ≡ paste (now (texts .entry)) at (now (bytes .entry)) 8 ⌝ }
+// The bytes of a key, or of a value, are stored from this place on.
+fn put_key(texts: &mut TextBytes, at: usize, bytes: &[u8; KEY_ROOM])
+    requires { ⌜ at + keyRoom ≤ slotRoom * textSize ⌝ }
+    ensures { λ _. ⌜ now (texts .exit) ≡ paste (now (texts .entry)) at (now (bytes .entry)) keyRoom ⌝ }
 {
-    copy_part_bytes(texts, at, bytes, 0, 8);
+    copy_part_bytes(texts, at, bytes, 0, KEY_ROOM);
 }
 
-fn put_value(texts: &mut [u8; 3584], at: usize, bytes: &[u8; 16])
-    requires { ⌜ at + 16 ≤ 3584 ⌝ }
-    ensures { λ _. ⌜ now (texts .exit) ≡ paste (now (texts .entry)) at (now (bytes .entry)) 16 ⌝ }
+fn put_value(texts: &mut TextBytes, at: usize, bytes: &[u8; VALUE_ROOM])
+    requires { ⌜ at + valueRoom ≤ slotRoom * textSize ⌝ }
+    ensures { λ _. ⌜ now (texts .exit) ≡ paste (now (texts .entry)) at (now (bytes .entry)) valueRoom ⌝ }
 {
-    copy_part_bytes(texts, at, bytes, 0, 16);
+    copy_part_bytes(texts, at, bytes, 0, VALUE_ROOM);
 }

@@ -15,97 +15,98 @@ use server::measures::MAX_MESSAGES;
 use server::numbers::chosen;
 ghost use mathlib.Core.Path.{_≡_};
 ghost use Prim.Native.Nat.{_≤_};
+ghost use Rattle.memory.specs.Layout.{serverRoom, messageRoom};
 ghost use Rattle.refusals.specs.Refusals.{sendCount, placesLeft, serverRefusal, startRefusal, noReceiver, inside, messageRefusal};
 
 pub mod codes;
 
 // 3: whether there are such a server and such a bucket.
-pub fn inside(c: Counts, s: u32, b: u32) -> bool
-    ensures { λ r. ⌜ r ≡ inside c s b ⌝ }
+pub fn inside(cluster: Counts, server: u32, bucket: u32) -> bool
+    ensures { λ r. ⌜ r ≡ inside cluster server bucket ⌝ }
 {
-    if c.servers <= s {
+    if cluster.servers <= server {
         return false;
     }
-    if c.buckets <= b {
+    if cluster.buckets <= bucket {
         return false;
     }
     true
 }
 
 // 5 and 6, or 0.
-pub fn server_refusal(c: Counts, h: Head) -> u32
-    ensures { λ r. ⌜ r ≡ serverRefusal c h ⌝ }
+pub fn server_refusal(cluster: Counts, head: Head) -> u32
+    ensures { λ r. ⌜ r ≡ serverRefusal cluster head ⌝ }
 {
-    if MAX_ACCEPTED <= c.lines {
+    if MAX_ACCEPTED <= cluster.lines {
         return LINES_SPENT;
     }
-    if h.stopped == STOPPED {
+    if head.stopped == STOPPED {
         return SERVER_STOPPED;
     }
     NONE
 }
 
 // 5 and 18, or 0: a server that runs cannot be started.
-pub fn start_refusal(c: Counts, h: Head) -> u32
-    ensures { λ r. ⌜ r ≡ startRefusal c h ⌝ }
+pub fn start_refusal(cluster: Counts, head: Head) -> u32
+    ensures { λ r. ⌜ r ≡ startRefusal cluster head ⌝ }
 {
-    if MAX_ACCEPTED <= c.lines {
+    if MAX_ACCEPTED <= cluster.lines {
         return LINES_SPENT;
     }
-    if h.stopped != STOPPED {
+    if head.stopped != STOPPED {
         return BAD_CUT_OR_START;
     }
     NONE
 }
 
-// Whether a message has no receiver: it names no server, or one that is stopped, whose head is h.
-pub fn has_no_receiver(c: Counts, receiver: u32, h: Head) -> bool
-    ensures { λ r. ⌜ r ≡ noReceiver c receiver h ⌝ }
+// Whether a message has no receiver: it names no server, or one whose head says that it is stopped.
+pub fn has_no_receiver(cluster: Counts, receiver: u32, head: Head) -> bool
+    ensures { λ r. ⌜ r ≡ noReceiver cluster receiver head ⌝ }
 {
-    if c.servers <= receiver {
+    if cluster.servers <= receiver {
         return true;
     }
-    h.stopped == STOPPED
+    head.stopped == STOPPED
 }
 
 // 5 and 7, or 0.
-pub fn message_refusal(c: Counts, i: u32) -> u32
-    ensures { λ r. ⌜ r ≡ messageRefusal c i ⌝ }
+pub fn message_refusal(cluster: Counts, place: u32) -> u32
+    ensures { λ r. ⌜ r ≡ messageRefusal cluster place ⌝ }
 {
-    if MAX_ACCEPTED <= c.lines {
+    if MAX_ACCEPTED <= cluster.lines {
         return LINES_SPENT;
     }
-    if c.messages <= i {
+    if cluster.messages <= place {
         return NO_SUCH_MESSAGE;
     }
     NONE
 }
 
-// How many messages are sent among n servers.
-pub fn send_count(n: u32, kind: u32) -> u32
-    ensures { λ r. ⌜ r ≡ sendCount n kind ⌝ }
+// How many messages are sent among so many servers.
+pub fn send_count(servers: u32, kind: u32) -> u32
+    ensures { λ r. ⌜ r ≡ sendCount servers kind ⌝ }
 {
     if kind == NO_MESSAGE {
         return 0;
     }
     if is_broadcast(kind) {
-        if n == 0 {
+        if servers == 0 {
             return 0;
         }
-        return n - 1;
+        return servers - 1;
     }
     1
 }
 
 // Whether there is a place for each message; the place of one that is removed is free.
-pub fn places_left(c: Counts, removes: bool, kind: u32) -> bool
-    requires { ⌜ (c .servers ≤ 7) × (c .messages ≤ 64) ⌝ }
-    ensures { λ r. ⌜ r ≡ placesLeft c removes kind ⌝ }
+pub fn places_left(cluster: Counts, removes: bool, kind: u32) -> bool
+    requires { ⌜ (cluster .servers ≤ serverRoom) × (cluster .messages ≤ messageRoom) ⌝ }
+    ensures { λ r. ⌜ r ≡ placesLeft cluster removes kind ⌝ }
 {
-    let sends = send_count(c.servers, kind);
+    let sends = send_count(cluster.servers, kind);
     let gone = chosen(removes, 1, 0);
-    if c.messages < gone {
+    if cluster.messages < gone {
         return sends <= MAX_MESSAGES;
     }
-    c.messages - gone + sends <= MAX_MESSAGES
+    cluster.messages - gone + sends <= MAX_MESSAGES
 }

@@ -27,7 +27,7 @@ use Rattle.server.specs.Heads.{votingHead}
 use Rattle.rounds.specs.Rounds.{pickVersion, noVersion}
 use Rattle.moves.specs.declared.Local.{Local}
 use Rattle.moves.specs.declared.Move.{Move}
-use Rattle.moves.specs.Moves.{local, noAnswer, stores, stoppedHead}
+use Rattle.moves.specs.Moves.{localOf, noAnswer, stores, stoppedHead}
 use Rattle.moves.specs.Reactions.{frontIn, cellIn, Seen, Tables, workAfter, copyAfter, bodyIn, messageIn, Asked, sendsIn, answersIn, movedServer, serverAfter, answersAfter, reactionIn}
 use Rattle.moves.proofs.Ceasing.{placed, seen-itself}
 use Rattle.restarts.specs.Restarts.{changesVote, storesVote, storesBucket, storesMade, votesBy, keepsBy, cutHead, cutMove}
@@ -267,7 +267,7 @@ module _ (n b : ℕ) (x : Message) (s : cluster.Server) (l : Local) (t : Tables)
   moveBy vote bucket =
       record {
         local =
-            local (stoppedHead (elim vote [ true ↦ votingHead (x .election) (x .sender) (l .head) | false ↦ l .head ]))
+            localOf (stoppedHead (elim vote [ true ↦ votingHead (x .election) (x .sender) (l .head) | false ↦ l .head ]))
             (pickVersion bucket (x .version) (l .version)) (l .round) (l .call);
         sends = 0;
         written = noVersion;

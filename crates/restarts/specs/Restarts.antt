@@ -13,7 +13,7 @@ use Rattle.server.specs.Heads.{votingHead}
 use Rattle.rounds.specs.Rounds.{pickVersion, noVersion}
 use Rattle.moves.specs.declared.Local.{Local}
 use Rattle.moves.specs.declared.Move.{Move}
-use Rattle.moves.specs.Moves.{local, noAnswer, withHead, stores, stoppedHead}
+use Rattle.moves.specs.Moves.{localOf, noAnswer, withHead, stores, stoppedHead}
 
 -- ---- starts
 
@@ -84,7 +84,7 @@ cutHead k m h = elim (votesBy k m h) [ true ↦ votingHead (m .election) (m .sen
 unfoldable pub cutMove : ℕ → Message → Local → Move
 cutMove k m l =
     record {
-      local = local (stoppedHead (cutHead k m (l .head))) (pickVersion (keepsBy k m l) (m .version) (l .version)) (l .round) (l .call);
+      local = localOf (stoppedHead (cutHead k m (l .head))) (pickVersion (keepsBy k m l) (m .version) (l .version)) (l .round) (l .call);
       sends = 0;
       written = noVersion;
       fills = 0;

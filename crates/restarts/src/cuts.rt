@@ -1,8 +1,8 @@
 // A server that is stopped in the middle of what a message makes it store: the vote first, then the bucket.
 use moves::Local;
 use moves::Move;
+use moves::codes::COPY_STAYS;
 use moves::codes::KEEPS_MESSAGE;
-use moves::codes::KEEPS_NOTHING;
 use moves::roles::stopped_move;
 use rounds::replies::pick_version;
 use server::Head;
@@ -17,12 +17,12 @@ use server::votes::voting;
 ghost use mathlib.Core.Path.{_≡_};
 ghost use Rattle.restarts.specs.Restarts.{changesVote, storesVote, storesBucket, storesMade, cuttable, votesBy, keepsBy, cutHead, cutMove};
 
-// Whether the vote for p under e is not the one that stands there.
-fn changes_vote(e: u32, p: u32, h: Head) -> bool
-    ensures { λ r. ⌜ r ≡ changesVote e p h ⌝ }
+// Whether the vote for this leader under this number is not the one that stands there.
+fn changes_vote(election: u32, leader: u32, head: Head) -> bool
+    ensures { λ r. ⌜ r ≡ changesVote election leader head ⌝ }
 {
-    if e == h.vote {
-        if p == h.leader {
+    if election == head.vote {
+        if leader == head.leader {
             return false;
         }
         return true;
@@ -31,25 +31,25 @@ fn changes_vote(e: u32, p: u32, h: Head) -> bool
 }
 
 // Whether a message of kind 1, 4 or 7 makes the vote's store.
-fn stores_vote(m: Message, h: Head) -> bool
-    ensures { λ r. ⌜ r ≡ storesVote m h ⌝ }
+fn stores_vote(message: Message, head: Head) -> bool
+    ensures { λ r. ⌜ r ≡ storesVote message head ⌝ }
 {
-    if m.kind == PLEASE_VOTE {
-        return h.vote < m.election;
+    if message.kind == PLEASE_VOTE {
+        return head.vote < message.election;
     }
-    if may_accept(m.election, h) {
-        return changes_vote(m.election, m.sender, h);
+    if may_accept(message.election, head) {
+        return changes_vote(message.election, message.sender, head);
     }
     false
 }
 
 // Whether it makes the bucket's store.
-fn stores_bucket(m: Message, l: Local) -> bool
-    ensures { λ r. ⌜ r ≡ storesBucket m l ⌝ }
+fn stores_bucket(message: Message, local: Local) -> bool
+    ensures { λ r. ⌜ r ≡ storesBucket message local ⌝ }
 {
-    if m.kind == REPLICA_WRITE {
-        if may_accept(m.election, l.head) {
-            return above(m.version, l.version);
+    if message.kind == REPLICA_WRITE {
+        if may_accept(message.election, local.head) {
+            return above(message.version, local.version);
         }
         return false;
     }
@@ -66,59 +66,59 @@ fn stores_made(vote: bool, bucket: bool) -> u32
     chosen(bucket, 1, 0)
 }
 
-// Whether the message can be cut after k stores.
-pub fn can_cut(k: u32, m: Message, l: Local) -> bool
-    ensures { λ r. ⌜ r ≡ cuttable k m l ⌝ }
+// Whether the message can be cut after so many stores.
+pub fn can_cut(stores: u32, message: Message, local: Local) -> bool
+    ensures { λ r. ⌜ r ≡ cuttable stores message local ⌝ }
 {
-    if is_broadcast(m.kind) {
-        let vote = stores_vote(m, l.head);
-        let bucket = stores_bucket(m, l);
-        return k <= stores_made(vote, bucket);
+    if is_broadcast(message.kind) {
+        let vote = stores_vote(message, local.head);
+        let bucket = stores_bucket(message, local);
+        return stores <= stores_made(vote, bucket);
     }
     false
 }
 
-// Whether the vote's store is among the first k.
-fn votes_by(k: u32, m: Message, h: Head) -> bool
-    ensures { λ r. ⌜ r ≡ votesBy k m h ⌝ }
+// Whether the vote's store is among the first ones.
+fn votes_by(stores: u32, message: Message, head: Head) -> bool
+    ensures { λ r. ⌜ r ≡ votesBy stores message head ⌝ }
 {
-    if stores_vote(m, h) {
-        return 1 <= k;
+    if stores_vote(message, head) {
+        return 1 <= stores;
     }
     false
 }
 
-// Whether the bucket's store is among the first k: where both are made, it is the second.
-fn keeps_by(k: u32, m: Message, l: Local) -> bool
-    ensures { λ r. ⌜ r ≡ keepsBy k m l ⌝ }
+// Whether the bucket's store is among the first ones: where both are made, it is the second.
+fn keeps_by(stores: u32, message: Message, local: Local) -> bool
+    ensures { λ r. ⌜ r ≡ keepsBy stores message local ⌝ }
 {
-    if stores_bucket(m, l) {
-        return stores_made(stores_vote(m, l.head), true) <= k;
+    if stores_bucket(message, local) {
+        return stores_made(stores_vote(message, local.head), true) <= stores;
     }
     false
 }
 
 // The head with the vote, if that is stored.
-fn cut_head(k: u32, m: Message, h: Head) -> Head
-    ensures { λ r. ⌜ r ≡ cutHead k m h ⌝ }
+fn cut_head(stores: u32, message: Message, head: Head) -> Head
+    ensures { λ r. ⌜ r ≡ cutHead stores message head ⌝ }
 {
-    if votes_by(k, m, h) {
-        return voting(m.election, m.sender, h);
+    if votes_by(stores, message, head) {
+        return voting(message.election, message.sender, head);
     }
-    h
+    head
 }
 
-// The server is stopped after the first k stores, and replies nothing.
-pub fn cut_move(k: u32, m: Message, l: Local) -> Move
-    ensures { λ r. ⌜ r ≡ cutMove k m l ⌝ }
+// The server is stopped after the first stores, and replies nothing.
+pub fn cut_move(stores: u32, message: Message, local: Local) -> Move
+    ensures { λ r. ⌜ r ≡ cutMove stores message local ⌝ }
 {
-    let kept = keeps_by(k, m, l);
-    let head = cut_head(k, m, l.head);
-    let version = pick_version(kept, m.version, l.version);
-    let mut a = l;
-    a.head = head;
-    a.version = version;
-    let mut b = stopped_move(a);
-    b.keeps = chosen(kept, KEEPS_MESSAGE, KEEPS_NOTHING);
-    b
+    let kept = keeps_by(stores, message, local);
+    let head = cut_head(stores, message, local.head);
+    let version = pick_version(kept, message.version, local.version);
+    let mut after = local;
+    after.head = head;
+    after.version = version;
+    let mut next = stopped_move(after);
+    next.keeps = chosen(kept, KEEPS_MESSAGE, COPY_STAYS);
+    next
 }

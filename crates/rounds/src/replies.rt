@@ -19,42 +19,42 @@ ghost use Rattle.model.specs.Leader.{acknowledgements, refusals, closes, fails,
 ghost use Rattle.server.specs.Views.{marksIn, markIn, copyIn, openIn, roundIn, among};
 ghost use Rattle.rounds.specs.Rounds.{isSilent, improves, pickVersion, countedOf, pickTable, matching};
 
-pub fn acknowledgements(n: u32, r: Round) -> u32
-    ensures { λ k. ⌜ k ≡ acknowledgements (marksIn n r) ⌝ }
+pub fn acknowledgements(servers: u32, round: Round) -> u32
+    ensures { λ k. ⌜ k ≡ acknowledgements (marksIn servers round) ⌝ }
 {
-    let marks = r.marks;
-    count(n, marks, ACKNOWLEDGED)
+    let marks = round.marks;
+    count(servers, marks, ACKNOWLEDGED)
 }
 
-pub fn refusals(n: u32, r: Round) -> u32
-    ensures { λ k. ⌜ k ≡ refusals (marksIn n r) ⌝ }
+pub fn refusals(servers: u32, round: Round) -> u32
+    ensures { λ k. ⌜ k ≡ refusals (marksIn servers round) ⌝ }
 {
-    let marks = r.marks;
-    count(n, marks, REFUSED)
+    let marks = round.marks;
+    count(servers, marks, REFUSED)
 }
 
 // A majority of acknowledgements closes a round.
-pub fn closes(n: u32, r: Round) -> bool
-    ensures { λ b. ⌜ b ≡ closes n (openIn n r []) ⌝ }
+pub fn closes(servers: u32, round: Round) -> bool
+    ensures { λ b. ⌜ b ≡ closes servers (openIn servers round []) ⌝ }
 {
-    majority(n) <= acknowledgements(n, r)
+    majority(servers) <= acknowledgements(servers, round)
 }
 
 // It fails when refusals leave fewer than a majority.
-pub fn fails(n: u32, r: Round) -> bool
-    ensures { λ b. ⌜ b ≡ fails n (openIn n r []) ⌝ }
+pub fn fails(servers: u32, round: Round) -> bool
+    ensures { λ b. ⌜ b ≡ fails servers (openIn servers round []) ⌝ }
 {
-    n - refusals(n, r) < majority(n)
+    servers - refusals(servers, round) < majority(servers)
 }
 
 // Whether a mark stands for no reply yet.
-fn is_silent(m: u32) -> bool
-    ensures { λ b. ⌜ b ≡ isSilent (markIn m) ⌝ }
+fn is_silent(mark: u32) -> bool
+    ensures { λ b. ⌜ b ≡ isSilent (markIn mark) ⌝ }
 {
-    if m == ACKNOWLEDGED {
+    if mark == ACKNOWLEDGED {
         return false;
     }
-    if m == REFUSED {
+    if mark == REFUSED {
         return false;
     }
     true
@@ -70,50 +70,53 @@ fn improves(purpose: u32, report: Version, best: Version) -> bool
     false
 }
 
-pub fn pick_version(b: bool, v: Version, w: Version) -> Version
-    ensures { λ r. ⌜ r ≡ pickVersion b v w ⌝ }
+pub fn pick_version(first: bool, version: Version, other: Version) -> Version
+    ensures { λ r. ⌜ r ≡ pickVersion first version other ⌝ }
 {
-    if b { v } else { w }
+    if first { version } else { other }
 }
 
-// The round with the reply of q counted: a mark is set once, and what q reported counts only with its mark.
-pub fn counted(n: u32, q: u32, mark: u32, report: Version, r: Round) -> Counted
-    ensures is { λ k. ⌜ k ≡ countedOf n q mark report r ⌝ }
-    ensures means { λ k. ⌜ ((t u : List Entry) → openIn n (k .round) (pickTable (k .better) u t) ≡ counted q (markIn mark) (copyIn report u) (openIn n r t)) ⌝ }
+// The round with the reply of the sender counted: a mark is set once, and what the sender reported counts only with its mark.
+pub fn counted(servers: u32, sender: u32, mark: u32, report: Version, round: Round) -> Counted
+    ensures is { λ k. ⌜ k ≡ countedOf servers sender mark report round ⌝ }
+    ensures means { λ k. ⌜ ((t u : List Entry) → openIn servers (k .round) (pickTable (k .better) u t) ≡ counted sender (markIn mark) (copyIn report u) (openIn servers round t)) ⌝ }
 {
-    let marks = r.marks;
-    let old = r.best;
-    if is_silent(place_at(n, marks, q, REFUSED)) {
-        let better = improves(r.purpose, report, old);
+    let marks = round.marks;
+    let old = round.best;
+    if is_silent(place_at(servers, marks, sender, REFUSED)) {
+        let better = improves(round.purpose, report, old);
         let best = pick_version(better, report, old);
-        let next = placed(marks, q, mark);
-        let mut round = r;
-        round.best = best;
-        round.marks = next;
-        return Counted { round, better };
+        let next = placed(marks, sender, mark);
+        let mut after = round;
+        after.best = best;
+        after.marks = next;
+        return Counted {
+            round: after,
+            better,
+        };
     }
     Counted {
-        round: r,
+        round,
         better: false,
     }
 }
 
-pub fn is_open(r: Round) -> bool
-    ensures { λ b. ⌜ b ≡ among 4 (r .purpose) ⌝ }
+pub fn is_open(round: Round) -> bool
+    ensures { λ b. ⌜ b ≡ among 4 (round .purpose) ⌝ }
 {
-    if r.purpose < RECOVERY_READ {
+    if round.purpose < RECOVERY_READ {
         return false;
     }
-    r.purpose <= OWN_WRITE
+    round.purpose <= OWN_WRITE
 }
 
 // Whether a reply with this election number and round is one to the open round.
-pub fn matches(r: Round, election: u32, round: u32) -> bool
-    ensures { λ b. ⌜ ((n : ℕ) (t : List Entry) → b ≡ matching election round (roundIn n r t)) ⌝ }
+pub fn matches(current: Round, election: u32, round: u32) -> bool
+    ensures { λ b. ⌜ ((n : ℕ) (t : List Entry) → b ≡ matching election round (roundIn n current t)) ⌝ }
 {
-    if is_open(r) {
-        if election == r.election {
-            return round == r.number;
+    if is_open(current) {
+        if election == current.election {
+            return round == current.number;
         }
     }
     false

@@ -13,12 +13,12 @@ use Rattle.model.specs.Lines as lines
 use Rattle.limits.specs.Stands.{Stands}
 use Rattle.server.specs.declared.Effect.{Effect}
 use Rattle.memory.specs.declared.Counts.{Counts}
-use Rattle.memory.specs.Layout.{countsAt}
+use Rattle.memory.specs.Layout.{slotOf, countsAt}
 use Rattle.refusals.specs.Refusals.{placesLeft}
 use Rattle.moves.specs.declared.Move.{Move}
 use Rattle.moves.specs.Reactions.{askedIn, reactionIn}
 use Rattle.views.specs.Changes.{answersRoom}
-use Rattle.views.specs.Memory.{Memory, Sized, WholeLocal, standing, slotOf, callWordsAt, serverAt, clusterAt}
+use Rattle.views.specs.Memory.{Memory, Sized, WholeLocal, standing, callWordsAt, serverAt, clusterAt}
 use Rattle.views.proofs.Contents.{tablesAt}
 use Rattle.plans.specs.declared.Step.{Step}
 use Rattle.runs.specs.Runs.{carriedRun, lostRun}
@@ -39,7 +39,7 @@ keptMessages removes i ms = elim removes [ true ↦ lines.dropAt i ms | false �
 abbrev pub workOf : Memory → Step → Reaction → lines.Work
 workOf m x r =
     record {
-      cluster = lines.afterStep (clusterAt m) (x .server) (keptMessages (x .removes) (x .message) (clusterAt m .messages)) (x .calls) r;
+      cluster = lines.afterStep (clusterAt m) (x .server) (keptMessages (x .removes) (x .place) (clusterAt m .messages)) (x .calls) r;
       sent = length (r .sends);
       copied = x .copied;
       delivered = x .delivered;
@@ -51,15 +51,15 @@ workOf m x r =
 abbrev pub reactionOf : Memory → Counts → Step → Move → Effect → Reaction
 reactionOf m c x v f =
     let k = slotOf (x .server) (x .bucket) in
-    reactionIn (c .servers) (x .server) (x .bucket) (askedIn (x .asked)) v (tablesAt m k (x .message) (tableIn (f .table))) (callWordsAt m k) (valueBytes (f .value)) (tableIn (f .table)) (serverAt (c .servers) (c .buckets) m (x .server))
+    reactionIn (c .servers) (x .server) (x .bucket) (askedIn (x .asked)) v (tablesAt m k (x .place) (tableIn (f .table))) (callWordsAt m k) (valueBytes (f .value)) (tableIn (f .table)) (serverAt (c .servers) (c .buckets) m (x .server))
 
 -- a move that can be carried out
 pub record Possible (m : Memory) (c : Counts) (x : Step) (v : Move) (f : Effect) : Type 0 where
   pub counts : c ≡ countsAt (m .counts)
   pub server : x .server < c .servers
   pub bucket : x .bucket < c .buckets
-  pub place : x .message < 64
-  pub there : x .removes ≡ true → x .message < c .messages
+  pub place : x .place < 64
+  pub there : x .removes ≡ true → x .place < c .messages
   pub whole : WholeLocal (v .local)
   pub form : v .fills ≡ 2 → fits maxEntries maxValueBytes (tableIn (f .table)) ≡ true
 
@@ -77,5 +77,5 @@ LacksRoom m t c x v f =
 abbrev pub LosesMessage : Memory → List ℕ → lines.Tally → Counts → Step → Effect → Type 0
 LosesMessage m l t c x f =
     x .calls ≡ c .calls →
-    (x .removes ≡ true → x .message < c .messages) →
-    lines.acceptLine (stateIn m t) (lines.lostMessage (clusterAt m) (keptMessages (x .removes) (x .message) (clusterAt m .messages)) (x .copied)) ≡ resultOf t (lostRun m l c x) f
+    (x .removes ≡ true → x .place < c .messages) →
+    lines.acceptLine (stateIn m t) (lines.lostMessage (clusterAt m) (keptMessages (x .removes) (x .place) (clusterAt m .messages)) (x .copied)) ≡ resultOf t (lostRun m l c x) f

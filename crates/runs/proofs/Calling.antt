@@ -22,27 +22,27 @@ use Rattle.server.specs.declared.Words.{Words}
 use Rattle.server.specs.declared.Effect.{Effect}
 use Rattle.server.specs.Views.{among, roleIn, callIn, effectIn, chosen}
 use Rattle.memory.specs.declared.Counts.{Counts}
-use Rattle.memory.specs.Layout.{countsAt}
+use Rattle.memory.specs.Layout.{slotOf, countsAt}
 use Rattle.refusals.specs.Refusals.{inside, serverRefusal}
 use Rattle.moves.specs.declared.Local.{Local}
 use Rattle.moves.specs.declared.Move.{Move}
 use Rattle.moves.specs.Moves.{readingMove, finishedMove, recovered, startedMove, aloneMove, begunMove}
 use Rattle.moves.proofs.CallMoves.{writes-so, begun-means}
 use Rattle.moves.specs.Reactions.{EffectNeeded, askedIn}
-use Rattle.views.specs.Memory.{Memory, WholeLocal, slotOf, tableAt, localAt, callWordsAt, serverAt, clusterAt}
+use Rattle.views.specs.Memory.{Memory, WholeLocal, tableAt, localAt, callWordsAt, serverAt, clusterAt}
 use Rattle.views.proofs.Contents.{tablesAt}
 use Rattle.views.proofs.Seen.{length-servers, role-there, call-there, server-seen}
 use Rattle.views.proofs.Whole.{whole-at, whole-begun}
 use Rattle.plans.specs.declared.Step.{Step}
 use Rattle.plans.specs.declared.Plan.{Plan}
-use Rattle.plans.specs.Plans.{noMessage, refusedPlan, roomy, unless, badLengths, callBucket, callStep, takePlan, callRefusal, callPlan, callAt}
+use Rattle.plans.specs.Plans.{noMessage, refusedPlan, ifPlacesLeft, unless, badLengths, callBucket, callStep, takePlan, callRefusal, callPlan, callAt}
 use Rattle.runs.specs.Runs.{taken, executed, CallEffect}
 use Rattle.runs.specs.Meaning.{stateIn, resultOf}
 use Rattle.runs.proofs.Accepting.{Ready, Possible, workOf, reactionOf}
 use Rattle.runs.proofs.Carried.{carries-out, lacks-room}
 use Rattle.runs.proofs.Taken.{taken-read, taken-local, taken-cluster, taken-ready}
 use Rattle.runs.proofs.Standing.{measured, standing-cluster}
-use Rattle.runs.proofs.Conditions.{judged, planned, refusing, ready-perform, condition-judged, roomy-judged, server-stands, place-judged, server-judged}
+use Rattle.runs.proofs.Conditions.{judged, planned, refusing, ready-perform, condition-judged, places-judged, server-stands, place-judged, server-judged}
 use Rattle.runs.proofs.Resting.{cluster-within, last-low, counter-low, table-fits}
 use Rattle.runs.proofs.Wording.{Said, Fine}
 
@@ -223,13 +223,13 @@ module _ (m : Memory) (l : List ℕ) (t : lines.Tally) (ready : Ready m l t) (s 
     possible-stored = call-possible ready-stored s part server bucket words (w .kind) f (said .live) (fine .sized) same-words local same-local (fine .bucket counts) its-effect
 
     carried : lines.acceptLine (stateIn stored t) (workOf stored (callStep counts s part) (reactionOf stored counts (callStep counts s part) begunAt f))
-        ≡ planned m l t counts f (roomy counts plan)
+        ≡ planned m l t counts f (ifPlacesLeft counts plan)
     unfolding executed
     carried =
-        roomy-judged m l t counts plan _ f refl (carries-out stored l t counts (callStep counts s part) begunAt f ready-stored possible-stored)
+        places-judged m l t counts plan _ f refl (carries-out stored l t counts (callStep counts s part) begunAt f ready-stored possible-stored)
         (λ e. lacks-room stored l t counts (callStep counts s part) begunAt f ready-stored possible-stored e ∙ ap (λ x. lines.refuse x 12) same-state)
 
-    begins : judged (stateIn m t) [] (lines.work (clusterAt m) (lines.call s words)) ≡ planned m l t counts f (roomy counts plan)
+    begins : judged (stateIn m t) [] (lines.work (clusterAt m) (lines.call s words)) ≡ planned m l t counts f (ifPlacesLeft counts plan)
     unfolding lines.firstOf
     begins =
         ap₂ (λ x y. lines.acceptLine x (lines.work y (lines.call s words))) (sym same-state) (sym same-cluster)
@@ -255,7 +255,7 @@ module _ (m : Memory) (l : List ℕ) (t : lines.Tally) (ready : Ready m l t) (s 
       ready-perform ready (lines.call s words)
       ∙ place-judged m l t f _ _ _ s part _ (said .buckets (clusterAt m) counts refl (measured ready .someBuckets)) (λ server bucket.
       rw (said .bad) (condition-judged m l t counts 4 _ _ _ _ f (λ z. omega arith) (λ lengths.
-      rw (unless-call counts local f (roomy counts plan), leading-seen server bucket lengths, call-seen server bucket lengths)
+      rw (unless-call counts local f (ifPlacesLeft counts plan), leading-seen server bucket lengths, call-seen server bucket lengths)
       (server-judged m l t f _ _ _ s server (λ stands.
       condition-judged m l t counts 8 _ _ _ _ f (λ z. omega arith) (λ leading.
       condition-judged m l t counts 9 _ _ _ _ f (λ z. omega arith) (λ free. begins server bucket lengths stands leading free)))))))

@@ -14,14 +14,14 @@ use Rattle.model.specs.Cluster as cluster
 use Rattle.model.specs.Lines as lines
 use Rattle.server.specs.declared.Effect.{Effect}
 use Rattle.memory.specs.declared.Counts.{Counts}
-use Rattle.memory.specs.Layout.{countsAt}
+use Rattle.memory.specs.Layout.{slotOf, countsAt}
 use Rattle.refusals.specs.Refusals.{sendCount, placesLeft}
 use Rattle.moves.specs.declared.Move.{Move}
 use Rattle.moves.specs.Reactions.{Tables, askedIn, sendsIn}
-use Rattle.views.specs.Memory.{Memory, Sized, slotOf, serversAt, clusterAt}
+use Rattle.views.specs.Memory.{Memory, Sized, serversAt, clusterAt}
 use Rattle.views.specs.Changes.{moved, answered}
 use Rattle.views.specs.Queue.{Sound, flightIn}
-use Rattle.views.proofs.Contents.{tablesAt, works-after, copies-after}
+use Rattle.views.proofs.Contents.{tablesAt, working-after, copies-after}
 use Rattle.views.proofs.Servers.{moved-servers, moved-sized}
 use Rattle.views.proofs.Queue.{length-flight}
 use Rattle.views.proofs.Sends.{Added, sent-flight, length-sends}
@@ -44,25 +44,25 @@ module _ (m : Memory) (l : List ℕ) (t : lines.Tally) (x : Step) (v : Move) (f 
   made = tableIn (f .table)
 
   abbrev tables : Tables
-  tables = tablesAt m k (x .message) made
+  tables = tablesAt m k (x .place) made
 
   abbrev sends : List cluster.Message
   sends = sendsIn (c .servers) (x .server) (x .bucket) (askedIn (x .asked)) v tables
 
   abbrev keeps : List cluster.Message
-  keeps = keptMessages (x .removes) (x .message) (clusterAt m .messages)
+  keeps = keptMessages (x .removes) (x .place) (clusterAt m .messages)
 
   slot : k < 56
   slot = omega (arith, p .server, p .bucket, measured ready .servers, measured ready .buckets)
 
   sized-moved : Sized (movedAt m c x v made)
   sized-moved =
-      moved-sized m (c .servers) (c .buckets) (x .server) (x .bucket) (x .message) v made
+      moved-sized m (c .servers) (c .buckets) (x .server) (x .bucket) (x .place) v made
       (ready .sized) (measured ready .servers) (p .server) (measured ready .buckets) (p .bucket) (p .place) (p .whole) (p .form)
 
   servers-moved : serversAt (c .servers) (c .buckets) (movedAt m c x v made) ≡ workOf m x (reactionOf m c x v f) .cluster .servers
   servers-moved =
-      moved-servers m (c .servers) (c .buckets) (x .server) (x .bucket) (x .message) v made
+      moved-servers m (c .servers) (c .buckets) (x .server) (x .bucket) (x .place) v made
       (ready .sized) (measured ready .servers) (p .server) (measured ready .buckets) (p .bucket) (p .place) (p .whole) (p .form)
 
   answers-hold : Holds (valueBytes (f .value)) made (answered (m .slots) (c .buckets) (x .server) v l) (reactionOf m c x v f .answers) 8
@@ -86,10 +86,10 @@ module _ (m : Memory) (l : List ℕ) (t : lines.Tally) (x : Step) (v : Move) (f 
     added : Added (leftFlight m c x) (sentFlight m c x v made) sends
     unfolding moved
     added =
-        let works = works-after m (ready .sized) k (x .message) slot (p .place) v made (p .form) in
-        let copies = copies-after m (ready .sized) k (x .message) slot (p .place) v made (p .form) in
-        sent-flight (c .servers) (x .server) (x .bucket) k (x .asked) v tables (movedAt m c x v made .works) (movedAt m c x v made .copies) (leftFlight m c x)
-        left (p .server) slot (sized-moved .works) (sized-moved .copies) (sym (works .there)) (sym (copies .there)) places
+        let working = working-after m (ready .sized) k (x .place) slot (p .place) v made (p .form) in
+        let copies = copies-after m (ready .sized) k (x .place) slot (p .place) v made (p .form) in
+        sent-flight (c .servers) (x .server) (x .bucket) k (x .asked) v tables (movedAt m c x v made .working) (movedAt m c x v made .copies) (leftFlight m c x)
+        left (p .server) slot (sized-moved .working) (sized-moved .copies) (sym (working .there)) (sym (copies .there)) places
 
     sent-are : flightIn (sentFlight m c x v made) ≡ keeps ++ sends
     sent-are = added .flight ∙ ap (λ (r : List cluster.Message). r ++ sends) left-are

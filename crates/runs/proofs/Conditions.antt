@@ -24,7 +24,7 @@ use Rattle.views.proofs.Seen.{length-servers, server-there, stopped-there}
 use Rattle.views.proofs.Queue.{length-flight}
 use Rattle.plans.specs.declared.Step.{Step}
 use Rattle.plans.specs.declared.Plan.{Plan}
-use Rattle.plans.specs.Plans.{refusedPlan, movePlan, lostPlan, roomy, unless}
+use Rattle.plans.specs.Plans.{refusedPlan, movePlan, lostPlan, ifPlacesLeft, unless}
 use Rattle.runs.specs.Runs.{refusedRun, taken, executed}
 use Rattle.runs.specs.Meaning.{stateIn, resultOf}
 use Rattle.runs.proofs.Accepting.{Ready, Possible, workOf, reactionOf, keptMessages}
@@ -82,16 +82,16 @@ module _ (m : Memory) (l : List ℕ) (t : lines.Tally) (c : Counts) where
   condition-judged r false rest w p f d h = h refl
 
   -- 12: a plan is carried out where places are left, else refused
-  pub roomy-judged : (p : Plan) (y : lines.LineResult) (f : Effect) → p .effect ≡ f
+  pub places-judged : (p : Plan) (y : lines.LineResult) (f : Effect) → p .effect ≡ f
       → (placesLeft c (p .step .removes) (p .next .sends) ≡ true → y ≡ planned m l t c f p)
       → (placesLeft c (p .step .removes) (p .next .sends) ≡ false → y ≡ lines.refuse (stateIn m t) 12)
-      → y ≡ planned m l t c f (roomy c p)
-  unfolding roomy
-  roomy-judged p y f same h k = go _ refl
+      → y ≡ planned m l t c f (ifPlacesLeft c p)
+  unfolding ifPlacesLeft
+  places-judged p y f same h k = go _ refl
     where
-      go : (z : Bool) → placesLeft c (p .step .removes) (p .next .sends) ≡ z → y ≡ planned m l t c f (roomy c p)
-      go true e = rw (roomy, e) (h e)
-      go false e = rw (roomy, e, same) (k e ∙ refused-run 12 f (λ z. omega arith))
+      go : (z : Bool) → placesLeft c (p .step .removes) (p .next .sends) ≡ z → y ≡ planned m l t c f (ifPlacesLeft c p)
+      go true e = rw (ifPlacesLeft, e) (h e)
+      go false e = rw (ifPlacesLeft, e, same) (k e ∙ refused-run 12 f (λ z. omega arith))
 
 -- ---- plans as conditions: 5 and 6, 5 and 7, 3
 
@@ -155,7 +155,7 @@ module _ (m : Memory) where
 
   no-message-seen : (i : ℕ) → lines.noMessage (clusterAt m) i ≡ leb (countsIn m .messages) i
   unfolding lines.noMessage
-  no-message-seen i = rw (length-flight (flight (m .queue) (m .loads) (countsIn m .messages)))
+  no-message-seen i = rw (length-flight (flight (m .queue) (m .payloads) (countsIn m .messages)))
 
 module _ (m : Memory) (l : List ℕ) (t : lines.Tally) (f : Effect) (rest : List lines.Condition) (w : lines.Work) (p : Plan) where
   -- 3, where z is that there is no bucket b
@@ -207,10 +207,10 @@ module _ (m : Memory) (l : List ℕ) (t : lines.Tally) (f : Effect) (rest : List
 
 -- a move, refused where places lack
 pub moved-run : (m : Memory) (l : List ℕ) (t : lines.Tally) (c : Counts) (x : Step) (v : Move) (f : Effect) → Ready m l t → Possible m c x v f
-    → lines.acceptLine (stateIn m t) (workOf m x (reactionOf m c x v f)) ≡ planned m l t c f (roomy c (movePlan x v f))
+    → lines.acceptLine (stateIn m t) (workOf m x (reactionOf m c x v f)) ≡ planned m l t c f (ifPlacesLeft c (movePlan x v f))
 unfolding executed taken
 moved-run m l t c x v f ready possible =
-    roomy-judged m l t c (movePlan x v f) _ f refl (carries-out m l t c x v f ready possible) (lacks-room m l t c x v f ready possible)
+    places-judged m l t c (movePlan x v f) _ f refl (carries-out m l t c x v f ready possible) (lacks-room m l t c x v f ready possible)
 
 -- a message that is lost
 pub lost-run : (m : Memory) (l : List ℕ) (t : lines.Tally) (c : Counts) (i : ℕ) (removes : Bool) (f : Effect) → Ready m l t → c ≡ countsAt (m .counts)

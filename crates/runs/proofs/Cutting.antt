@@ -16,20 +16,20 @@ use Rattle.server.specs.declared.Message.{Message}
 use Rattle.server.specs.declared.Effect.{Effect}
 use Rattle.server.specs.Views.{flagIn, chosen, isBroadcast}
 use Rattle.memory.specs.declared.Counts.{Counts}
-use Rattle.memory.specs.Layout.{countsAt, headAt, messageAt}
+use Rattle.memory.specs.Layout.{slotOf, countsAt, headAt, messageAt}
 use Rattle.refusals.specs.Refusals.{messageRefusal, noReceiver}
 use Rattle.moves.specs.declared.Local.{Local}
 use Rattle.moves.specs.declared.Move.{Move}
 use Rattle.restarts.specs.Restarts.{storesVote, storesBucket, storesMade, cuttable, cutMove}
 use Rattle.moves.specs.Reactions.{askedIn}
 use Rattle.restarts.proofs.Cutting.{broadcast-seen, count-seen, cut-means}
-use Rattle.views.specs.Memory.{Memory, slotOf, callWordsAt, serverAt, clusterAt}
+use Rattle.views.specs.Memory.{Memory, callWordsAt, serverAt, clusterAt}
 use Rattle.views.proofs.Contents.{tablesAt}
 use Rattle.views.proofs.Seen.{server-seen}
 use Rattle.views.proofs.Whole.{whole-at, whole-cut}
 use Rattle.plans.specs.declared.Step.{Step}
 use Rattle.plans.specs.declared.Plan.{Plan}
-use Rattle.plans.specs.Plans.{refusedPlan, roomy, movePlan, gone, receiverAt, cutStep, cutPlan, cutAt}
+use Rattle.plans.specs.Plans.{refusedPlan, ifPlacesLeft, movePlan, gone, receiverAt, cutStep, cutPlan, cutAt}
 use Rattle.runs.specs.Runs.{executed}
 use Rattle.runs.specs.Meaning.{stateIn, resultOf}
 use Rattle.runs.proofs.Accepting.{Ready, Possible, workOf, reactionOf}
@@ -126,15 +126,15 @@ module _ (m : Memory) (l : List ℕ) (t : lines.Tally) (ready : Ready m l t) (i 
     unfolding gone noReceiver
     gone-is = rw (gone, noReceiver, among-servers) refl
 
-    plan-is : plan ≡ refusing 18 bad f (roomy counts (movePlan step move f))
+    plan-is : plan ≡ refusing 18 bad f (ifPlacesLeft counts (movePlan step move f))
     unfolding cutPlan
     plan-is =
-        ap (λ z. elim z as (λ _. Plan) [ true ↦ refusedPlan 18 f | false ↦ elim (cuttable k asked here-local) [ true ↦ roomy counts (movePlan step move f) | false ↦ refusedPlan 18 f ] ]) gone-is
+        ap (λ z. elim z as (λ _. Plan) [ true ↦ refusedPlan 18 f | false ↦ elim (cuttable k asked here-local) [ true ↦ ifPlacesLeft counts (movePlan step move f) | false ↦ refusedPlan 18 f ] ]) gone-is
         ∙ go stopped (cuttable k asked here-local)
       where
         go : (z y : Bool)
-            → _≡_ {A = Plan} (elim z [ true ↦ refusedPlan 18 f | false ↦ elim y [ true ↦ roomy counts (movePlan step move f) | false ↦ refusedPlan 18 f ] ])
-            (refusing 18 (elim z [ true ↦ true | false ↦ elim y [ true ↦ false | false ↦ true ] ]) f (roomy counts (movePlan step move f)))
+            → _≡_ {A = Plan} (elim z [ true ↦ refusedPlan 18 f | false ↦ elim y [ true ↦ ifPlacesLeft counts (movePlan step move f) | false ↦ refusedPlan 18 f ] ])
+            (refusing 18 (elim z [ true ↦ true | false ↦ elim y [ true ↦ false | false ↦ true ] ]) f (ifPlacesLeft counts (movePlan step move f)))
         go true y = refl
         go false true = refl
         go false false = refl
@@ -205,7 +205,7 @@ module _ (m : Memory) (l : List ℕ) (t : lines.Tally) (ready : Ready m l t) (i 
     unfolding lines.firstOf
     cuts =
         ap (λ z. judged (stateIn m t) (lines.when 18 z ∷ []) (lines.cutting (clusterAt m) (message ready i here) (lines.dropAt i (clusterAt m .messages)) k)) bad-seen
-        ∙ (condition-judged m l t counts 18 bad [] _ (roomy counts (movePlan step move f)) f (λ z. omega arith)
+        ∙ (condition-judged m l t counts 18 bad [] _ (ifPlacesLeft counts (movePlan step move f)) f (λ z. omega arith)
         (λ e. ap (lines.acceptLine (stateIn m t)) (work-is (broadcast-then e)) ∙ moved-run m l t counts step move f ready possible)
         ∙ ap (planned m l t counts f) (sym plan-is))
 

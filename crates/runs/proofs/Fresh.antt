@@ -18,11 +18,11 @@ use Rattle.cells.specs.Cells.{Front, Cell}
 use Rattle.server.specs.declared.Effect.{Effect}
 use Rattle.server.specs.Views.{flagIn, roleIn, among, roundIn, callIn}
 use Rattle.memory.specs.Rows.{row}
-use Rattle.memory.specs.Layout.{headOf, versionOf, roundOf, callOf, headAt, versionAt, roundAt, callAt, countsAt, putCounts, contentAt}
+use Rattle.memory.specs.Layout.{slotOf, headOf, versionOf, roundOf, callOf, headAt, versionAt, roundAt, callAt, countsAt, putCounts, contentAt}
 use Rattle.messages.specs.Messages.{messagesAt}
 use Rattle.memory.proofs.Records.{counts-putCounts}
 use Rattle.moves.specs.Reactions.{frontIn}
-use Rattle.views.specs.Memory.{Memory, memory, Sized, each, slotOf, tableAt, cellAt, serverOf, serverAt, serversAt, flightAt, standing, clusterIn}
+use Rattle.views.specs.Memory.{Memory, memory, Sized, each, tableAt, cellAt, serverOf, serverAt, serversAt, flightAt, standing, clusterIn}
 use Rattle.views.specs.Changes.{answersAt}
 use Rattle.views.proofs.Each.{each-same}
 use Rattle.plans.specs.Arrays.{Measured}
@@ -104,7 +104,7 @@ unfolding roleIn flagIn
 zero-front k n s h = ap (frontIn n) (zero-head k s) ∙ rw (no-votes n 7 h)
 
 abbrev zeroMemory : Memory → (counts heads slots copies : List ℕ) → Memory
-zeroMemory m c h s k = memory c h s k (m .works) (m .texts) (m .queue) (m .loads)
+zeroMemory m c h s k = memory c h s k (m .working) (m .texts) (m .queue) (m .payloads)
 
 module _ (m : Memory) (counts : List ℕ) (h s k n most : ℕ) (few : n ≤ 7) where
   abbrev z : Memory
@@ -126,9 +126,9 @@ module _ (m : Memory) (counts : List ℕ) (h s k n most : ℕ) (few : n ≤ 7) w
       each-same n (λ r. serverAt n most z r) (λ r. cluster.freshServer n most) (λ r g. zero-server r)
       ∙ each-constant n (cluster.freshServer n most)
 
-no-messages : (queue loads : List ℕ) → flightAt 0 queue loads ≡ []
+no-messages : (queue payloads : List ℕ) → flightAt 0 queue payloads ≡ []
 unfolding flightAt messagesAt blocks zipWith
-no-messages queue loads = refl
+no-messages queue payloads = refl
 
 -- ---- the memory of a fresh cluster
 

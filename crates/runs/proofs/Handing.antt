@@ -23,7 +23,7 @@ use Rattle.server.specs.Views.{flagIn, among, copyIn, markIn, effectIn, chosen}
 use Rattle.rounds.specs.Rounds.{noVersion, pickVersion, pickTable, matching}
 use Rattle.rounds.proofs.RoundLaws.{matching-shut, unmatched}
 use Rattle.memory.specs.declared.Counts.{Counts}
-use Rattle.memory.specs.Layout.{countsAt, headAt, messageAt}
+use Rattle.memory.specs.Layout.{slotOf, countsAt, headAt, messageAt}
 use Rattle.refusals.specs.Refusals.{messageRefusal, noReceiver}
 use Rattle.moves.specs.declared.Local.{Local}
 use Rattle.moves.specs.declared.Move.{Move}
@@ -33,7 +33,7 @@ use Rattle.moves.proofs.CallMoves.{writes-so}
 use Rattle.moves.proofs.Ceasing.{quiet-means}
 use Rattle.moves.proofs.ReplyMoves.{reply-means}
 use Rattle.moves.proofs.Handled.{ReplyMeans, handled-means}
-use Rattle.views.specs.Memory.{Memory, slotOf, tableAt, localAt, callWordsAt, serverAt, clusterAt}
+use Rattle.views.specs.Memory.{Memory, tableAt, localAt, callWordsAt, serverAt, clusterAt}
 use Rattle.views.specs.Queue.{Sound, flight}
 use Rattle.views.proofs.Contents.{tablesAt}
 use Rattle.views.proofs.Queue.{length-flight, message-at}
@@ -69,18 +69,18 @@ module _ {m : Memory} {l : List ℕ} {t : lines.Tally} (ready : Ready m l t) (i 
   asked = messageAt (m .queue) i
 
   abbrev pub message : cluster.Message
-  message = messageIn asked (tableAt (m .loads) i)
+  message = messageIn asked (tableAt (m .payloads) i)
 
-  sound : Sound (flight (m .queue) (m .loads) (countsAt (m .counts) .messages))
-  sound = record { queue = ready .sized .queue; loads = ready .sized .loads; count = measured ready .messages }
+  sound : Sound (flight (m .queue) (m .payloads) (countsAt (m .counts) .messages))
+  sound = record { queue = ready .sized .queue; payloads = ready .sized .payloads; count = measured ready .messages }
 
   pub message-there : lines.messageAt (clusterAt m) i ≡ message
-  message-there = message-at (flight (m .queue) (m .loads) (countsAt (m .counts) .messages)) i _ sound here
+  message-there = message-at (flight (m .queue) (m .payloads) (countsAt (m .counts) .messages)) i _ sound here
 
   pub message-within : MessageWithin n most (limitsAfter maxElection (countsAt (m .counts) .lines)) message
   message-within =
       let c = countsAt (m .counts) in
-      let size = length-flight (flight (m .queue) (m .loads) (c .messages)) in
+      let size = length-flight (flight (m .queue) (m .payloads) (c .messages)) in
       subst (MessageWithin n most (limitsAfter maxElection (c .lines))) message-there (all-at i _ (omega arith) (cluster-within ready .messages))
 
   -- ---- its receiver s
@@ -120,7 +120,7 @@ module _ {m : Memory} {l : List ℕ} {t : lines.Tally} (ready : Ready m l t) (i 
 
       abbrev stepAt : ℕ → Step
       stepAt q =
-          record { server = q; bucket = b; message = i; removes = removes; asked = asked; copied = chosen removes 0 1; delivered = 1; lost = 0; calls = countsAt (m .counts) .calls }
+          record { server = q; bucket = b; place = i; removes = removes; asked = asked; copied = chosen removes 0 1; delivered = 1; lost = 0; calls = countsAt (m .counts) .calls }
 
       abbrev step : Step
       step = stepAt s
@@ -139,7 +139,7 @@ module _ {m : Memory} {l : List ℕ} {t : lines.Tally} (ready : Ready m l t) (i 
       abbrev Replied : ℕ → Bool → Type 0
       Replied mark reports =
           let report = pickVersion reports (asked .version) noVersion in
-          onReply n s message (markIn mark) (copyIn report (pickTable reports (tableAt (m .loads) i) [])) server
+          onReply n s message (markIn mark) (copyIn report (pickTable reports (tableAt (m .payloads) i) [])) server
           ≡ reactionIn n s b (askedIn asked) (replyMove n s (f .result) mark report asked here-local) tables (callWordsAt m k) (valueBytes (f .value)) (tableIn (f .table)) server
 
       -- with no round open it changes nothing
@@ -147,7 +147,7 @@ module _ {m : Memory} {l : List ℕ} {t : lines.Tally} (ready : Ready m l t) (i 
       unfolding replyMove
       shut mark reports d =
           let r = here-local .round in
-          let best = bestIn r (tableAt (m .works) k) in
+          let best = bestIn r (tableAt (m .working) k) in
           let there = ap (λ j. cluster.roundAt (server .volatile) j) (sym on) ∙ round-there n most m s b ours in
           rw (replyMove, matching-shut n r [] (asked .election) (asked .round) d)
           (unmatched n s message (markIn mark) _ server (ap (matching (asked .election) (asked .round)) there ∙ matching-shut n r best (asked .election) (asked .round) d)

@@ -16,18 +16,18 @@ use Rattle.server.specs.declared.Round.{Round}
 use Rattle.server.specs.declared.Effect.{Effect}
 use Rattle.server.specs.Heads.{largerNumberOf}
 use Rattle.server.specs.Views.{among, openIn, roundIn, chosen}
-use Rattle.memory.specs.Layout.{countsAt, headAt, roundAt}
+use Rattle.memory.specs.Layout.{slotOf, countsAt, headAt, roundAt}
 use Rattle.refusals.specs.Refusals.{inside}
 use Rattle.moves.specs.declared.Move.{Move}
-use Rattle.moves.specs.Moves.{electedMove, timedOutMove, stoppedMove}
+use Rattle.moves.specs.Moves.{electedMove, ceasedMove, stoppedMove}
 use Rattle.restarts.specs.Restarts.{restartedMove}
-use Rattle.moves.proofs.LineMoves.{elected-means, timed-out-means, stopped-means}
+use Rattle.moves.proofs.LineMoves.{elected-means, ceased-means, stopped-means}
 use Rattle.restarts.proofs.Starting.{restarted-means}
-use Rattle.views.specs.Memory.{Memory, WholeLocal, slotOf, localAt, clusterAt}
+use Rattle.views.specs.Memory.{Memory, WholeLocal, localAt, clusterAt}
 use Rattle.views.proofs.Seen.{length-servers, larger-there, round-there, server-seen}
-use Rattle.views.proofs.Whole.{whole-at, whole-electedMove, whole-timedOut, whole-stopped, whole-restarted}
+use Rattle.views.proofs.Whole.{whole-at, whole-electedMove, whole-ceased, whole-stopped, whole-restarted}
 use Rattle.plans.specs.declared.Plan.{Plan}
-use Rattle.plans.specs.Plans.{refusedPlan, lineStep, movePlan, roomy, electPlan, timeoutPlan, stopPlan, startPlan, electAt, timeoutAt, stopAt, startAt, loseAt}
+use Rattle.plans.specs.Plans.{refusedPlan, lineStep, movePlan, ifPlacesLeft, electPlan, timeoutPlan, stopPlan, startPlan, electAt, timeoutAt, stopAt, startAt, loseAt}
 use Rattle.runs.specs.Runs.{executed}
 use Rattle.runs.specs.Meaning.{stateIn, resultOf}
 use Rattle.runs.proofs.Accepting.{Ready, Possible, reactionOf}
@@ -95,7 +95,7 @@ module _ (m : Memory) (l : List ℕ) (t : lines.Tally) (f : Effect) (ready : Rea
   line-moves : (s b : ℕ) (v : Move) (r : Reaction) → s < countsIn m .servers → b < countsIn m .buckets → WholeLocal (v .local) → v .fills ≡ 0
       → r ≡ reactionOf m (countsIn m) (lineStep (countsIn m) s b) v f
       → judged (stateIn m t) [] (lines.byLine (clusterAt m) s (countsIn m .calls) r)
-      ≡ planned m l t (countsIn m) f (roomy (countsIn m) (movePlan (lineStep (countsIn m) s b) v f))
+      ≡ planned m l t (countsIn m) f (ifPlacesLeft (countsIn m) (movePlan (lineStep (countsIn m) s b) v f))
   unfolding lines.firstOf
   line-moves s b v r server bucket whole fills means =
       let possible : Possible m (countsIn m) (lineStep (countsIn m) s b) v f =
@@ -113,7 +113,7 @@ module _ (m : Memory) (l : List ℕ) (t : lines.Tally) (f : Effect) (ready : Rea
 
   elect-moves : (s : ℕ) → s < countsIn m .servers → 0 < countsIn m .buckets → largerNumberOf (headAt (m .heads) s) < maxElection
       → judged (stateIn m t) [] (lines.work (clusterAt m) (lines.elect s))
-      ≡ planned m l t (countsIn m) f (roomy (countsIn m) (movePlan (lineStep (countsIn m) s 0) (electedMove (countsIn m .servers) s (localAt m s (slotOf s 0))) f))
+      ≡ planned m l t (countsIn m) f (ifPlacesLeft (countsIn m) (movePlan (lineStep (countsIn m) s 0) (electedMove (countsIn m .servers) s (localAt m s (slotOf s 0))) f))
   unfolding lines.work electedMove
   elect-moves s h k low =
       let n = countsIn m .servers in
@@ -130,12 +130,12 @@ module _ (m : Memory) (l : List ℕ) (t : lines.Tally) (f : Effect) (ready : Rea
 
   timeout-moves : (s b : ℕ) → s < countsIn m .servers → b < countsIn m .buckets
       → judged (stateIn m t) [] (lines.work (clusterAt m) (lines.timeout s b))
-      ≡ planned m l t (countsIn m) f (roomy (countsIn m) (movePlan (lineStep (countsIn m) s b) (timedOutMove (localAt m s (slotOf s b))) f))
+      ≡ planned m l t (countsIn m) f (ifPlacesLeft (countsIn m) (movePlan (lineStep (countsIn m) s b) (ceasedMove (localAt m s (slotOf s b))) f))
   unfolding lines.work
   timeout-moves s b h k =
       let n = countsIn m .servers in
-      line-moves s b _ _ h k (whole-timedOut _ (whole-at m s (slotOf s b))) refl
-      (ap cease (server-stands m s h) ∙ timed-out-means n s b _ _ _ _ _ _ _ (server-seen n (countsIn m .buckets) m s b k))
+      line-moves s b _ _ h k (whole-ceased _ (whole-at m s (slotOf s b))) refl
+      (ap cease (server-stands m s h) ∙ ceased-means n s b _ _ _ _ _ _ _ (server-seen n (countsIn m .buckets) m s b k))
 
   pub timeout-runs : (s b : ℕ) → lines.perform (stateIn m t) (lines.timeout s b) ≡ resultOf t (executed m l (countsAt (m .counts)) (timeoutAt m (countsAt (m .counts)) s b f)) f
   unfolding lines.conditionsUpTo lines.noBucket timeoutAt timeoutPlan
@@ -146,7 +146,7 @@ module _ (m : Memory) (l : List ℕ) (t : lines.Tally) (f : Effect) (ready : Rea
 
   stop-moves : (s : ℕ) → s < countsIn m .servers → 0 < countsIn m .buckets
       → judged (stateIn m t) [] (lines.work (clusterAt m) (lines.stop s))
-      ≡ planned m l t (countsIn m) f (roomy (countsIn m) (movePlan (lineStep (countsIn m) s 0) (stoppedMove (localAt m s (slotOf s 0))) f))
+      ≡ planned m l t (countsIn m) f (ifPlacesLeft (countsIn m) (movePlan (lineStep (countsIn m) s 0) (stoppedMove (localAt m s (slotOf s 0))) f))
   unfolding lines.work
   stop-moves s h k =
       let n = countsIn m .servers in
@@ -161,7 +161,7 @@ module _ (m : Memory) (l : List ℕ) (t : lines.Tally) (f : Effect) (ready : Rea
 
   start-moves : (s : ℕ) → s < countsIn m .servers → 0 < countsIn m .buckets
       → judged (stateIn m t) [] (lines.work (clusterAt m) (lines.start s))
-      ≡ planned m l t (countsIn m) f (roomy (countsIn m) (movePlan (lineStep (countsIn m) s 0) (restartedMove (localAt m s (slotOf s 0))) f))
+      ≡ planned m l t (countsIn m) f (ifPlacesLeft (countsIn m) (movePlan (lineStep (countsIn m) s 0) (restartedMove (localAt m s (slotOf s 0))) f))
   unfolding lines.work restartedMove
   start-moves s h k =
       let n = countsIn m .servers in

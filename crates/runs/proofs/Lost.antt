@@ -27,41 +27,41 @@ use Rattle.runs.proofs.Standing.{measured-standing, measured, standing-
 
 -- ---- the messages that stay
 
-module _ (m : Memory) (c : Counts) (x : Step) (sized : Sized m) (few : c .messages ≤ 64) (there : x .removes ≡ true → x .message < c .messages) where
-  all-sound : Sound (flight (m .queue) (m .loads) (c .messages))
-  all-sound = record { queue = sized .queue; loads = sized .loads; count = few }
+module _ (m : Memory) (c : Counts) (x : Step) (sized : Sized m) (few : c .messages ≤ 64) (there : x .removes ≡ true → x .place < c .messages) where
+  all-sound : Sound (flight (m .queue) (m .payloads) (c .messages))
+  all-sound = record { queue = sized .queue; payloads = sized .payloads; count = few }
 
   pub left-sound : Sound (leftFlight m c x)
   unfolding withoutMessage
   left-sound = go (x .removes) refl
     where
-      go : (r : Bool) → x .removes ≡ r → Sound (withoutMessage r (x .message) (flight (m .queue) (m .loads) (c .messages)))
-      go true e = removed-sound (x .message) (flight (m .queue) (m .loads) (c .messages)) all-sound (there e) true
+      go : (r : Bool) → x .removes ≡ r → Sound (withoutMessage r (x .place) (flight (m .queue) (m .payloads) (c .messages)))
+      go true e = removed-sound (x .place) (flight (m .queue) (m .payloads) (c .messages)) all-sound (there e) true
       go false e = all-sound
 
-  pub left-messages : flightIn (leftFlight m c x) ≡ keptMessages (x .removes) (x .message) (flightAt (c .messages) (m .queue) (m .loads))
+  pub left-messages : flightIn (leftFlight m c x) ≡ keptMessages (x .removes) (x .place) (flightAt (c .messages) (m .queue) (m .payloads))
   unfolding withoutMessage
   left-messages = go (x .removes) refl
     where
       go : (r : Bool) → x .removes ≡ r
-          → flightIn (withoutMessage r (x .message) (flight (m .queue) (m .loads) (c .messages))) ≡ keptMessages r (x .message) (flightAt (c .messages) (m .queue) (m .loads))
-      go true e = removed-flight (x .message) (flight (m .queue) (m .loads) (c .messages)) all-sound (there e)
+          → flightIn (withoutMessage r (x .place) (flight (m .queue) (m .payloads) (c .messages))) ≡ keptMessages r (x .place) (flightAt (c .messages) (m .queue) (m .payloads))
+      go true e = removed-flight (x .place) (flight (m .queue) (m .payloads) (c .messages)) all-sound (there e)
       go false e = refl
 
 pub left-count : (m : Memory) (c : Counts) (x : Step) → leftFlight m c x .count ≡ c .messages - chosen (x .removes) 1 0
 unfolding chosen
 left-count m c x = go (x .removes)
   where
-    go : (r : Bool) → withoutMessage r (x .message) (flight (m .queue) (m .loads) (c .messages)) .count ≡ c .messages - chosen r 1 0
-    go true = removed-count true (x .message) (flight (m .queue) (m .loads) (c .messages))
-    go false = removed-count false (x .message) (flight (m .queue) (m .loads) (c .messages)) ∙ omega arith
+    go : (r : Bool) → withoutMessage r (x .place) (flight (m .queue) (m .payloads) (c .messages)) .count ≡ c .messages - chosen r 1 0
+    go true = removed-count true (x .place) (flight (m .queue) (m .payloads) (c .messages))
+    go false = removed-count false (x .place) (flight (m .queue) (m .payloads) (c .messages)) ∙ omega arith
 
 -- ---- one more line
 
 pub next-cluster : (m n : Memory) (c : Counts) (k j : ℕ) → length (m .counts) ≡ 8 → Measured c → c .lines ≤ maxAccepted → k ≤ 64
     → n .counts ≡ putCounts (m .counts) (nextCounts c k j)
     → clusterIn n
-    ≡ some (record { servers = serversAt (c .servers) (c .buckets) n; buckets = c .buckets; messages = flightAt k (n .queue) (n .loads); accepted = c .lines + 1; calls = j })
+    ≡ some (record { servers = serversAt (c .servers) (c .buckets) n; buckets = c .buckets; messages = flightAt k (n .queue) (n .payloads); accepted = c .lines + 1; calls = j })
 next-cluster m n c k j size measured lines few e =
     let counts : countsAt (n .counts) ≡ nextCounts c k j = ap countsAt e ∙ counts-putCounts (m .counts) (nextCounts c k j) (omega arith) in
     let next : (c .lines + 1) % 2 ^ 32 ≡ c .lines + 1 = mod-eq-of-lt (omega arith) in
@@ -70,7 +70,7 @@ next-cluster m n c k j size measured lines few e =
     standing-cluster n (rw counts (measured-standing (nextCounts c k j) stays)) ∙ rw (counts, next)
 
 -- servers look at neither counts nor messages
-pub servers-beside : (n most : ℕ) (m : Memory) (c q l : List ℕ) → serversAt n most (memory c (m .heads) (m .slots) (m .copies) (m .works) (m .texts) q l) ≡ serversAt n most m
+pub servers-beside : (n most : ℕ) (m : Memory) (c q l : List ℕ) → serversAt n most (memory c (m .heads) (m .slots) (m .copies) (m .working) (m .texts) q l) ≡ serversAt n most m
 unfolding serversAt serverAt cellAt
 servers-beside n most m c q l = refl
 
@@ -80,8 +80,8 @@ module _ (m : Memory) (l : List ℕ) (t : lines.Tally) (x : Step) (f : Effect) (
   abbrev c : Counts
   c = countsAt (m .counts)
 
-  lost-does : x .calls ≡ c .calls → (x .removes ≡ true → x .message < c .messages)
-      → Does (lines.lostMessage (clusterAt m) (keptMessages (x .removes) (x .message) (clusterAt m .messages)) (x .copied)) (lostRun m l c x) f
+  lost-does : x .calls ≡ c .calls → (x .removes ≡ true → x .place < c .messages)
+      → Does (lines.lostMessage (clusterAt m) (keptMessages (x .removes) (x .place) (clusterAt m .messages)) (x .copied)) (lostRun m l c x) f
   unfolding lostRun answersAt each
   lost-does calls there =
       let sound = left-sound m c x (ready .sized) (measured ready .messages) there in

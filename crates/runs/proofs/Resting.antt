@@ -16,9 +16,9 @@ use Rattle.limits.specs.Measures.{Limits, limitsAfter, Fits, CopyWithin, WordsS
 use Rattle.server.specs.declared.Round.{Round}
 use Rattle.server.specs.declared.Call.{Call}
 use Rattle.server.specs.Views.{among, roundIn, callIn}
-use Rattle.memory.specs.Layout.{headAt, versionAt, roundAt, callAt, countsAt}
+use Rattle.memory.specs.Layout.{slotOf, headAt, versionAt, roundAt, callAt, countsAt}
 use Rattle.moves.specs.Reactions.{bestIn}
-use Rattle.views.specs.Memory.{Memory, slotOf, tableAt, callWordsAt, serverAt, serversAt, clusterAt}
+use Rattle.views.specs.Memory.{Memory, tableAt, callWordsAt, serverAt, serversAt, clusterAt}
 use Rattle.views.proofs.Seen.{length-servers, server-there, copy-there, round-there, call-there}
 use Rattle.runs.proofs.Accepting.{Ready}
 
@@ -108,5 +108,5 @@ module _ {m : Memory} {l : List ℕ} {t : lines.Tally} (ready : Ready m l t) (s 
   call-open =
       let k = slotOf s b in
       let r = roundAt (m .slots) k in
-      opened limits n r (bestIn r (tableAt (m .works) k)) (callAt (m .slots) k) (callWordsAt m k)
+      opened limits n r (bestIn r (tableAt (m .working) k)) (callAt (m .slots) k) (callWordsAt m k)
       (rw (round-there n most m s b bucket, call-there n most m s b bucket) at (slot-call (server-within .slots b bucket)))

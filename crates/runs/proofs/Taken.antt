@@ -5,8 +5,8 @@ use mathlib.Core.List.{List}
 use Prim.Native.Nat.{ℕ, _<_}
 use Rattle.model.specs.Lines as lines
 use Rattle.server.specs.Views.{among, wordsIn}
-use Rattle.memory.specs.Layout.{slotRoom, countsAt, callAt, Whole}
-use Rattle.views.specs.Memory.{Memory, Sized, slotOf, localAt, callWordsAt, clusterAt}
+use Rattle.memory.specs.Layout.{slotRoom, slotOf, countsAt, callAt, Whole}
+use Rattle.views.specs.Memory.{Memory, Sized, localAt, callWordsAt, clusterAt}
 use Rattle.views.proofs.Words.{worded, worded-local, worded-words, worded-sized, worded-servers}
 use Rattle.plans.specs.declared.Plan.{Plan}
 use Rattle.runs.specs.Runs.{taken}

@@ -12,7 +12,7 @@ use Rattle.hash.specs.Fnv.{bucketOf}
 use Rattle.entries.specs.declared.Key.{Key}
 use Rattle.entries.specs.declared.Value.{Value}
 use Rattle.entries.specs.declared.Item.{Item}
-use Rattle.entries.specs.Decoded.{keyBytes, valueBytes, itemIn, absentItem}
+use Rattle.entries.specs.Decoded.{keyBytes, valueBytes, itemIn, noKey, absentItem}
 use Rattle.model.specs.Calls as calls
 use Rattle.model.specs.Cluster as cluster
 use Rattle.model.specs.Lines as lines
@@ -24,7 +24,7 @@ use Rattle.memory.specs.declared.Counts.{Counts}
 use Rattle.memory.specs.Layout.{Whole}
 use Rattle.parse.specs.Kept.{keyIn, valueIn, givenIn}
 use Rattle.parse.specs.Meaning.{expectedItem, newItem}
-use Rattle.plans.specs.Plans.{noKey, badKey, badItem, badLengths, callBucket}
+use Rattle.plans.specs.Plans.{badKey, badItem, badLengths, callBucket}
 use Rattle.parse.specs.declared.Kind.the-variants as K
 use Rattle.parse.specs.declared.Line.{Line}
 use Rattle.runs.specs.Runs.{wordsWith, wordsOf}

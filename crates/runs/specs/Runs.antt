@@ -5,29 +5,28 @@ use mathlib.Core.List.{List}
 use Prim.Native.Nat.{ℕ, _+_, _%_, _^_}
 use lib.Dec.{eqb}
 use lib.ListN.{replicate}
-use Rattle.entries.specs.Decoded.{absentItem, tableIn}
+use Rattle.entries.specs.Decoded.{noKey, absentItem, tableIn}
 use Rattle.entries.specs.Entries.{Entry}
 use Rattle.table.specs.Form.{within}
 use Rattle.model.specs.Measures.{maxServers, maxBuckets}
 use Rattle.entries.specs.declared.Key.{Key}
 use Rattle.entries.specs.declared.Item.{Item}
-use Rattle.model.specs.Calls as calls
 use Rattle.server.specs.declared.Words.{Words}
 use Rattle.server.specs.Views.{effectIn, wordsIn}
 use Rattle.server.specs.declared.Effect.{Effect}
 use Rattle.memory.specs.declared.Counts.{Counts}
-use Rattle.memory.specs.Layout.{countsAt, messageAt, putCounts, putWords, putTexts}
+use Rattle.memory.specs.Layout.{slotOf, countsAt, messageAt, putCounts, putWords, putTexts}
 use Rattle.refusals.specs.Refusals.{inside, sendCount, messageRefusal}
 use Rattle.moves.specs.declared.Move.{Move}
 use Rattle.moves.specs.Moves.{readsTable}
 use Rattle.moves.specs.Reactions.{EffectNeeded}
-use Rattle.views.specs.Memory.{Memory, memory, standing, slotOf, localAt, tableAt}
+use Rattle.views.specs.Memory.{Memory, memory, standing, localAt, tableAt}
 use Rattle.views.specs.Changes.{moved, answered}
 use Rattle.views.specs.Queue.{Flight, flight, withoutMessage, sent}
 use Rattle.plans.specs.declared.Step.{Step}
 use Rattle.plans.specs.declared.Plan.{Plan}
 use Rattle.plans.specs.Arrays.{askedAt}
-use Rattle.plans.specs.Plans.{badLengths, noKey, noWords, refusedPlan, callBucket, messageStep, gone, receiverAt, electAt, timeoutAt, stopAt, startAt, callAt, handAt, loseAt, cutAt}
+use Rattle.plans.specs.Plans.{badLengths, noWords, refusedPlan, callBucket, messageStep, gone, receiverAt, electAt, timeoutAt, stopAt, startAt, callAt, handAt, loseAt, cutAt}
 use Rattle.parse.specs.declared.Kind.{Kind}
 use Rattle.parse.specs.declared.Kind.the-variants as K
 use Rattle.parse.specs.declared.Line.{Line}
@@ -72,14 +71,14 @@ nextCounts c messages calls =
 
 -- the messages once the one handed over has left the list
 abbrev pub leftFlight : Memory → Counts → Step → Flight
-leftFlight m c x = withoutMessage (x .removes) (x .message) (flight (m .queue) (m .loads) (c .messages))
+leftFlight m c x = withoutMessage (x .removes) (x .place) (flight (m .queue) (m .payloads) (c .messages))
 
 -- a message is lost
 unfoldable pub lostRun : Memory → List ℕ → Counts → Step → Ran
 lostRun m l c x =
     let y = leftFlight m c x in
     record {
-      memory = memory (putCounts (m .counts) (nextCounts c (y .count) (x .calls))) (m .heads) (m .slots) (m .copies) (m .works) (m .texts) (y .queue) (y .loads);
+      memory = memory (putCounts (m .counts) (nextCounts c (y .count) (x .calls))) (m .heads) (m .slots) (m .copies) (m .working) (m .texts) (y .queue) (y .payloads);
       answers = l;
       refusal = 0;
       count = 0;
@@ -92,7 +91,7 @@ lostRun m l c x =
 
 -- a move is carried out: the server's arrays, then the messages
 abbrev pub movedAt : Memory → Counts → Step → Move → List Entry → Memory
-movedAt m c x v made = moved m (c .buckets) (x .server) (x .bucket) (x .message) v made
+movedAt m c x v made = moved m (c .buckets) (x .server) (x .bucket) (x .place) v made
 
 abbrev pub sentFlight : Memory → Counts → Step → Move → List Entry → Flight
 sentFlight m c x v made =
@@ -103,7 +102,7 @@ sentFlight m c x v made =
     (slotOf (x .server) (x .bucket))
     (x .asked)
     v
-    (movedAt m c x v made .works)
+    (movedAt m c x v made .working)
     (movedAt m c x v made .copies)
     (leftFlight m c x)
 
@@ -113,7 +112,7 @@ carriedRun m l c x v made =
     let y = sentFlight m c x v made in
     let w = answered (m .slots) (c .buckets) (x .server) v l in
     record {
-      memory = memory (putCounts (m .counts) (nextCounts c (y .count) (x .calls))) (m1 .heads) (m1 .slots) (m1 .copies) (m1 .works) (m .texts) (y .queue) (y .loads);
+      memory = memory (putCounts (m .counts) (nextCounts c (y .count) (x .calls))) (m1 .heads) (m1 .slots) (m1 .copies) (m1 .working) (m .texts) (y .queue) (y .payloads);
       answers = w .answers;
       refusal = 0;
       count = w .count;
@@ -129,7 +128,7 @@ unfoldable pub taken : Memory → Plan → Memory
 taken m p =
     let k = slotOf (p .step .server) (p .step .bucket) in
     elim (p .takes) [
-      | true ↦ memory (m .counts) (m .heads) (putWords (m .slots) k (p .words)) (m .copies) (m .works) (putTexts (m .texts) k (p .words)) (m .queue) (m .loads)
+      | true ↦ memory (m .counts) (m .heads) (putWords (m .slots) k (p .words)) (m .copies) (m .working) (putTexts (m .texts) k (p .words)) (m .queue) (m .payloads)
       | false ↦ m
     ]
 
@@ -149,7 +148,7 @@ freshCounts n b = record { servers = n; buckets = b; messages = 0; lines = 0; ca
 -- all numbers 0, all copies empty; what no server, round, call or message looks at stays
 unfoldable pub freshMemory : Memory → ℕ → ℕ → Memory
 freshMemory m n b =
-    memory (putCounts (m .counts) (freshCounts n b)) (replicate 112 0) (replicate 1792 0) (replicate 7168 0) (m .works) (m .texts) (m .queue) (m .loads)
+    memory (putCounts (m .counts) (freshCounts n b)) (replicate 112 0) (replicate 1792 0) (replicate 7168 0) (m .working) (m .texts) (m .queue) (m .payloads)
 
 unfoldable pub createdRun : Memory → List ℕ → ℕ → ℕ → Ran
 createdRun m l n b =

@@ -1,5 +1,6 @@
 // What a line comes to: its report, and the tally after it. What a line leaves in the lent arrays is said in specs/Runs.antt, and what that
 // stands for in specs/Meaning.antt.
+use refusals::codes::NONE;
 use server::Effect;
 use std::num::wrapping_add_u32;
 ghost use mathlib.Core.Path.{_≡_};
@@ -29,17 +30,17 @@ pub struct Tally {
 }
 
 // The tally after a line: a refused one leaves it as it was.
-pub fn tally_after(t: Tally, r: Report) -> Tally
-    ensures { λ u. ⌜ u ≡ tallyAfter t r ⌝ }
+pub fn tally_after(tally: Tally, report: Report) -> Tally
+    ensures { λ u. ⌜ u ≡ tallyAfter tally report ⌝ }
 {
-    if r.refusal == 0 {
+    if report.refusal == NONE {
         return Tally {
-            sent: wrapping_add_u32(t.sent, r.sent),
-            copied: wrapping_add_u32(t.copied, r.copied),
-            delivered: wrapping_add_u32(t.delivered, r.delivered),
-            lost: wrapping_add_u32(t.lost, r.lost),
-            flight: r.messages,
+            sent: wrapping_add_u32(tally.sent, report.sent),
+            copied: wrapping_add_u32(tally.copied, report.copied),
+            delivered: wrapping_add_u32(tally.delivered, report.delivered),
+            lost: wrapping_add_u32(tally.lost, report.lost),
+            flight: report.messages,
         };
     }
-    t
+    tally
 }

@@ -1,4 +1,5 @@
 // The rules of one server on small structs by value. What each number stands for is said in specs/Views.antt.
+use crate::measures::SERVERS;
 use entries::Decoded;
 use entries::Item;
 use entries::Key;
@@ -25,16 +26,17 @@ pub struct Head {
     pub role: u32,
     pub last: u32,
     pub stopped: u32,
-    pub votes: [u32; 7],
+    pub votes: [u32; SERVERS],
 }
 
-// An open round: one mark for each server beside its numbers. With purpose 0 no round is open.
+// An open round: one mark for each server beside its numbers. Open with a purpose from RECOVERY_READ to OWN_WRITE; with any
+// other word, as NO_ROUND, none is.
 pub struct Round {
     pub purpose: u32,
     pub number: u32,
     pub election: u32,
     pub best: Version,
-    pub marks: [u32; 7],
+    pub marks: [u32; SERVERS],
 }
 
 // A round with a reply counted, and whether the reported copy is now the best one.
@@ -43,7 +45,7 @@ pub struct Counted {
     pub better: bool,
 }
 
-// An open call beside its words. With kind 0 no call is open.
+// An open call beside its words. Open with a kind from GET to KEYS; with any other word, as NO_CALL, none is.
 pub struct Call {
     pub kind: u32,
     pub number: u32,
@@ -51,7 +53,7 @@ pub struct Call {
     pub sent: u32,
 }
 
-// The words of a call: kinds 1 get, 2 set, 3 setif, 4 del, 5 keys.
+// The words of a call: kinds GET, SET, SETIF, DEL and KEYS.
 pub struct Words {
     pub kind: u32,
     pub bucket: u32,
@@ -67,8 +69,8 @@ pub struct Answer {
     pub rounds: u32,
 }
 
-// What is left to do once the table is read: with result 0 the table is to be written, otherwise the call is answered. The
-// value counts with result 1; with result 8 the key is absent.
+// What is left to do once the table is read: with NO_RESULT the table is to be written, otherwise the call is answered. The
+// value counts with VALUE; with ABSENT there is none.
 pub struct Effect {
     pub value: Value,
     pub table: Decoded,
@@ -88,7 +90,7 @@ pub struct Message {
 
 // How a server handles a message.
 pub enum Handling {
-    // a vote message: 1 PLEASEVOTE, 2 ACKVOTE, 3 NACKVOTE
+    // a vote message: PLEASE_VOTE, ACK_VOTE or NACK_VOTE
     Vote(u32),
     // REPLICAWRITE or REPLICAREAD
     Request { writes: bool },

@@ -1,5 +1,6 @@
 // Majorities, the larger of two numbers, the order of versions, how often a number stands in seven places, and a choice of a number.
 use crate::Version;
+use crate::measures::SERVERS;
 use entries::keys::at_most;
 ghost use mathlib.Core.Path.{_≡_};
 ghost use Prim.Native.Nat.{max};
@@ -9,11 +10,11 @@ ghost use Rattle.model.specs.Cluster.{above};
 ghost use Rattle.server.specs.Views.{versionIn, chosen};
 ghost use Rattle.server.specs.Counts.{countOf};
 
-// A majority of n servers: half of them, rounded down, plus one.
-pub fn majority(n: u32) -> u32
-    ensures { λ r. ⌜ r ≡ majority n ⌝ }
+// A majority of the servers: half of them, rounded down, plus one.
+pub fn majority(servers: u32) -> u32
+    ensures { λ r. ⌜ r ≡ majority servers ⌝ }
 {
-    n / 2 + 1
+    servers / 2 + 1
 }
 
 // The larger of two numbers.
@@ -23,25 +24,25 @@ pub fn larger(a: u32, b: u32) -> u32
     if a < b { b } else { a }
 }
 
-// Whether version v is above w.
-pub fn above(v: Version, w: Version) -> bool
-    ensures { λ r. ⌜ r ≡ above (versionIn v) (versionIn w) ⌝ }
+// Whether a version is above another.
+pub fn above(version: Version, other: Version) -> bool
+    ensures { λ r. ⌜ r ≡ above (versionIn version) (versionIn other) ⌝ }
 {
-    if v.election == w.election {
-        return w.counter < v.counter;
+    if version.election == other.election {
+        return other.counter < version.counter;
     }
-    w.election < v.election
+    other.election < version.election
 }
 
-// How many of the first n places hold x.
-pub fn count(n: u32, places: [u32; 7], x: u32) -> u32
-    ensures { λ r. ⌜ r ≡ countOf x (take n places) ⌝ }
+// How many of the places of that many servers hold the word.
+pub fn count(servers: u32, places: [u32; SERVERS], word: u32) -> u32
+    ensures { λ r. ⌜ r ≡ countOf word (take servers places) ⌝ }
 {
-    let m = at_most(n as usize, 7);
+    let top = at_most(servers as usize, SERVERS);
     let mut found = 0;
     let mut i = 0;
-    while i < m {
-        if places[i] == x {
+    while i < top {
+        if places[i] == word {
             found += 1;
         }
         i += 1;
@@ -49,36 +50,36 @@ pub fn count(n: u32, places: [u32; 7], x: u32) -> u32
     found
 }
 
-// Seven places with x at q; there is none at 7 or above.
-pub fn placed(places: [u32; 7], q: u32, x: u32) -> [u32; 7]
-    ensures { λ r. ⌜ r ≡ set places q x ⌝ }
+// The places with the word at one of them; there is none at SERVERS or above.
+pub fn placed(places: [u32; SERVERS], at: u32, word: u32) -> [u32; SERVERS]
+    ensures { λ r. ⌜ r ≡ set places at word ⌝ }
 {
-    let mut a = places;
-    let i = q as usize;
-    if i < 7 {
-        a[i] = x;
-        return a;
+    let mut after = places;
+    let i = at as usize;
+    if i < SERVERS {
+        after[i] = word;
+        return after;
     }
-    a
+    after
 }
 
-// What stands at q among the first n places, and `past` where there is none.
-pub fn place_at(n: u32, places: [u32; 7], q: u32, past: u32) -> u32
-    ensures { λ r. ⌜ r ≡ getD (take n places) q past ⌝ }
+// What stands at one of the places of that many servers, and `past` where there is none.
+pub fn place_at(servers: u32, places: [u32; SERVERS], at: u32, past: u32) -> u32
+    ensures { λ r. ⌜ r ≡ getD (take servers places) at past ⌝ }
 {
-    if n <= q {
+    if servers <= at {
         return past;
     }
-    let i = q as usize;
-    if 7 <= i {
+    let i = at as usize;
+    if SERVERS <= i {
         return past;
     }
     places[i]
 }
 
 // A choice of a number.
-pub fn chosen(b: bool, x: u32, y: u32) -> u32
-    ensures { λ r. ⌜ r ≡ chosen b x y ⌝ }
+pub fn chosen(test: bool, yes: u32, no: u32) -> u32
+    ensures { λ r. ⌜ r ≡ chosen test yes no ⌝ }
 {
-    if b { x } else { y }
+    if test { yes } else { no }
 }

@@ -5,6 +5,7 @@ use crate::codes::FOLLOWER;
 use crate::codes::LEADING;
 use crate::codes::VOTED;
 use crate::measures::MAX_ELECTION;
+use crate::measures::SERVERS;
 use crate::numbers::count;
 use crate::numbers::larger;
 use crate::numbers::majority;
@@ -20,79 +21,79 @@ ghost use Rattle.model.specs.Leader.{withStored, cease, votesFor, standing, ele
 ghost use Rattle.server.specs.Views.{Beside, serverIn, storedIn, volatileIn, votesIn, idle};
 ghost use Rattle.server.specs.Heads.{votingHead, afterVoteHead, ceasedHead, votedHead, roleBy, standingHead, largerNumberOf, nextNumberOf, electedHead, onAckVoteHead};
 
-// Whether a vote for p under e is given.
-pub fn grants(e: u32, p: u32, h: Head) -> bool
-    ensures { λ r. ⌜ r ≡ grants e p (storedIn h []) ⌝ }
+// Whether a vote for this leader under this number is given.
+pub fn grants(election: u32, leader: u32, head: Head) -> bool
+    ensures { λ r. ⌜ r ≡ grants election leader (storedIn head []) ⌝ }
 {
-    if h.vote < e {
+    if head.vote < election {
         return true;
     }
-    if e == h.vote {
-        return p == h.leader;
+    if election == head.vote {
+        return leader == head.leader;
     }
     false
 }
 
-// Whether a replica accepts a request under e.
-pub fn may_accept(e: u32, h: Head) -> bool
-    ensures { λ r. ⌜ r ≡ mayAccept e (storedIn h []) ⌝ }
+// Whether a replica accepts a request under this number.
+pub fn may_accept(election: u32, head: Head) -> bool
+    ensures { λ r. ⌜ r ≡ mayAccept election (storedIn head []) ⌝ }
 {
-    if e < h.vote { false } else { true }
+    if election < head.vote { false } else { true }
 }
 
-// The vote goes to p under e.
-pub fn voting(e: u32, p: u32, h: Head) -> Head
-    ensures is { λ r. ⌜ r ≡ votingHead e p h ⌝ }
-    ensures means { λ r. ⌜ ((n : ℕ) (x : Beside) → serverIn n x r ≡ withStored (serverIn n x h) (voting e p (storedIn h (x .copies)))) ⌝ }
+// The vote goes to this leader under this number.
+pub fn voting(election: u32, leader: u32, head: Head) -> Head
+    ensures is { λ r. ⌜ r ≡ votingHead election leader head ⌝ }
+    ensures means { λ r. ⌜ ((n : ℕ) (x : Beside) → serverIn n x r ≡ withStored (serverIn n x head) (voting election leader (storedIn head (x .copies)))) ⌝ }
 {
-    let mut a = h;
-    a.vote = e;
-    a.leader = p;
-    a
+    let mut after = head;
+    after.vote = election;
+    after.leader = leader;
+    after
 }
 
-// What is stored after PLEASEVOTE of p under e.
-pub fn after_vote(e: u32, p: u32, h: Head) -> Head
-    ensures is { λ r. ⌜ r ≡ afterVoteHead e p h ⌝ }
-    ensures means { λ r. ⌜ ((n : ℕ) (x : Beside) → serverIn n x r ≡ withStored (serverIn n x h) (afterVote e p (storedIn h (x .copies)))) ⌝ }
+// What is stored after PLEASEVOTE of this leader under this number.
+pub fn after_vote(election: u32, leader: u32, head: Head) -> Head
+    ensures is { λ r. ⌜ r ≡ afterVoteHead election leader head ⌝ }
+    ensures means { λ r. ⌜ ((n : ℕ) (x : Beside) → serverIn n x r ≡ withStored (serverIn n x head) (afterVote election leader (storedIn head (x .copies)))) ⌝ }
 {
-    if h.vote < e {
-        return voting(e, p, h);
+    if head.vote < election {
+        return voting(election, leader, head);
     }
-    h
+    head
 }
 
 // Whether the vote is above the server's own number, so that it cannot lead or stand.
-pub fn must_step_down(h: Head) -> bool
-    ensures { λ r. ⌜ r ≡ ltb (storedIn h [] .number) (storedIn h [] .vote) ⌝ }
+pub fn must_step_down(head: Head) -> bool
+    ensures { λ r. ⌜ r ≡ ltb (storedIn head [] .number) (storedIn head [] .vote) ⌝ }
 {
-    h.number < h.vote
+    head.number < head.vote
 }
 
 // Neither leader nor candidate.
-pub fn ceased(h: Head) -> Head
-    ensures is { λ r. ⌜ r ≡ ceasedHead h ⌝ }
-    ensures means { λ r. ⌜ ((n : ℕ) (x : Beside) → serverIn n (idle x) r ≡ cease (serverIn n x h) .server) ⌝ }
+pub fn ceased(head: Head) -> Head
+    ensures is { λ r. ⌜ r ≡ ceasedHead head ⌝ }
+    ensures means { λ r. ⌜ ((n : ℕ) (x : Beside) → serverIn n (idle x) r ≡ cease (serverIn n x head) .server) ⌝ }
 {
-    let mut a = h;
-    a.role = FOLLOWER;
-    a.votes = [0u32; 7];
-    a
+    let mut after = head;
+    after.role = FOLLOWER;
+    after.votes = [0u32; SERVERS];
+    after
 }
 
-// The votes had among n servers.
-pub fn votes_for(n: u32, h: Head) -> u32
-    ensures { λ r. ⌜ r ≡ votesFor (votesIn n h) ⌝ }
+// The votes had among the servers.
+pub fn votes_for(servers: u32, head: Head) -> u32
+    ensures { λ r. ⌜ r ≡ votesFor (votesIn servers head) ⌝ }
 {
-    let votes = h.votes;
-    count(n, votes, VOTED)
+    let votes = head.votes;
+    count(servers, votes, VOTED)
 }
 
 // Leader with a majority of votes, candidate with fewer.
-fn role_by(n: u32, votes: u32) -> u32
-    ensures { λ r. ⌜ r ≡ roleBy n votes ⌝ }
+fn role_by(servers: u32, votes: u32) -> u32
+    ensures { λ r. ⌜ r ≡ roleBy servers votes ⌝ }
 {
-    if majority(n) <= votes {
+    if majority(servers) <= votes {
         LEADING
     } else {
         CANDIDATE
@@ -100,60 +101,60 @@ fn role_by(n: u32, votes: u32) -> u32
 }
 
 // The role goes by the votes had.
-pub fn standing(n: u32, h: Head) -> Head
-    ensures is { λ r. ⌜ r ≡ standingHead n h ⌝ }
-    ensures means { λ r. ⌜ ((x : Beside) → volatileIn n r (x .rounds) (x .calls) ≡ standing n (votesIn n h) (volatileIn n h (x .rounds) (x .calls))) ⌝ }
+pub fn standing(servers: u32, head: Head) -> Head
+    ensures is { λ r. ⌜ r ≡ standingHead servers head ⌝ }
+    ensures means { λ r. ⌜ ((x : Beside) → volatileIn servers r (x .rounds) (x .calls) ≡ standing servers (votesIn servers head) (volatileIn servers head (x .rounds) (x .calls))) ⌝ }
 {
-    let mut a = h;
-    a.role = role_by(n, votes_for(n, h));
-    a
+    let mut after = head;
+    after.role = role_by(servers, votes_for(servers, head));
+    after
 }
 
-// The vote of server q is had.
-fn voted(q: u32, h: Head) -> Head
-    ensures { λ r. ⌜ r ≡ votedHead q h ⌝ }
+// The vote of this server is had.
+fn voted(voter: u32, head: Head) -> Head
+    ensures { λ r. ⌜ r ≡ votedHead voter head ⌝ }
 {
-    let old = h.votes;
-    let votes = placed(old, q, VOTED);
-    let mut a = h;
-    a.votes = votes;
-    a
+    let old = head.votes;
+    let votes = placed(old, voter, VOTED);
+    let mut after = head;
+    after.votes = votes;
+    after
 }
 
 // 11: whether there is no number left to stand under.
-pub fn last_number(h: Head) -> bool
-    ensures { λ r. ⌜ r ≡ leb maxElection (largerNumberOf h) ⌝ }
+pub fn last_number(head: Head) -> bool
+    ensures { λ r. ⌜ r ≡ leb maxElection (largerNumberOf head) ⌝ }
 {
-    MAX_ELECTION <= larger(h.number, h.vote)
+    MAX_ELECTION <= larger(head.number, head.vote)
 }
 
 // The number of the next election: one above the larger of number and vote.
-fn next_number(h: Head) -> u32
-    ensures { λ r. ⌜ r ≡ nextNumberOf h ⌝ }
+fn next_number(head: Head) -> u32
+    ensures { λ r. ⌜ r ≡ nextNumberOf head ⌝ }
 {
-    wrapping_add_u32(larger(h.number, h.vote), 1)
+    wrapping_add_u32(larger(head.number, head.vote), 1)
 }
 
 // An election: leadership and candidacy end, and the server stands under its next number with its own vote.
-pub fn elected(n: u32, me: u32, h: Head) -> Head
-    ensures is { λ r. ⌜ r ≡ electedHead n me h ⌝ }
-    ensures means { λ r. ⌜ ((x : Beside) → largerNumberOf h + 1 < 2 ^ 32 → serverIn n (idle x) r ≡ elect n me (serverIn n x h) .server) ⌝ }
+pub fn elected(servers: u32, me: u32, head: Head) -> Head
+    ensures is { λ r. ⌜ r ≡ electedHead servers me head ⌝ }
+    ensures means { λ r. ⌜ ((x : Beside) → largerNumberOf head + 1 < 2 ^ 32 → serverIn servers (idle x) r ≡ elect servers me (serverIn servers x head) .server) ⌝ }
 {
-    let e = next_number(h);
-    let mut a = voting(e, me, ceased(h));
-    a.number = e;
-    standing(n, voted(me, a))
+    let election = next_number(head);
+    let mut after = voting(election, me, ceased(head));
+    after.number = election;
+    standing(servers, voted(me, after))
 }
 
-// ACKVOTE of q under e: counts only for a candidate, for its present number, once per server.
-pub fn on_ack_vote(n: u32, q: u32, e: u32, h: Head) -> Head
-    ensures is { λ r. ⌜ r ≡ onAckVoteHead n q e h ⌝ }
-    ensures means { λ r. ⌜ ((x : Beside) → serverIn n x r ≡ onAckVote n q e (serverIn n x h) .server) ⌝ }
+// ACKVOTE of a voter under this number: counts only for a candidate, for its present number, once per server.
+pub fn on_ack_vote(servers: u32, voter: u32, election: u32, head: Head) -> Head
+    ensures is { λ r. ⌜ r ≡ onAckVoteHead servers voter election head ⌝ }
+    ensures means { λ r. ⌜ ((x : Beside) → serverIn servers x r ≡ onAckVote servers voter election (serverIn servers x head) .server) ⌝ }
 {
-    if h.role == CANDIDATE {
-        if e == h.number {
-            return standing(n, voted(q, h));
+    if head.role == CANDIDATE {
+        if election == head.number {
+            return standing(servers, voted(voter, head));
         }
     }
-    h
+    head
 }

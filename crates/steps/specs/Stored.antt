@@ -5,10 +5,9 @@ use Prim.Native.Nat.{ℕ}
 use Rattle.server.specs.declared.Version.{Version}
 use Rattle.server.specs.declared.Round.{Round}
 use Rattle.server.specs.declared.Call.{Call}
-use Rattle.memory.specs.Layout.{putHead, putVersion, putRound, putCall}
+use Rattle.memory.specs.Layout.{slotOf, putHead, putVersion, putRound, putCall}
 use Rattle.moves.specs.declared.Local.{Local}
 use Rattle.moves.specs.declared.Move.{Move}
-use Rattle.views.specs.Memory.{slotOf}
 use Rattle.views.specs.Changes.{putLocal, slotsAfter, keptFrom}
 
 abbrev pub putSlot : List ℕ → ℕ → Version → Round → Call → List ℕ
@@ -19,12 +18,12 @@ pub record Stored (heads slots : List ℕ) (s k : ℕ) (l : Local) (heads′ slo
   pub slot : slots′ ≡ putLocal slots k l
 
 -- the arrays of a server after a move, once its working content is filled
-pub record MovedServer (heads slots copies works loads : List ℕ) (most s b i : ℕ) (v : Move) (heads′ slots′ copies′ : List ℕ) : Type 0 where
+pub record MovedServer (heads slots copies working payloads : List ℕ) (buckets s b i : ℕ) (v : Move) (heads′ slots′ copies′ : List ℕ) : Type 0 where
   pub head : heads′ ≡ putHead heads s (v .local .head)
-  pub slot : slots′ ≡ slotsAfter slots most s (slotOf s b) v
-  pub copy : copies′ ≡ keptFrom copies works loads (slotOf s b) i (v .keeps)
+  pub slot : slots′ ≡ slotsAfter slots buckets s (slotOf s b) v
+  pub copy : copies′ ≡ keptFrom copies working payloads (slotOf s b) i (v .keeps)
 
 -- a server's head and slots after a move
-pub record Settled (heads slots : List ℕ) (most s k : ℕ) (v : Move) (heads′ slots′ : List ℕ) : Type 0 where
+pub record Settled (heads slots : List ℕ) (buckets s k : ℕ) (v : Move) (heads′ slots′ : List ℕ) : Type 0 where
   pub head : heads′ ≡ putHead heads s (v .local .head)
-  pub slot : slots′ ≡ slotsAfter slots most s k v
+  pub slot : slots′ ≡ slotsAfter slots buckets s k v

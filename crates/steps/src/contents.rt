@@ -1,7 +1,10 @@
 // Contents of buckets: what a move makes of a slot's working content and of its copy's content.
 use encoding::encode;
 use entries::Decoded;
-use memory::CONTENT;
+use memory::CONTENT_SIZE;
+use memory::CopyBytes;
+use memory::PayloadBytes;
+use memory::WorkingBytes;
 use messages::contents::copy_content;
 use moves::codes::FILLS_COPY;
 use moves::codes::FILLS_MESSAGE;
@@ -15,61 +18,61 @@ ghost use Rattle.entries.specs.Decoded.{tableIn};
 ghost use Rattle.memory.specs.Layout.{slotRoom, messageRoom, contentSize};
 ghost use Rattle.views.specs.Changes.{putTable, filledFrom, keptFrom};
 
-// The bucket form of a table becomes the content of slot k.
-fn put_table(works: &mut [u8], k: usize, t: Decoded)
-    requires { ⌜ (k < slotRoom) × (length (now works) ≡ slotRoom * contentSize) ⌝ }
-    ensures { λ _. ⌜ now (works .exit) ≡ putTable (now (works .entry)) k (tableIn t) ⌝ }
+// The bucket form of a table becomes the content of this slot.
+fn put_table(working: &mut [u8], slot: usize, table: Decoded)
+    requires { ⌜ (slot < slotRoom) × (length (now working) ≡ slotRoom * contentSize) ⌝ }
+    ensures { λ _. ⌜ now (working .exit) ≡ putTable (now (working .entry)) slot (tableIn table) ⌝ }
 {
-    let from = k * CONTENT;
-    let end = from + CONTENT;
-    encode(t, &mut works[from..end]);
+    let from = slot * CONTENT_SIZE;
+    let end = from + CONTENT_SIZE;
+    encode(table, &mut working[from..end]);
 }
 
-// The working content of slot k, by the number of what fills it; i is the place of the message handed over.
+// The working content of this slot, by the number of what fills it; `place` is that of the message handed over.
 pub fn fill_work(
-    works: &mut [u8; 7168],
-    copies: &[u8; 7168],
-    loads: &[u8; 8192],
-    k: usize,
-    i: usize,
+    working: &mut WorkingBytes,
+    copies: &CopyBytes,
+    payloads: &PayloadBytes,
+    slot: usize,
+    place: usize,
     fills: u32,
-    t: Decoded,
+    table: Decoded,
 )
-    requires { ⌜ (k < slotRoom) × (i < messageRoom) ⌝ }
-    ensures { λ _. ⌜ now (works .exit) ≡ filledFrom (now (works .entry)) (now (copies .entry)) (now (loads .entry)) k i (tableIn t) fills ⌝ }
+    requires { ⌜ (slot < slotRoom) × (place < messageRoom) ⌝ }
+    ensures { λ _. ⌜ now (working .exit) ≡ filledFrom (now (working .entry)) (now (copies .entry)) (now (payloads .entry)) slot place (tableIn table) fills ⌝ }
 {
     if fills == FILLS_COPY {
-        copy_content(works, k, copies, k);
+        copy_content(working, slot, copies, slot);
         return;
     }
     if fills == FILLS_TABLE {
-        put_table(works, k, t);
+        put_table(working, slot, table);
         return;
     }
     if fills == FILLS_MESSAGE {
-        copy_content(works, k, loads, i);
+        copy_content(working, slot, payloads, place);
         return;
     }
 }
 
-// The content of the copy at slot k, by the number of what is kept.
+// The content of the copy at this slot, by the number of what is kept.
 pub fn keep_copy(
-    copies: &mut [u8; 7168],
-    works: &[u8; 7168],
-    loads: &[u8; 8192],
-    k: usize,
-    i: usize,
+    copies: &mut CopyBytes,
+    working: &WorkingBytes,
+    payloads: &PayloadBytes,
+    slot: usize,
+    place: usize,
     keeps: u32,
 )
-    requires { ⌜ (k < slotRoom) × (i < messageRoom) ⌝ }
-    ensures { λ _. ⌜ now (copies .exit) ≡ keptFrom (now (copies .entry)) (now (works .entry)) (now (loads .entry)) k i keeps ⌝ }
+    requires { ⌜ (slot < slotRoom) × (place < messageRoom) ⌝ }
+    ensures { λ _. ⌜ now (copies .exit) ≡ keptFrom (now (copies .entry)) (now (working .entry)) (now (payloads .entry)) slot place keeps ⌝ }
 {
     if keeps == KEEPS_WORK {
-        copy_content(copies, k, works, k);
+        copy_content(copies, slot, working, slot);
         return;
     }
     if keeps == KEEPS_MESSAGE {
-        copy_content(copies, k, loads, i);
+        copy_content(copies, slot, payloads, place);
         return;
     }
 }

@@ -6,15 +6,15 @@ ghost use mathlib.Core.Path.{_≡_};
 ghost use Rattle.tally.specs.Sums.{tallySum};
 
 // The tally with a change added, count by count.
-pub fn sum(t: Tally, change: Tally) -> Tally
-    ensures { λ r. ⌜ r ≡ tallySum t change ⌝ }
+pub fn sum(tally: Tally, change: Tally) -> Tally
+    ensures { λ r. ⌜ r ≡ tallySum tally change ⌝ }
 {
     Tally {
-        sent: wrapping_add_u32(t.sent, change.sent),
-        copied: wrapping_add_u32(t.copied, change.copied),
-        delivered: wrapping_add_u32(t.delivered, change.delivered),
-        lost: wrapping_add_u32(t.lost, change.lost),
-        flight: wrapping_add_u32(t.flight, change.flight),
+        sent: wrapping_add_u32(tally.sent, change.sent),
+        copied: wrapping_add_u32(tally.copied, change.copied),
+        delivered: wrapping_add_u32(tally.delivered, change.delivered),
+        lost: wrapping_add_u32(tally.lost, change.lost),
+        flight: wrapping_add_u32(tally.flight, change.flight),
     }
 }
 

@@ -6,6 +6,8 @@ mod datagrams;
 mod showing;
 mod words;
 
+use libc::STDIN_FILENO;
+use words::ROOM;
 use words::bytes;
 use words::next;
 use words::word;
@@ -13,8 +15,8 @@ use words::word;
 // Input past the first 65,536 bytes is not read.
 fn main() {
     let mut input = io::large_buffer();
-    let n = io::read_full(0, &mut input);
-    cases(&input[..n]);
+    let len = io::read_full(STDIN_FILENO, &mut input);
+    cases(&input[..len]);
 }
 
 fn cases(input: &[u8]) {
@@ -27,28 +29,28 @@ fn cases(input: &[u8]) {
 }
 
 fn case(line: &[u8]) {
-    let mut a = [0u8; 5000];
-    let n = bytes(word(line, 1), &mut a);
-    if n <= 5000 {
-        return with_one(line, &a[0..n]);
+    let mut first = [0u8; ROOM];
+    let len = bytes(word(line, 1), &mut first);
+    if len <= ROOM {
+        return with_one(line, &first[0..len]);
     }
     showing::unknown();
 }
 
-fn with_one(line: &[u8], a: &[u8]) {
-    let mut b = [0u8; 5000];
-    let n = bytes(word(line, 2), &mut b);
-    if n <= 5000 {
-        return with_two(line, a, &b[0..n]);
+fn with_one(line: &[u8], first: &[u8]) {
+    let mut second = [0u8; ROOM];
+    let len = bytes(word(line, 2), &mut second);
+    if len <= ROOM {
+        return with_two(line, first, &second[0..len]);
     }
     showing::unknown();
 }
 
-fn with_two(line: &[u8], a: &[u8], b: &[u8]) {
-    let mut out = [0u8; 5000];
-    let n = bytes(word(line, 3), &mut out);
-    if n <= 5000 {
-        return calls::run(line, a, b, &mut out[0..n]);
+fn with_two(line: &[u8], first: &[u8], second: &[u8]) {
+    let mut out = [0u8; ROOM];
+    let len = bytes(word(line, 3), &mut out);
+    if len <= ROOM {
+        return calls::run(line, first, second, &mut out[0..len]);
     }
     showing::unknown();
 }

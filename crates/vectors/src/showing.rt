@@ -1,20 +1,21 @@
 // Lines of output. What is written nobody reads back, so a failed write is left alone.
+use libc::STDOUT_FILENO;
 ghost use Prim.Native.Nat.{_≤_, _<_, _+_};
 ghost use lib.ListN.{length};
 
-pub fn text(t: &[u8]) {
-    io::write_all(1, t);
+pub fn text(shown: &[u8]) {
+    io::write_all(STDOUT_FILENO, shown);
 }
 
 // The name of a case.
-pub fn name(t: &[u8]) {
-    text(t);
+pub fn name(case: &[u8]) {
+    text(case);
     text(b":");
 }
 
-pub fn number(n: u32) {
+pub fn number(shown: u32) {
     text(b" ");
-    io::print_decimal(1, n as u64);
+    io::print_decimal(STDOUT_FILENO, shown as u64);
 }
 
 // A line that is no case.
@@ -23,10 +24,10 @@ pub fn unknown() {
 }
 
 // A line with one hash.
-pub fn hashed(case: &[u8], h: u32) {
+pub fn hashed(case: &[u8], hash: u32) {
     name(case);
     text(b" ");
-    io::print_hex(1, h as u64, 8);
+    io::print_hex(STDOUT_FILENO, hash as u64, 8);
     text(b"\n");
 }
 
@@ -36,52 +37,55 @@ fn run(bytes: &[u8], at: usize) -> usize
     ensures { λ r. ⌜ (1 ≤ r) × (at + r ≤ length (now (bytes .entry))) ⌝ }
 {
     let first = bytes[at];
-    let mut n = 1;
-    while n < bytes.len() - at {
-        if bytes[at + n] != first {
-            return n;
+    let mut len = 1;
+    while len < bytes.len() - at {
+        if bytes[at + len] != first {
+            return len;
         }
-        n += 1;
+        len += 1;
     }
-    n
+    len
 }
 
-// The run that is printed as one: five bytes or more, else a single byte.
+// The least bytes of a run that is printed as one.
+const LONG: usize = 5;
+
+// The run that is printed as one, else a single byte.
 fn long_run(bytes: &[u8], at: usize) -> usize
     requires { ⌜ at < length (now bytes) ⌝ }
     ensures { λ r. ⌜ (1 ≤ r) × (at + r ≤ length (now (bytes .entry))) ⌝ }
 {
-    let n = run(bytes, at);
-    if n < 5 {
+    let len = run(bytes, at);
+    if len < LONG {
         return 1;
     }
-    n
+    len
 }
 
 // A byte in hexadecimal, and how often it stands there.
 fn repeated(byte: u8, times: usize) {
     text(b" ");
-    io::print_hex(1, byte as u64, 2);
+    io::print_hex(STDOUT_FILENO, byte as u64, 2);
     if 1 < times {
         text(b"*");
-        io::print_decimal(1, times as u64);
+        io::print_decimal(STDOUT_FILENO, times as u64);
     }
 }
 
 // Bytes in hexadecimal, `00*105` for 105 zeros.
-pub fn bytes(b: &[u8]) {
+pub fn bytes(lent: &[u8]) {
     let mut at = 0;
-    while at < b.len() {
-        let n = long_run(b, at);
-        repeated(b[at], n);
-        at += n;
+    while at < lent.len() {
+        let len = long_run(lent, at);
+        repeated(lent[at], len);
+        at += len;
     }
 }
 
 // A line with one number and the lent bytes.
-pub fn answered(case: &[u8], n: u32, lent: &[u8]) {
+pub fn answered(case: &[u8], answer: u32, lent: &[u8]) {
     name(case);
-    number(n);
+    number(answer);
     bytes(lent);
     text(b"\n");
 }

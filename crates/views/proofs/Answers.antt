@@ -19,11 +19,11 @@ use Rattle.server.specs.declared.Answer.{Answer}
 use Rattle.server.specs.Views.{among, callIn, answerIn}
 use Rattle.open_calls.specs.Calls.{endedOf}
 use Rattle.open_calls.proofs.CallLaws.{ended-means}
-use Rattle.memory.specs.Layout.{answerSize, callAt}
+use Rattle.memory.specs.Layout.{slotOf, answerSize, callAt}
 use Rattle.memory.proofs.Rows.{length-putRow, row-put, row-other}
 use Rattle.moves.specs.declared.Move.{Move}
 use Rattle.moves.specs.Reactions.{answersIn, answersAfter}
-use Rattle.views.specs.Memory.{Memory, each, slotOf, callWordsAt, cellAt, serverAt}
+use Rattle.views.specs.Memory.{Memory, each, callWordsAt, cellAt, serverAt}
 use Rattle.views.proofs.Each.{each-last, each-same, map-each}
 use Rattle.views.specs.Changes.{answersRoom, answerOf, answerRow, answerAt, putAnswer, answersAt, Written, endedCalls, answered}
 

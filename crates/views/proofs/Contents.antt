@@ -24,7 +24,7 @@ use Rattle.views.specs.Changes.{putTable, filled, kept, filledFrom, kept
 
 -- the tables that a step at slot k works on, with message i and the call's new table
 abbrev pub tablesAt : Memory → ℕ → ℕ → List Entry → Tables
-tablesAt m k i made = record { copy = tableAt (m .copies) k; work = tableAt (m .works) k; made = made; message = tableAt (m .loads) i }
+tablesAt m k i made = record { copy = tableAt (m .copies) k; work = tableAt (m .working) k; made = made; message = tableAt (m .payloads) i }
 
 -- contents `after` are `before` with table t at slot k
 pub record Placed (k : ℕ) (before after : List ℕ) (t : List Entry) : Type 0 where
@@ -65,20 +65,20 @@ module _ (k : ℕ) (l : List ℕ) (among : k < slotRoom) (room : length l ≡ 71
 
 module _ (m : Memory) (sized : Sized m) (k i : ℕ) (slot : k < slotRoom) (message : i < messageRoom) (v : Move) (made : List Entry)
     (form : v .fills ≡ 2 → fits maxEntries maxValueBytes made ≡ true) where
-  pub works-after : Placed k (m .works) (filled m k i made (v .fills)) (workAfter v (tablesAt m k i made))
+  pub working-after : Placed k (m .working) (filled m k i made (v .fills)) (workAfter v (tablesAt m k i made))
   unfolding filledFrom workAfter
-  works-after = go (eqb (v .fills) 1) refl (eqb (v .fills) 2) refl (eqb (v .fills) 3) refl
+  working-after = go (eqb (v .fills) 1) refl (eqb (v .fills) 2) refl (eqb (v .fills) 3) refl
     where
       go : (x : Bool) → eqb (v .fills) 1 ≡ x → (y : Bool) → eqb (v .fills) 2 ≡ y → (z : Bool) → eqb (v .fills) 3 ≡ z
-          → Placed k (m .works) (filled m k i made (v .fills)) (workAfter v (tablesAt m k i made))
+          → Placed k (m .working) (filled m k i made (v .fills)) (workAfter v (tablesAt m k i made))
       go true a y b z c =
           let h = sized .copies in
-          rw (filledFrom, workAfter, a) (placed-copy k (m .works) slot (sized .works) k (m .copies) (omega arith))
-      go false a true b z c = rw (filledFrom, workAfter, a, b) (placed-table k (m .works) slot (sized .works) made (form (eqb-true _ _ b)))
+          rw (filledFrom, workAfter, a) (placed-copy k (m .working) slot (sized .working) k (m .copies) (omega arith))
+      go false a true b z c = rw (filledFrom, workAfter, a, b) (placed-table k (m .working) slot (sized .working) made (form (eqb-true _ _ b)))
       go false a false b true c =
-          let h = sized .loads in
-          rw (filledFrom, workAfter, a, b, c) (placed-copy k (m .works) slot (sized .works) i (m .loads) (omega arith))
-      go false a false b false c = rw (filledFrom, workAfter, a, b, c) (placed-none k (m .works))
+          let h = sized .payloads in
+          rw (filledFrom, workAfter, a, b, c) (placed-copy k (m .working) slot (sized .working) i (m .payloads) (omega arith))
+      go false a false b false c = rw (filledFrom, workAfter, a, b, c) (placed-none k (m .working))
 
   pub copies-after : Placed k (m .copies) (kept m (filled m k i made (v .fills)) k i (v .keeps)) (copyAfter v (tablesAt m k i made))
   unfolding keptFrom copyAfter
@@ -87,10 +87,10 @@ module _ (m : Memory) (sized : Sized m) (k i : ℕ) (slot : k < slotRoom) (messa
       go : (x : Bool) → eqb (v .keeps) 1 ≡ x → (y : Bool) → eqb (v .keeps) 2 ≡ y
           → Placed k (m .copies) (kept m (filled m k i made (v .fills)) k i (v .keeps)) (copyAfter v (tablesAt m k i made))
       go true a y b =
-          let h = works-after .size in
-          let w = sized .works in
-          rw (keptFrom, copyAfter, a, ← works-after .there) (placed-copy k (m .copies) slot (sized .copies) k (filled m k i made (v .fills)) (omega arith))
+          let h = working-after .size in
+          let w = sized .working in
+          rw (keptFrom, copyAfter, a, ← working-after .there) (placed-copy k (m .copies) slot (sized .copies) k (filled m k i made (v .fills)) (omega arith))
       go false a true b =
-          let h = sized .loads in
-          rw (keptFrom, copyAfter, a, b) (placed-copy k (m .copies) slot (sized .copies) i (m .loads) (omega arith))
+          let h = sized .payloads in
+          rw (keptFrom, copyAfter, a, b) (placed-copy k (m .copies) slot (sized .copies) i (m .payloads) (omega arith))
       go false a false b = rw (keptFrom, copyAfter, a, b) (placed-none k (m .copies))

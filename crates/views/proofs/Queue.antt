@@ -36,16 +36,16 @@ module _ {A B : Type 0} (f : A → B) where
 
 pub length-flight : (x : Flight) → length (flightIn x) ≡ x .count
 unfolding flightAt
-length-flight x = length-map (messagesAt (x .count) (x .queue) (x .loads)) sentIn ∙ length-messages (x .count) (x .queue) (x .loads)
+length-flight x = length-map (messagesAt (x .count) (x .queue) (x .payloads)) sentIn ∙ length-messages (x .count) (x .queue) (x .payloads)
 
 pub message-at : (x : Flight) (i : ℕ) (d : cluster.Message) → Sound x → i < x .count
-    → getD (flightIn x) i d ≡ messageIn (messageAt (x .queue) i) (tableAt (x .loads) i)
+    → getD (flightIn x) i d ≡ messageIn (messageAt (x .queue) i) (tableAt (x .payloads) i)
 unfolding flightAt tableAt
 message-at x i d sound among =
-    let z : Sent = record { header = messageAt (x .queue) i; content = contentAt (x .loads) i } in
+    let z : Sent = record { header = messageAt (x .queue) i; content = contentAt (x .payloads) i } in
     let q : x .count * 8 ≤ length (x .queue) = omega arith in
-    getD-mapped sentIn (messagesAt (x .count) (x .queue) (x .loads)) i z d (rw length-messages among)
-    ∙ ap sentIn (messages-at (x .count) (x .queue) (x .loads) i z among q)
+    getD-mapped sentIn (messagesAt (x .count) (x .queue) (x .payloads)) i z d (rw length-messages among)
+    ∙ ap sentIn (messages-at (x .count) (x .queue) (x .payloads) i z among q)
 
 -- ---- one appended, with the block v as its content
 
@@ -53,15 +53,15 @@ module _ (v : List ℕ) (m : Message) (x : Flight) (sound : Sound x) (room : x .
   pub appended-flight : flightIn (appended v m x) ≡ flightIn x ++ (messageIn m (tableOf 4 16 (take 113 v)) ∷ [])
   unfolding flightAt appended
   appended-flight =
-      ap (map sentIn) (messages-appended (x .count) (x .queue) (x .loads) m (omega arith) v (omega arith) whole)
-      ∙ map-append sentIn (messagesAt (x .count) (x .queue) (x .loads)) (record { header = m; content = take 113 v } ∷ [])
+      ap (map sentIn) (messages-appended (x .count) (x .queue) (x .payloads) m (omega arith) v (omega arith) whole)
+      ∙ map-append sentIn (messagesAt (x .count) (x .queue) (x .payloads)) (record { header = m; content = take 113 v } ∷ [])
 
   pub appended-sound : Sound (appended v m x)
   unfolding appended
   appended-sound =
       record {
         queue = length-putMessage (x .queue) (x .count) m ∙ sound .queue;
-        loads = length-putContent 64 (x .count) (x .loads) v whole room (omega arith) ∙ sound .loads;
+        payloads = length-putContent 64 (x .count) (x .payloads) v whole room (omega arith) ∙ sound .payloads;
         count = omega arith;
       }
 
@@ -75,15 +75,15 @@ module _ (i : ℕ) (x : Flight) (sound : Sound x) (among : i < x .count) where
   pub removed-flight : flightIn (withoutMessage true i x) ≡ dropAt i (flightIn x)
   unfolding flightAt withoutMessage
   removed-flight =
-      ap (map sentIn) (messages-removed (x .count) i (x .queue) (x .loads) among (omega arith) (omega arith))
-      ∙ map-without sentIn i (messagesAt (x .count) (x .queue) (x .loads))
+      ap (map sentIn) (messages-removed (x .count) i (x .queue) (x .payloads) among (omega arith) (omega arith))
+      ∙ map-without sentIn i (messagesAt (x .count) (x .queue) (x .payloads))
 
   pub removed-sound : (removes : Bool) → Sound (withoutMessage removes i x)
   unfolding withoutMessage
   removed-sound true =
       record {
         queue = length-closedUp 8 (x .count) i (x .queue) among (omega arith) ∙ sound .queue;
-        loads = length-closedUp 128 (x .count) i (x .loads) among (omega arith) ∙ sound .loads;
+        payloads = length-closedUp 128 (x .count) i (x .payloads) among (omega arith) ∙ sound .payloads;
         count = omega arith;
       }
   removed-sound false = sound

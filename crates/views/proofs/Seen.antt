@@ -7,10 +7,10 @@ use Rattle.model.specs.Cluster as cluster
 use Rattle.model.specs.Leader.{largerNumber}
 use Rattle.server.specs.Heads.{largerNumberOf}
 use Rattle.server.specs.Views.{flagIn, roleIn, copyIn, roundIn, callIn}
-use Rattle.memory.specs.Layout.{headAt, roundAt, callAt, versionAt}
+use Rattle.memory.specs.Layout.{slotOf, headAt, roundAt, callAt, versionAt}
 use Rattle.cells.specs.Cells.{Cell, Inside}
 use Rattle.moves.specs.Reactions.{Seen, bestIn}
-use Rattle.views.specs.Memory.{Memory, slotOf, tableAt, localAt, callWordsAt, cellAt, serverAt, serversAt}
+use Rattle.views.specs.Memory.{Memory, tableAt, localAt, callWordsAt, cellAt, serverAt, serversAt}
 use Rattle.views.proofs.Each.{length-each, getD-each, length-parts, getD-parts}
 
 -- ---- the servers
@@ -49,7 +49,7 @@ module _ (n most : ℕ) (m : Memory) (s b : ℕ) (h : b < most) where
   unfolding serverAt cellAt cells
   copy-there = getD-parts most cells (λ c. c .copy) b cluster.freshCopy h
 
-  pub round-there : cluster.roundAt (serverAt n most m s .volatile) b ≡ roundIn n (roundAt (m .slots) (slotOf s b)) (bestIn (roundAt (m .slots) (slotOf s b)) (tableAt (m .works) (slotOf s b)))
+  pub round-there : cluster.roundAt (serverAt n most m s .volatile) b ≡ roundIn n (roundAt (m .slots) (slotOf s b)) (bestIn (roundAt (m .slots) (slotOf s b)) (tableAt (m .working) (slotOf s b)))
   unfolding serverAt cellAt cells
   round-there = getD-parts most cells (λ c. c .round) b none h
 
@@ -70,6 +70,6 @@ module _ (n most : ℕ) (m : Memory) (s b : ℕ) (h : b < most) where
   unfolding headAt
   votes-size = refl
 
-  pub server-seen : Seen n b (serverAt n most m s) (localAt m s (slotOf s b)) (tableAt (m .copies) (slotOf s b)) (tableAt (m .works) (slotOf s b)) (callWordsAt m (slotOf s b))
+  pub server-seen : Seen n b (serverAt n most m s) (localAt m s (slotOf s b)) (tableAt (m .copies) (slotOf s b)) (tableAt (m .working) (slotOf s b)) (callWordsAt m (slotOf s b))
   unfolding serverAt
   server-seen = record { inside = inside; front = refl; cell = rw (copy-there, round-there, call-there); votes = votes-size }

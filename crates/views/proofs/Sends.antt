@@ -131,30 +131,30 @@ length-sends n me b a v t among =
     (v .sends)
 
 -- the step's slot is k: `worked` and `copied` say that its contents are those the step leaves
-module _ (n me b k : ℕ) (asked : Message) (v : Move) (t : Tables) (works copies : List ℕ) (x : Flight)
-    (sound : Sound x) (among : me < n) (slot : k < 56) (size-works : length works ≡ 7168) (size-copies : length copies ≡ 7168)
-    (worked : workAfter v t ≡ tableAt works k) (copied : copyAfter v t ≡ tableAt copies k) where
-  work-block : length (block 128 k works) ≡ 128
-  work-block = length-block 128 k works (omega arith)
+module _ (n me b k : ℕ) (asked : Message) (v : Move) (t : Tables) (working copies : List ℕ) (x : Flight)
+    (sound : Sound x) (among : me < n) (slot : k < 56) (size-working : length working ≡ 7168) (size-copies : length copies ≡ 7168)
+    (worked : workAfter v t ≡ tableAt working k) (copied : copyAfter v t ≡ tableAt copies k) where
+  work-block : length (block 128 k working) ≡ 128
+  work-block = length-block 128 k working (omega arith)
 
   copy-block : length (block 128 k copies) ≡ 128
   copy-block = length-block 128 k copies (omega arith)
 
   -- the claim for one kind
   Sending : ℕ → Type 0
-  Sending kind = x .count + sendCount n kind ≤ 64 → Added x (sent n me b k asked (sendingKind kind v) works copies x) (sendsIn n me b (askedIn asked) (sendingKind kind v) t)
+  Sending kind = x .count + sendCount n kind ≤ 64 → Added x (sent n me b k asked (sendingKind kind v) working copies x) (sendsIn n me b (askedIn asked) (sendingKind kind v) t)
 
   sends-vote : Sending 1
   unfolding Sending sent sendsIn sendCount isBroadcast broadcast bodyIn chosen
-  sends-vote room = spread-flight (block 128 k works) (broadcastOf me b (sendingKind 1 v)) x sound work-block n among room
+  sends-vote room = spread-flight (block 128 k working) (broadcastOf me b (sendingKind 1 v)) x sound work-block n among room
 
   sends-write : Sending 4
   unfolding Sending sent sendsIn sendCount isBroadcast broadcast bodyIn chosen workAfter tableAt contentAt
-  sends-write room = rw worked (spread-flight (block 128 k works) (broadcastOf me b (sendingKind 4 v)) x sound work-block n among room)
+  sends-write room = rw worked (spread-flight (block 128 k working) (broadcastOf me b (sendingKind 4 v)) x sound work-block n among room)
 
   sends-read : Sending 7
   unfolding Sending sent sendsIn sendCount isBroadcast broadcast bodyIn chosen
-  sends-read room = spread-flight (block 128 k works) (broadcastOf me b (sendingKind 7 v)) x sound work-block n among room
+  sends-read room = spread-flight (block 128 k working) (broadcastOf me b (sendingKind 7 v)) x sound work-block n among room
 
   sends-reply : (kind : ℕ) → eqb kind 0 ≡ false → eqb kind 1 ≡ false → eqb kind 4 ≡ false → eqb kind 7 ≡ false → Sending kind
   unfolding Sending sent sendsIn sendCount isBroadcast copyAfter workAfter tableAt contentAt
@@ -163,6 +163,6 @@ module _ (n me b k : ℕ) (asked : Message) (v : Move) (t : Tables) (works copie
       rw (sent, sendsIn, isBroadcast, e0, e1, e4, e7, copied)
       (one-added (block 128 k copies) (replyOf me asked (sendingKind kind v)) x x [] (none-added x sound) (omega arith) copy-block)
 
-  pub sent-flight : x .count + sendCount n (v .sends) ≤ 64 → Added x (sent n me b k asked v works copies x) (sendsIn n me b (askedIn asked) v t)
+  pub sent-flight : x .count + sendCount n (v .sends) ≤ 64 → Added x (sent n me b k asked v working copies x) (sendsIn n me b (askedIn asked) v t)
   unfolding Sending sent sendsIn sendCount
   sent-flight = kinds Sending (λ room. none-added x sound) sends-vote sends-write sends-read sends-reply (v .sends)

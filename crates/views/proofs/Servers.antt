@@ -12,14 +12,14 @@ use Rattle.entries.proofs.Shifts.{map-set}
 use Rattle.table.specs.Form.{fits}
 use Rattle.model.specs.Measures.{maxEntries, maxValueBytes}
 use Rattle.cells.specs.Cells.{Front, Cell, putCell}
-use Rattle.memory.specs.Layout.{slotRoom, messageRoom, headAt, putHead}
+use Rattle.memory.specs.Layout.{slotRoom, messageRoom, slotOf, headAt, putHead}
 use Rattle.memory.proofs.Records.{length-putHead, head-putHead, head-elsewhere}
 use Rattle.moves.specs.declared.Move.{Move}
 use Rattle.moves.specs.Reactions.{cellIn, frontIn, workAfter, copyAfter, idled, movedServer, serverAfter}
-use Rattle.views.specs.Memory.{Memory, memory, Sized, each, WholeLocal, slotOf, callWordsAt, cellAt, serverOf, serverAt, serversAt}
+use Rattle.views.specs.Memory.{Memory, memory, Sized, each, WholeLocal, callWordsAt, cellAt, serverOf, serverAt, serversAt}
 use Rattle.views.specs.Changes.{filled, kept, putLocal, clearedSlots, slotsAfter, moved}
 use Rattle.views.proofs.Each.{each-same, each-set, map-each}
-use Rattle.views.proofs.Contents.{tablesAt, works-after, copies-after}
+use Rattle.views.proofs.Contents.{tablesAt, working-after, copies-after}
 use Rattle.views.proofs.Slots.{
   length-putLocal,
   version-putLocal,
@@ -49,7 +49,7 @@ idle-server f cs = simp map-map
 
 module _ (m : Memory) (room : length (m .slots) ≡ 1792) (n most s : ℕ) (server : s < 7) (buckets : most ≤ 8) where
   abbrev ended : Memory
-  ended = memory (m .counts) (m .heads) (clearedSlots (m .slots) s most) (m .copies) (m .works) (m .texts) (m .queue) (m .loads)
+  ended = memory (m .counts) (m .heads) (clearedSlots (m .slots) s most) (m .copies) (m .working) (m .texts) (m .queue) (m .payloads)
 
   ended-cell : (b : ℕ) → b < most → cellAt n ended s (slotOf s b) ≡ idleCell (cellAt n m s (slotOf s b))
   unfolding cellAt
@@ -85,15 +85,15 @@ module _ (m : Memory) (n most s b i : ℕ) (v : Move) (made : List Entry) (sized
   abbrev k : ℕ
   k = slotOf s b
 
-  abbrev works : List ℕ
-  works = filled m k i made (v .fills)
+  abbrev working : List ℕ
+  working = filled m k i made (v .fills)
 
   abbrev copies : List ℕ
-  copies = kept m works k i (v .keeps)
+  copies = kept m working k i (v .keeps)
 
   -- the memory with the local and the contents stored
   abbrev put : Memory
-  put = memory (m .counts) (putHead (m .heads) s (v .local .head)) (putLocal (m .slots) k (v .local)) copies works (m .texts) (m .queue) (m .loads)
+  put = memory (m .counts) (putHead (m .heads) s (v .local .head)) (putLocal (m .slots) k (v .local)) copies working (m .texts) (m .queue) (m .payloads)
 
   abbrev newCell : Cell
   newCell = cellIn n (v .local) (copyAfter v (tablesAt m k i made)) (workAfter v (tablesAt m k i made)) (callWordsAt m k)
@@ -107,7 +107,7 @@ module _ (m : Memory) (n most s b i : ℕ) (v : Move) (made : List Entry) (sized
         call-putLocal (m .slots) k (v .local) (sized .slots) (omega arith),
         words-putLocal (m .slots) k (v .local) (m .texts) k,
         copies-after m sized k i (omega arith) message v made form .there,
-        works-after m sized k i (omega arith) message v made form .there,
+        working-after m sized k i (omega arith) message v made form .there,
       )
 
   other-cell : (r j : ℕ) → j < slotRoom → j ≢ k → cellAt n put r j ≡ cellAt n m r j
@@ -120,7 +120,7 @@ module _ (m : Memory) (n most s b i : ℕ) (v : Move) (made : List Entry) (sized
         o .call,
         words-putLocal (m .slots) k (v .local) (m .texts) j,
         copies-after m sized k i (omega arith) message v made form .others j h d,
-        works-after m sized k i (omega arith) message v made form .others j h d,
+        working-after m sized k i (omega arith) message v made form .others j h d,
       )
 
   put-there : serverAt n most put s ≡ movedServer n b v (tablesAt m k i made) (callWordsAt m k) (serverAt n most m s)
@@ -180,8 +180,8 @@ module _ (m : Memory) (n most s b i : ℕ) (v : Move) (made : List Entry) (sized
         heads = length-putHead (m .heads) s (v .local .head) ∙ sized .heads;
         slots = length-slotsAfter;
         copies = copies-after m sized k i (omega arith) message v made form .size ∙ sized .copies;
-        works = works-after m sized k i (omega arith) message v made form .size ∙ sized .works;
+        working = working-after m sized k i (omega arith) message v made form .size ∙ sized .working;
         texts = sized .texts;
         queue = sized .queue;
-        loads = sized .loads;
+        payloads = sized .payloads;
       }

@@ -15,7 +15,7 @@ use Rattle.model.specs.Calls as calls
 use Rattle.server.specs.declared.Round.{Round}
 use Rattle.server.specs.declared.Call.{Call}
 use Rattle.server.specs.Views.{among, roundIn, callIn}
-use Rattle.memory.specs.Layout.{serverRoom, slotRoom, versionAt, roundAt, callAt, wordsAt, putVersion, putRound, putCall}
+use Rattle.memory.specs.Layout.{serverRoom, slotRoom, slotOf, versionAt, roundAt, callAt, wordsAt, putVersion, putRound, putCall}
 use Rattle.memory.proofs.Records.{
   length-putVersion,
   version-putVersion,
@@ -36,7 +36,6 @@ use Rattle.memory.proofs.Records.{
 use Rattle.memory.proofs.Texts.{words-putVersion, words-putRound, words-putCall}
 use Rattle.moves.specs.declared.Local.{Local}
 use Rattle.moves.specs.Moves.{noRound, noCall}
-use Rattle.views.specs.Memory.{slotOf}
 use Rattle.views.specs.Changes.{putLocal, isIdle, clearedSlot, clearedSlots}
 
 -- the slot reads the same before and after

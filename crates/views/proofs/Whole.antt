@@ -51,7 +51,7 @@ use Rattle.moves.specs.Moves.{
   handlingMove,
   handledMove,
   electedMove,
-  timedOutMove,
+  ceasedMove,
   stoppedMove,
 }
 use Rattle.restarts.specs.Restarts.{restartedMove, votesBy, cutHead, cutMove}
@@ -217,8 +217,8 @@ pub whole-electedMove : (n me : ℕ) (l : Local) → WholeLocal l → WholeLocal
 unfolding electedMove
 whole-electedMove n me l w = record { votes = whole-elected n me (l .head); marks = w .marks }
 
-pub whole-timedOut : (l : Local) → WholeLocal l → WholeLocal (timedOutMove l .local)
-whole-timedOut l w = whole-ceasing (quiet l) w
+pub whole-ceased : (l : Local) → WholeLocal l → WholeLocal (ceasedMove l .local)
+whole-ceased l w = whole-ceasing (quiet l) w
 
 pub whole-restarted : (l : Local) → WholeLocal l → WholeLocal (restartedMove l .local)
 unfolding restartedMove

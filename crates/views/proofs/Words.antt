@@ -8,15 +8,15 @@ use Rattle.model.specs.Calls as calls
 use Rattle.server.specs.declared.Call.{Call}
 use Rattle.server.specs.declared.Words.{Words}
 use Rattle.server.specs.Views.{among, callIn, wordsIn}
-use Rattle.memory.specs.Layout.{slotRoom, headAt, callAt, putWords, putTexts, Whole}
+use Rattle.memory.specs.Layout.{slotRoom, slotOf, headAt, callAt, putWords, putTexts, Whole}
 use Rattle.memory.proofs.Texts.{length-putTexts, words-putWords, words-elsewhere, length-putWords, version-putWords, round-putWords, call-putWords}
 use Rattle.moves.specs.Reactions.{frontIn}
-use Rattle.views.specs.Memory.{Memory, memory, Sized, slotOf, localAt, callWordsAt, cellAt, serverOf, serverAt, serversAt}
+use Rattle.views.specs.Memory.{Memory, memory, Sized, localAt, callWordsAt, cellAt, serverOf, serverAt, serversAt}
 use Rattle.views.proofs.Each.{each-same}
 
 -- the memory with the words of slot k replaced
 abbrev pub worded : Memory → ℕ → Words → Memory
-worded m k w = memory (m .counts) (m .heads) (putWords (m .slots) k w) (m .copies) (m .works) (putTexts (m .texts) k w) (m .queue) (m .loads)
+worded m k w = memory (m .counts) (m .heads) (putWords (m .slots) k w) (m .copies) (m .working) (putTexts (m .texts) k w) (m .queue) (m .payloads)
 
 closed-call : (c : Call) (w u : calls.Words) → among 5 (c .kind) ≡ false → callIn c w ≡ callIn c u
 unfolding callIn
@@ -40,10 +40,10 @@ module _ (m : Memory) (k : ℕ) (w : Words) (sized : Sized m) (slot : k < slotRo
         heads = sized .heads;
         slots = length-putWords (m .slots) k w ∙ sized .slots;
         copies = sized .copies;
-        works = sized .works;
+        working = sized .working;
         texts = length-putTexts (m .texts) k w (omega arith) whole ∙ sized .texts;
         queue = sized .queue;
-        loads = sized .loads;
+        payloads = sized .payloads;
       }
 
   module _ (closed : among 5 (callAt (m .slots) k .kind) ≡ false) (n : ℕ) where

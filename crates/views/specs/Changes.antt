@@ -15,11 +15,11 @@ use Rattle.server.specs.declared.Round.{Round}
 use Rattle.server.specs.declared.Call.{Call}
 use Rattle.open_calls.specs.Calls.{endedOf}
 use Rattle.memory.specs.Rows.{row, putRow}
-use Rattle.memory.specs.Layout.{answerSize, contentSize, contentBytes, roundAt, callAt, putHead, putVersion, putRound, putCall, putContent}
+use Rattle.memory.specs.Layout.{slotOf, answerSize, contentSize, contentBytes, roundAt, callAt, putHead, putVersion, putRound, putCall, putContent}
 use Rattle.moves.specs.declared.Local.{Local}
 use Rattle.moves.specs.declared.Move.{Move}
 use Rattle.moves.specs.Moves.{noRound, noCall}
-use Rattle.views.specs.Memory.{Memory, memory, each, slotOf}
+use Rattle.views.specs.Memory.{Memory, memory, each}
 
 -- ---- contents
 
@@ -28,32 +28,32 @@ unfoldable pub putTable : List ℕ → ℕ → List Entry → List ℕ
 putTable l i t = putContent l i (bucketBytes maxEntries maxValueBytes t ++ drop contentBytes (block contentSize i l))
 
 -- the working contents: `made` is the new table
-unfoldable pub filledFrom : (works copies loads : List ℕ) → ℕ → ℕ → List Entry → ℕ → List ℕ
-filledFrom works copies loads k i made fills =
+unfoldable pub filledFrom : (working copies payloads : List ℕ) → ℕ → ℕ → List Entry → ℕ → List ℕ
+filledFrom working copies payloads k i made fills =
     elim (eqb fills 1) [
-      | true ↦ putContent works k (block contentSize k copies)
+      | true ↦ putContent working k (block contentSize k copies)
       | false ↦
           elim (eqb fills 2) [
-            | true ↦ putTable works k made
+            | true ↦ putTable working k made
             | false ↦
-                elim (eqb fills 3) [ true ↦ putContent works k (block contentSize i loads) | false ↦ works ]
+                elim (eqb fills 3) [ true ↦ putContent working k (block contentSize i payloads) | false ↦ working ]
           ]
     ]
 
 abbrev pub filled : Memory → ℕ → ℕ → List Entry → ℕ → List ℕ
-filled m k i made fills = filledFrom (m .works) (m .copies) (m .loads) k i made fills
+filled m k i made fills = filledFrom (m .working) (m .copies) (m .payloads) k i made fills
 
 -- the contents of copies, after the working contents were filled
-unfoldable pub keptFrom : (copies works loads : List ℕ) → ℕ → ℕ → ℕ → List ℕ
-keptFrom copies works loads k i keeps =
+unfoldable pub keptFrom : (copies working payloads : List ℕ) → ℕ → ℕ → ℕ → List ℕ
+keptFrom copies working payloads k i keeps =
     elim (eqb keeps 1) [
-      | true ↦ putContent copies k (block contentSize k works)
+      | true ↦ putContent copies k (block contentSize k working)
       | false ↦
-          elim (eqb keeps 2) [ true ↦ putContent copies k (block contentSize i loads) | false ↦ copies ]
+          elim (eqb keeps 2) [ true ↦ putContent copies k (block contentSize i payloads) | false ↦ copies ]
     ]
 
 abbrev pub kept : Memory → List ℕ → ℕ → ℕ → ℕ → List ℕ
-kept m works k i keeps = keptFrom (m .copies) works (m .loads) k i keeps
+kept m working k i keeps = keptFrom (m .copies) working (m .payloads) k i keeps
 
 -- ---- slots
 
@@ -112,11 +112,11 @@ unfoldable pub endedCalls : List ℕ → ℕ → ℕ → List ℕ → Written
 endedCalls slots s zero l = record { answers = l; count = 0 }
 endedCalls slots s (suc b) l = endedCall slots (slotOf s b) (endedCalls slots s b l)
 
--- what a move answers, at a server with `most` buckets
+-- what a move answers, at a server with so many buckets
 unfoldable pub answered : List ℕ → ℕ → ℕ → Move → List ℕ → Written
-answered slots most s v l =
+answered slots buckets s v l =
     elim (v .ceases) [
-      | true ↦ elim (v .forgets) [ true ↦ record { answers = l; count = 0 } | false ↦ endedCalls slots s most l ]
+      | true ↦ elim (v .forgets) [ true ↦ record { answers = l; count = 0 } | false ↦ endedCalls slots s buckets l ]
       | false ↦
           elim (eqb (v .answer .result) 0) [ true ↦ record { answers = l; count = 0 } | false ↦ record { answers = putAnswer l 0 (v .answer); count = 1 } ]
     ]
@@ -124,19 +124,19 @@ answered slots most s v l =
 -- ---- the arrays of the server
 
 unfoldable pub slotsAfter : List ℕ → ℕ → ℕ → ℕ → Move → List ℕ
-slotsAfter slots most s k v =
-    elim (v .ceases) [ true ↦ clearedSlots (putLocal slots k (v .local)) s most | false ↦ putLocal slots k (v .local) ]
+slotsAfter slots buckets s k v =
+    elim (v .ceases) [ true ↦ clearedSlots (putLocal slots k (v .local)) s buckets | false ↦ putLocal slots k (v .local) ]
 
 unfoldable pub moved : Memory → ℕ → ℕ → ℕ → ℕ → Move → List Entry → Memory
-moved m most s b i v made =
+moved m buckets s b i v made =
     let k = slotOf s b in
-    let works = filled m k i made (v .fills) in
+    let working = filled m k i made (v .fills) in
     memory
     (m .counts)
     (putHead (m .heads) s (v .local .head))
-    (slotsAfter (m .slots) most s k v)
-    (kept m works k i (v .keeps))
-    works
+    (slotsAfter (m .slots) buckets s k v)
+    (kept m working k i (v .keeps))
+    working
     (m .texts)
     (m .queue)
-    (m .loads)
+    (m .payloads)

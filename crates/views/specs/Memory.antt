@@ -3,7 +3,7 @@ use mathlib.Core.Path.{_≡_}
 use mathlib.Core.Bool.{Bool, true, false}
 use mathlib.Core.List.{List, [], _∷_, map}
 use mathlib.Core.Option.{Option, none, some}
-use Prim.Native.Nat.{ℕ, zero, suc, _+_, _*_}
+use Prim.Native.Nat.{ℕ, zero, suc}
 use lib.Dec.{leb}
 use lib.ListN.{length}
 use Rattle.entries.specs.Entries.{Entry}
@@ -14,10 +14,10 @@ use Rattle.model.specs.Cluster as cluster
 use Rattle.cells.specs.Cells.{Front, Cell}
 use Rattle.server.specs.Views.{wordsIn}
 use Rattle.memory.specs.declared.Counts.{Counts}
-use Rattle.memory.specs.Layout.{serverRoom, headAt, versionAt, roundAt, callAt, wordsAt, countsAt, contentAt}
+use Rattle.memory.specs.Layout.{serverRoom, slotOf, headAt, versionAt, roundAt, callAt, wordsAt, countsAt, contentAt}
 use Rattle.messages.specs.Messages.{Sent, messagesAt}
 use Rattle.moves.specs.declared.Local.{Local}
-use Rattle.moves.specs.Moves.{local}
+use Rattle.moves.specs.Moves.{localOf}
 use Rattle.moves.specs.Reactions.{frontIn, cellIn, messageIn}
 
 -- the lent arrays: counts, heads of servers, slots, contents of copies, working contents, keys and values of calls, headers
@@ -27,23 +27,23 @@ pub record Memory : Type 0 where
   pub heads : List ℕ
   pub slots : List ℕ
   pub copies : List ℕ
-  pub works : List ℕ
+  pub working : List ℕ
   pub texts : List ℕ
   pub queue : List ℕ
-  pub loads : List ℕ
+  pub payloads : List ℕ
 
-abbrev pub memory : (counts heads slots copies works texts queue loads : List ℕ) → Memory
-memory c h s k w t q l = record { counts = c; heads = h; slots = s; copies = k; works = w; texts = t; queue = q; loads = l }
+abbrev pub memory : (counts heads slots copies working texts queue payloads : List ℕ) → Memory
+memory c h s k w t q l = record { counts = c; heads = h; slots = s; copies = k; working = w; texts = t; queue = q; payloads = l }
 
 pub record Sized (m : Memory) : Type 0 where
   pub counts : length (m .counts) ≡ 8
   pub heads : length (m .heads) ≡ 112
   pub slots : length (m .slots) ≡ 1792
   pub copies : length (m .copies) ≡ 7168
-  pub works : length (m .works) ≡ 7168
+  pub working : length (m .working) ≡ 7168
   pub texts : length (m .texts) ≡ 3584
   pub queue : length (m .queue) ≡ 512
-  pub loads : length (m .loads) ≡ 8192
+  pub payloads : length (m .payloads) ≡ 8192
 
 -- f 0, f 1, .. of n numbers
 unfoldable pub each : {A : Type 0} → ℕ → (ℕ → A) → List A
@@ -52,16 +52,12 @@ each (suc n) f = f 0 ∷ each n (λ i. f (suc i))
 
 -- ---- parts
 
--- the slot of server s and bucket b
-abbrev pub slotOf : ℕ → ℕ → ℕ
-slotOf s b = s * 8 + b
-
 -- the table of content i, whatever its bytes are
 unfoldable pub tableAt : List ℕ → ℕ → List Entry
 tableAt l i = tableOf maxEntries maxValueBytes (contentAt l i)
 
 abbrev pub localAt : Memory → ℕ → ℕ → Local
-localAt m s k = local (headAt (m .heads) s) (versionAt (m .slots) k) (roundAt (m .slots) k) (callAt (m .slots) k)
+localAt m s k = localOf (headAt (m .heads) s) (versionAt (m .slots) k) (roundAt (m .slots) k) (callAt (m .slots) k)
 
 -- one whose votes and marks have seven places
 pub record WholeLocal (l : Local) : Type 0 where
@@ -71,10 +67,10 @@ pub record WholeLocal (l : Local) : Type 0 where
 abbrev pub callWordsAt : Memory → ℕ → calls.Words
 callWordsAt m k = wordsIn (wordsAt (m .slots) (m .texts) k)
 
--- ---- servers, of n servers and `most` buckets
+-- ---- servers, of n servers and so many buckets
 
 unfoldable pub cellAt : ℕ → Memory → ℕ → ℕ → Cell
-cellAt n m s k = cellIn n (localAt m s k) (tableAt (m .copies) k) (tableAt (m .works) k) (callWordsAt m k)
+cellAt n m s k = cellIn n (localAt m s k) (tableAt (m .copies) k) (tableAt (m .working) k) (callWordsAt m k)
 
 abbrev pub serverOf : Front → List Cell → cluster.Server
 serverOf f cs =
@@ -92,10 +88,10 @@ serverOf f cs =
     }
 
 unfoldable pub serverAt : ℕ → ℕ → Memory → ℕ → cluster.Server
-serverAt n most m s = serverOf (frontIn n (headAt (m .heads) s)) (each most (λ b. cellAt n m s (slotOf s b)))
+serverAt n buckets m s = serverOf (frontIn n (headAt (m .heads) s)) (each buckets (λ b. cellAt n m s (slotOf s b)))
 
 unfoldable pub serversAt : ℕ → ℕ → Memory → List cluster.Server
-serversAt n most m = each n (λ s. serverAt n most m s)
+serversAt n buckets m = each n (λ s. serverAt n buckets m s)
 
 -- ---- messages
 
@@ -103,7 +99,7 @@ abbrev pub sentIn : Sent → cluster.Message
 sentIn x = messageIn (x .header) (tableOf maxEntries maxValueBytes (x .content))
 
 unfoldable pub flightAt : ℕ → List ℕ → List ℕ → List cluster.Message
-flightAt c queue loads = map sentIn (messagesAt c queue loads)
+flightAt c queue payloads = map sentIn (messagesAt c queue payloads)
 
 -- ---- the cluster: none unless its counts are within the measures (RULES, Measures 1 and 3)
 
@@ -121,7 +117,7 @@ clusterAt m =
     record {
       servers = serversAt (c .servers) (c .buckets) m;
       buckets = c .buckets;
-      messages = flightAt (c .messages) (m .queue) (m .loads);
+      messages = flightAt (c .messages) (m .queue) (m .payloads);
       accepted = c .lines;
       calls = c .calls;
     }

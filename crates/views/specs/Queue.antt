@@ -9,7 +9,7 @@ use Rattle.blocks.specs.Blocks.{block}
 use Rattle.model.specs.Cluster as cluster
 use Rattle.server.specs.declared.Message.{Message}
 use Rattle.server.specs.Views.{chosen, isBroadcast}
-use Rattle.memory.specs.Layout.{messageSize, contentSize, putMessage, putContent}
+use Rattle.memory.specs.Layout.{messageRoom, messageSize, contentSize, putMessage, putContent}
 use Rattle.messages.specs.Messages.{closedUp}
 use Rattle.moves.specs.declared.Move.{Move}
 use Rattle.views.specs.Memory.{flightAt}
@@ -17,31 +17,31 @@ use Rattle.views.specs.Memory.{flightAt}
 -- the two arrays of the messages, and how many messages there are
 pub record Flight : Type 0 where
   pub queue : List ℕ
-  pub loads : List ℕ
+  pub payloads : List ℕ
   pub count : ℕ
 
 abbrev pub flight : List ℕ → List ℕ → ℕ → Flight
-flight q l c = record { queue = q; loads = l; count = c }
+flight q l c = record { queue = q; payloads = l; count = c }
 
 -- arrays of the lent sizes, with no more messages than there are places
 pub record Sound (x : Flight) : Type 0 where
   pub queue : length (x .queue) ≡ 512
-  pub loads : length (x .loads) ≡ 8192
-  pub count : x .count ≤ 64
+  pub payloads : length (x .payloads) ≡ 8192
+  pub count : x .count ≤ messageRoom
 
 -- the messages that it stands for
 abbrev pub flightIn : Flight → List cluster.Message
-flightIn x = flightAt (x .count) (x .queue) (x .loads)
+flightIn x = flightAt (x .count) (x .queue) (x .payloads)
 
 -- ---- a message is appended, with the block v as its content; one is removed
 
 unfoldable pub appended : List ℕ → Message → Flight → Flight
-appended v m x = flight (putMessage (x .queue) (x .count) m) (putContent (x .loads) (x .count) v) (x .count + 1)
+appended v m x = flight (putMessage (x .queue) (x .count) m) (putContent (x .payloads) (x .count) v) (x .count + 1)
 
 unfoldable pub withoutMessage : Bool → ℕ → Flight → Flight
 withoutMessage removes i x =
     elim removes [
-      | true ↦ flight (closedUp messageSize (x .count) i (x .queue)) (closedUp contentSize (x .count) i (x .loads)) (x .count - 1)
+      | true ↦ flight (closedUp messageSize (x .count) i (x .queue)) (closedUp contentSize (x .count) i (x .payloads)) (x .count - 1)
       | false ↦ x
     ]
 
@@ -95,12 +95,12 @@ replyOf me asked v =
 
 -- a broadcast takes its content from the working contents of slot k, a reply from the contents of copies
 unfoldable pub sent : ℕ → ℕ → ℕ → ℕ → Message → Move → List ℕ → List ℕ → Flight → Flight
-sent n me b k asked v works copies x =
+sent n me b k asked v working copies x =
     elim (eqb (v .sends) 0) [
       | true ↦ x
       | false ↦
           elim (isBroadcast (v .sends)) [
-            | true ↦ spread (block contentSize k works) (broadcastOf me b v) n x
+            | true ↦ spread (block contentSize k working) (broadcastOf me b v) n x
             | false ↦ appended (block contentSize k copies) (replyOf me asked v) x
           ]
     ]

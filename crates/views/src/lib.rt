@@ -1,1 +1,1 @@
-// Definitions only: what the cluster's memory stands for, and what a step makes of it, array by array.
+// Definitions and laws: what the cluster's memory stands for, and what a step makes of it, array by array.

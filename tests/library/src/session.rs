@@ -14,10 +14,10 @@ mod exported {
             heads: &mut [u32; 112],
             slots: &mut [u32; 1792],
             copies: &mut [u8; 7168],
-            works: &mut [u8; 7168],
+            working: &mut [u8; 7168],
             texts: &mut [u8; 3584],
             queue: &mut [u32; 512],
-            loads: &mut [u8; 8192],
+            payloads: &mut [u8; 8192],
             answers: &mut [u32; 32],
             reader: &mut [usize; 3],
             line: &mut [u8; 121],
@@ -32,10 +32,10 @@ mod exported {
             heads: &mut [u32; 112],
             slots: &mut [u32; 1792],
             copies: &mut [u8; 7168],
-            works: &mut [u8; 7168],
+            working: &mut [u8; 7168],
             texts: &mut [u8; 3584],
             queue: &mut [u32; 512],
-            loads: &mut [u8; 8192],
+            payloads: &mut [u8; 8192],
             answers: &mut [u32; 32],
             reader: &mut [usize; 3],
             line: &mut [u8; 121],
@@ -98,10 +98,10 @@ pub struct Session {
     pub heads: Guarded<[u32; 112]>,
     pub slots: Guarded<[u32; 1792]>,
     pub copies: Guarded<[u8; 7168]>,
-    pub works: Guarded<[u8; 7168]>,
+    pub working: Guarded<[u8; 7168]>,
     pub texts: Guarded<[u8; 3584]>,
     pub queue: Guarded<[u32; 512]>,
-    pub loads: Guarded<[u8; 8192]>,
+    pub payloads: Guarded<[u8; 8192]>,
     pub answers: Guarded<[u32; 32]>,
     /// Lines read, bytes held of the present line, bytes last written.
     pub reader: Guarded<[usize; 3]>,
@@ -124,10 +124,10 @@ impl Session {
             heads: Guarded::new([word; 112]),
             slots: Guarded::new([word; 1792]),
             copies: Guarded::new([old; 7168]),
-            works: Guarded::new([old; 7168]),
+            working: Guarded::new([old; 7168]),
             texts: Guarded::new([old; 3584]),
             queue: Guarded::new([word; 512]),
-            loads: Guarded::new([old; 8192]),
+            payloads: Guarded::new([old; 8192]),
             answers: Guarded::new([word; 32]),
             reader: Guarded::new([0; 3]),
             line: Guarded::new([old; 121]),
@@ -144,10 +144,10 @@ impl Session {
                 &mut self.heads.value,
                 &mut self.slots.value,
                 &mut self.copies.value,
-                &mut self.works.value,
+                &mut self.working.value,
                 &mut self.texts.value,
                 &mut self.queue.value,
-                &mut self.loads.value,
+                &mut self.payloads.value,
                 &mut self.answers.value,
                 &mut self.reader.value,
                 &mut self.line.value,
@@ -169,10 +169,10 @@ impl Session {
                 &mut self.heads.value,
                 &mut self.slots.value,
                 &mut self.copies.value,
-                &mut self.works.value,
+                &mut self.working.value,
                 &mut self.texts.value,
                 &mut self.queue.value,
-                &mut self.loads.value,
+                &mut self.payloads.value,
                 &mut self.answers.value,
                 &mut self.reader.value,
                 &mut self.line.value,
@@ -201,7 +201,7 @@ impl Session {
         let mut content = [0; CONTENT];
         header.copy_from_slice(&self.queue.value[place * HEADER..][..HEADER]);
         if WITH_CONTENT.contains(&header[0]) {
-            content.copy_from_slice(&self.loads.value[place * CONTENT_BLOCK..][..CONTENT]);
+            content.copy_from_slice(&self.payloads.value[place * CONTENT_BLOCK..][..CONTENT]);
         } else {
             header[6..].fill(0);
         }
@@ -227,10 +227,10 @@ impl Session {
             && self.heads.intact()
             && self.slots.intact()
             && self.copies.intact()
-            && self.works.intact()
+            && self.working.intact()
             && self.texts.intact()
             && self.queue.intact()
-            && self.loads.intact()
+            && self.payloads.intact()
             && self.answers.intact()
             && self.reader.intact()
             && self.line.intact()

@@ -287,10 +287,10 @@ fn spoil_session(session: &mut Session, share: usize, random: &mut Random) {
     spoil(&mut session.heads.value, share, random, word);
     spoil(&mut session.slots.value, share, random, word);
     spoil(&mut session.copies.value, share, random, byte);
-    spoil(&mut session.works.value, share, random, byte);
+    spoil(&mut session.working.value, share, random, byte);
     spoil(&mut session.texts.value, share, random, byte);
     spoil(&mut session.queue.value, share, random, word);
-    spoil(&mut session.loads.value, share, random, byte);
+    spoil(&mut session.payloads.value, share, random, byte);
     spoil(&mut session.answers.value, share, random, word);
     spoil(&mut session.line.value, share, random, byte);
     let tally = &mut session.tally.value;

@@ -15,7 +15,9 @@ end-calls-requires c κs = search needs
 
 returns-2 : tie.Need-returns-2
 unfolding answered
-returns-2 c = rw (answered, c .before .before .before .if1 .taken, c .before .before .if2 .left) (c .end-calls .ensures)
+returns-2 c =
+    let if1 = c .before .before .before .if1 in
+    rw (answered, if1 .taken, c .before .before .if2 .left) (c .end-calls .ensures)
 
 returns-3 : tie.Need-returns-3
 unfolding answered
@@ -26,7 +28,9 @@ put-answer-requires c κs = search needs
 
 returns-4 : tie.Need-returns-4
 unfolding answered
-returns-4 c = record { is = rw (c .put-answer .ensures, answered, c .before .before .before .before .if1 .left, ne-eqb _ _ (c .before .before .if3 .left)); few = omega arith }
+returns-4 c =
+    let if1 = c .before .before .before .before .if1 in
+    record { is = rw (c .put-answer .ensures, answered, if1 .left, ne-eqb _ _ (c .before .before .if3 .left)); few = omega arith }
 
 pub answer-spec : {M : Type 1} → statement M
 answer-spec =

@@ -14,8 +14,8 @@ use Rattle.answers.proofs.end_call.Tie as tie
 load-call-requires : tie.Need-load-call-requires
 load-call-requires c κs = search needs
 
-is-taken-requires : tie.Need-is-taken-requires
-is-taken-requires c κs = search needs
+is-open-call-requires : tie.Need-is-open-call-requires
+is-open-call-requires c κs = search needs
 
 ended-requires : tie.Need-ended-requires
 ended-requires c κs = search needs
@@ -28,22 +28,27 @@ add-result c = search needs
 
 returns : tie.Need-returns
 returns c =
-    let a = c .before .before .before .before .before .before .args in
-    let l = c .before .before .before .before .before .load-call .ensures in
+    let args = c .before .before .before .before .before .before .args in
+    let load-call = c .before .before .before .before .before .load-call in
+    let is-open-call = c .before .before .before .before .is-open-call in
+    let if1 = c .before .before .before .if1 in
+    let a = args in
+    let l = load-call .ensures in
     let t = ap (λ x. among 5 (x .kind)) l in
     record {
       is =
           ap (λ x. written x (a .count + 1)) (c .put-answer .ensures ∙ ap (putAnswer (a .answers .now) (a .count)) (c .before .ended .ensures .0 ∙ ap endedOf l))
-          ∙ ended-open (a .slots .now) (a .answers .now) (a .k) (a .count) (sym t ∙ sym (c .before .before .before .before .is-taken .ensures) ∙ c .before .before .before .if1 .taken);
+          ∙ ended-open (a .slots .now) (a .answers .now) (a .slot) (a .count) (sym t ∙ sym (is-open-call .ensures) ∙ if1 .taken);
       few = omega arith;
     }
 
 returns-2 : tie.Need-returns-2
 returns-2 c =
-    let a = c .before .before .before .args in
+    let args = c .before .before .before .args in
+    let a = args in
     let t = ap (λ x. among 5 (x .kind)) (c .before .before .load-call .ensures) in
     record {
-      is = ended-none (a .slots .now) (a .answers .now) (a .k) (a .count) (sym t ∙ sym (c .before .is-taken .ensures) ∙ c .if1 .left);
+      is = ended-none (a .slots .now) (a .answers .now) (a .slot) (a .count) (sym t ∙ sym (c .before .is-open-call .ensures) ∙ c .if1 .left);
       few = omega arith;
     }
 
@@ -52,7 +57,7 @@ end-call-spec =
     tie.close
     (tie.spec
     load-call-requires
-    is-taken-requires
+    is-open-call-requires
     ended-requires
     put-answer-requires
     add-result

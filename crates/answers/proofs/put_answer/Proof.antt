@@ -5,8 +5,8 @@ use borrow.Author.Needs.{needs}
 use Rattle.answers.proofs.put_answer.Statement.{statement}
 use Rattle.answers.proofs.put_answer.Tie as tie
 
-mul-p : tie.Need-mul-p
-mul-p c = search needs
+mul-base : tie.Need-mul-base
+mul-base c = search needs
 
 add-answers : tie.Need-add-answers
 add-answers c = search needs
@@ -43,7 +43,7 @@ pub put-answer-spec : {M : Type 1} → statement M
 put-answer-spec =
     tie.close
     (tie.spec
-    mul-p
+    mul-base
     add-answers
     mul-answers
     element-write-answers

@@ -4,11 +4,11 @@ use Rattle.bench.proofs.main.Statement.{statement}
 use Rattle.bench.proofs.main.Tie as tie
 
 abbrev Inv-loop : tie.InvT-loop
-Inv-loop counts₀ heads₀ slots₀ copies₀ works₀ texts₀ queue₀ loads₀ answers₀ reader₀ line₀ input₀ out₀ s₀ counts heads slots copies works texts queue loads answers reader line input out s =
+Inv-loop counts₀ heads₀ slots₀ copies₀ working₀ texts₀ queue₀ payloads₀ answers₀ reader₀ line₀ input₀ out₀ s₀ counts heads slots copies working texts queue payloads answers reader line input out s =
     Unit {0}
 
 abbrev μ-loop : tie.MeasureT-loop
-μ-loop counts₀ heads₀ slots₀ copies₀ works₀ texts₀ queue₀ loads₀ answers₀ reader₀ line₀ input₀ out₀ s₀ counts heads slots copies works texts queue loads answers reader line input out s =
+μ-loop counts₀ heads₀ slots₀ copies₀ working₀ texts₀ queue₀ payloads₀ answers₀ reader₀ line₀ input₀ out₀ s₀ counts heads slots copies working texts queue payloads answers reader line input out s =
     s .turns
 
 large-buffer-requires : tie.Need-large-buffer-requires Inv-loop μ-loop

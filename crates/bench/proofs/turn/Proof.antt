@@ -14,7 +14,9 @@ stop-requires : tie.Need-stop-requires
 stop-requires c κs = search needs
 
 returns : tie.Need-returns
-returns c = omega (arith, c .stop .ensures, c .before .before .before .before .before .before .before .before .before .before .before .before .before .before .before .before .before .before .pre)
+returns c =
+    let pre = c .before .before .before .before .before .before .before .before .before .before .before .before .before .before .before .before .before .before .pre in
+    omega (arith, c .stop .ensures, pre)
 
 rest-requires : tie.Need-rest-requires
 rest-requires c κs = search needs
@@ -23,7 +25,9 @@ feed-value-requires : tie.Need-feed-value-requires
 feed-value-requires c κs = search needs
 
 next-part-requires : tie.Need-next-part-requires
-next-part-requires c κs = c .before .before .before .before .before .before .before .before .before .before .before .before .before .before .before .before .before .before .before .before .before .pre
+next-part-requires c κs =
+    let pre = c .before .before .before .before .before .before .before .before .before .before .before .before .before .before .before .before .before .before .before .before .before .pre in
+    pre
 
 returns-2 : tie.Need-returns-2
 returns-2 c = search needs

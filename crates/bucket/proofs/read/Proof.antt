@@ -34,25 +34,38 @@ same-bytes-requires c κs = search needs
 
 returns-2 : tie.Need-returns-2
 returns-2 c =
-    let e = c .before .before .before .before .encode in
-    reading-same (c .before .before .before .before .before .before .before .before .before .before .before .args .bucket .now) (c .before .before .before .before .before .before .before .before .decode .result) (c .before .before .before .before .before .before .before .before .decode .ensures) (e .last .1 .0) (sym (c .before .before .before .before .before .before .before .fits2 .ensures) ∙ c .before .before .before .before .before .before .if2 .taken) (e .ensures)
-    (c .before .before .before .before .before .before .before .before .before .if1 .left) (e .kept .1 .0) (sym (c .before .same-bytes .ensures) ∙ c .if3 .taken)
+    let args = c .before .before .before .before .before .before .before .before .before .before .before .args in
+    let if1 = c .before .before .before .before .before .before .before .before .before .if1 in
+    let decode = c .before .before .before .before .before .before .before .before .decode in
+    let fits2 = c .before .before .before .before .before .before .before .fits2 in
+    let if2 = c .before .before .before .before .before .before .if2 in
+    let encode = c .before .before .before .before .encode in
+    let e = encode in
+    reading-same (args .bucket .now) (decode .result) (decode .ensures) (e .last .1 .0) (sym (fits2 .ensures) ∙ if2 .taken) (e .ensures)
+    (if1 .left) (e .kept .1 .0) (sym (c .before .same-bytes .ensures) ∙ c .if3 .taken)
 
 refused-requires-2 : tie.Need-refused-requires-2
 refused-requires-2 c κs = search needs
 
 returns-3 : tie.Need-returns-3
 returns-3 c =
-    let e = c .before .before .before .before .before .encode in
-    reading-other (c .before .before .before .before .before .before .before .before .before .before .before .before .args .bucket .now) (c .before .before .before .before .before .before .before .before .before .decode .result) (c .before .before .before .before .before .before .before .before .before .decode .ensures) (e .last .1 .0) (sym (c .before .before .before .before .before .before .before .before .fits2 .ensures) ∙ c .before .before .before .before .before .before .before .if2 .taken) (e .ensures)
-    _ (c .refused2 .ensures) (c .before .before .before .before .before .before .before .before .before .before .if1 .left) (e .kept .1 .0) (sym (c .before .before .same-bytes .ensures) ∙ c .before .if3 .left)
+    let args = c .before .before .before .before .before .before .before .before .before .before .before .before .args in
+    let if1 = c .before .before .before .before .before .before .before .before .before .before .if1 in
+    let decode = c .before .before .before .before .before .before .before .before .before .decode in
+    let fits2 = c .before .before .before .before .before .before .before .before .fits2 in
+    let if2 = c .before .before .before .before .before .before .before .if2 in
+    let encode = c .before .before .before .before .before .encode in
+    let e = encode in
+    reading-other (args .bucket .now) (decode .result) (decode .ensures) (e .last .1 .0) (sym (fits2 .ensures) ∙ if2 .taken) (e .ensures)
+    _ (c .refused2 .ensures) (if1 .left) (e .kept .1 .0) (sym (c .before .before .same-bytes .ensures) ∙ c .before .if3 .left)
 
 refused-requires-3 : tie.Need-refused-requires-3
 refused-requires-3 c κs = search needs
 
 returns-4 : tie.Need-returns-4
 returns-4 c =
-    reading-unfit _ (c .before .before .before .decode .result) (c .before .before .before .decode .ensures) _ (c .refused3 .ensures) (sym (c .before .before .fits2 .ensures) ∙ c .before .if2 .left)
+    let decode = c .before .before .before .decode in
+    reading-unfit _ (decode .result) (decode .ensures) _ (c .refused3 .ensures) (sym (c .before .before .fits2 .ensures) ∙ c .before .if2 .left)
 
 pub read-spec : {M : Type 1} → statement M
 read-spec =

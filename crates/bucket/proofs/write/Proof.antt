@@ -15,7 +15,10 @@ fits-requires c κs = search needs
 returns : tie.Need-returns
 unfolding writtenNumber
 returns c =
-    write-short (c .before .before .before .before .before .before .args .t) (c .before .before .before .before .before .before .args .out .now) (sym (c .before .before .before .before .sound .ensures) ∙ c .before .before .before .if1 .taken) (sym (c .before .before .fits2 .ensures) ∙ c .before .if2 .taken) (c .if3 .taken)
+    let args = c .before .before .before .before .before .before .args in
+    let sound = c .before .before .before .before .sound in
+    let if1 = c .before .before .before .if1 in
+    write-short (args .table) (args .out .now) (sym (sound .ensures) ∙ if1 .taken) (sym (c .before .before .fits2 .ensures) ∙ c .before .if2 .taken) (c .if3 .taken)
 
 encode-requires : tie.Need-encode-requires
 encode-requires c κs = search needs
@@ -26,16 +29,27 @@ same-length c = search needs
 returns-2 : tie.Need-returns-2
 unfolding writtenNumber
 returns-2 c =
-    write-done (c .before .before .before .before .before .before .before .before .before .before .args .t) (c .before .before .before .before .before .before .before .before .before .before .args .out .now) (c .before .before .encode .last .1 .0) (sym (c .before .before .before .before .before .before .before .before .sound .ensures) ∙ c .before .before .before .before .before .before .before .if1 .taken) (sym (c .before .before .before .before .before .before .fits2 .ensures) ∙ c .before .before .before .before .before .if2 .taken)
-    (c .before .before .before .before .if3 .left) (c .before .before .encode .ensures)
+    let args = c .before .before .before .before .before .before .before .before .before .before .args in
+    let sound = c .before .before .before .before .before .before .before .before .sound in
+    let if1 = c .before .before .before .before .before .before .before .if1 in
+    let fits2 = c .before .before .before .before .before .before .fits2 in
+    let if2 = c .before .before .before .before .before .if2 in
+    let if3 = c .before .before .before .before .if3 in
+    write-done (args .table) (args .out .now) (c .before .before .encode .last .1 .0) (sym (sound .ensures) ∙ if1 .taken) (sym (fits2 .ensures) ∙ if2 .taken)
+    (if3 .left) (c .before .before .encode .ensures)
 
 returns-3 : tie.Need-returns-3
 unfolding writtenNumber
-returns-3 c = write-unfit (c .before .before .before .before .before .args .t) (c .before .before .before .before .before .args .out .now) (sym (c .before .before .before .sound .ensures) ∙ c .before .before .if1 .taken) (sym (c .before .fits2 .ensures) ∙ c .if2 .left)
+returns-3 c =
+    let args = c .before .before .before .before .before .args in
+    let sound = c .before .before .before .sound in
+    write-unfit (args .table) (args .out .now) (sym (sound .ensures) ∙ c .before .before .if1 .taken) (sym (c .before .fits2 .ensures) ∙ c .if2 .left)
 
 returns-4 : tie.Need-returns-4
 unfolding writtenNumber
-returns-4 c = write-unsound (c .before .before .before .args .t) (c .before .before .before .args .out .now) (sym (c .before .sound .ensures) ∙ c .if1 .left)
+returns-4 c =
+    let args = c .before .before .before .args in
+    write-unsound (args .table) (args .out .now) (sym (c .before .sound .ensures) ∙ c .if1 .left)
 
 pub write-spec : {M : Type 1} → statement M
 write-spec =

@@ -21,7 +21,10 @@ same-length c = search needs
 returns : tie.Need-returns
 unfolding outcomeNumber itemIn
 returns c =
-    get-found _ _ _ _ (valueBytes (c .before .before .before .before .before .before .before .before .look-up .result .item .value)) _ (rw (c .before .before .before .before .before .enum-told .given .1) at (c .before .before .before .before .before .before .before .before .look-up .ensures .is)) (rw (itemIn, c .before .before .before .before .if1 .taken)) (c .before .before .put-found .ensures)
+    let look-up = c .before .before .before .before .before .before .before .before .look-up in
+    let enum-told = c .before .before .before .before .before .enum-told in
+    let if1 = c .before .before .before .before .if1 in
+    get-found _ _ _ _ (valueBytes (look-up .result .item .value)) _ (rw (enum-told .given .1) at (look-up .ensures .is)) (rw (itemIn, if1 .taken)) (c .before .before .put-found .ensures)
 
 enum-told-2 : tie.Need-enum-told-2
 enum-told-2 c = search needs
@@ -29,11 +32,14 @@ enum-told-2 c = search needs
 returns-2 : tie.Need-returns-2
 unfolding outcomeNumber itemIn
 returns-2 c =
-    get-absent _ _ _ _ (rw (c .before .enum-told .given .1) at (c .before .before .before .before .look-up .ensures .is)) (rw (itemIn, c .if1 .left))
+    let look-up = c .before .before .before .before .look-up in
+    get-absent _ _ _ _ (rw (c .before .enum-told .given .1) at (look-up .ensures .is)) (rw (itemIn, c .if1 .left))
 
 returns-3 : tie.Need-returns-3
 unfolding outcomeNumber
-returns-3 c = get-refused _ _ _ _ (rw (c .enum-told2 .given .1) at (c .before .before .before .look-up .ensures .is))
+returns-3 c =
+    let look-up = c .before .before .before .look-up in
+    get-refused _ _ _ _ (rw (c .enum-told2 .given .1) at (look-up .ensures .is))
 
 pub bucket-get-spec : {M : Type 1} → statement M
 bucket-get-spec =

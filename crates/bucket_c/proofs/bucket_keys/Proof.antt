@@ -17,7 +17,9 @@ keys-room-requires c κs = search needs
 
 returns : tie.Need-returns
 unfolding outcomeNumber keysIn
-returns c = keys-listed _ _ _ _ (rw (c .before .before .enum-told .given .1) at (c .before .before .before .before .list-keys .ensures .is)) (out-short _ _ _ (rw (c .before .keys-room .ensures) at (c .if1 .taken)))
+returns c =
+    let list-keys = c .before .before .before .before .list-keys in
+    keys-listed _ _ _ _ (rw (c .before .before .enum-told .given .1) at (list-keys .ensures .is)) (out-short _ _ _ (rw (c .before .keys-room .ensures) at (c .if1 .taken)))
 
 put-keys-requires : tie.Need-put-keys-requires
 put-keys-requires c κs = search needs
@@ -31,7 +33,9 @@ same-length c = search needs
 returns-2 : tie.Need-returns-2
 unfolding outcomeNumber keysIn
 returns-2 c =
-    keys-listed _ _ _ _ (rw (c .before .before .before .before .before .before .enum-told .given .1) at (c .before .before .before .before .before .before .before .before .list-keys .ensures .is)) (c .before .before .put-keys .ensures)
+    let list-keys = c .before .before .before .before .before .before .before .before .list-keys in
+    let enum-told = c .before .before .before .before .before .before .enum-told in
+    keys-listed _ _ _ _ (rw (enum-told .given .1) at (list-keys .ensures .is)) (c .before .before .put-keys .ensures)
 
 returns-3 : tie.Need-returns-3
 unfolding outcomeNumber

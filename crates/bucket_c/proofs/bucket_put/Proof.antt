@@ -13,7 +13,9 @@ same-length : tie.Need-same-length
 same-length c = search needs
 
 returns : tie.Need-returns
-returns c = rw (c .change-number .ensures) (c .before .before .before .put .ensures)
+returns c =
+    let put = c .before .before .before .put in
+    rw (c .change-number .ensures) (put .ensures)
 
 pub bucket-put-spec : {M : Type 1} → statement M
 bucket-put-spec = tie.close (tie.spec put-requires change-number-requires same-length returns)

@@ -13,7 +13,9 @@ same-length : tie.Need-same-length
 same-length c = search needs
 
 returns : tie.Need-returns
-returns c = rw (c .outcome-number .ensures) (c .before .before .before .remove .ensures)
+returns c =
+    let remove = c .before .before .before .remove in
+    rw (c .outcome-number .ensures) (remove .ensures)
 
 pub bucket-remove-spec : {M : Type 1} → statement M
 bucket-remove-spec =

@@ -16,7 +16,10 @@ same-length : tie.Need-same-length
 same-length c = search needs
 
 returns : tie.Need-returns
-returns c = rw (c .written-number .ensures, ← c .before .before .before .before .before .table-from .ensures) (c .before .before .before .write .ensures)
+returns c =
+    let table-from = c .before .before .before .before .before .table-from in
+    let write = c .before .before .before .write in
+    rw (c .written-number .ensures, ← table-from .ensures) (write .ensures)
 
 pub bucket-write-spec : {M : Type 1} → statement M
 bucket-write-spec =

@@ -16,11 +16,11 @@ abbrev μ-loop : tie.MeasureT-loop
 loop-holds : tie.Need-loop-holds Inv-loop μ-loop
 loop-holds c = passing-starts (c .before .pre) (simp length-map at (c .before .good .0 .1 .1 .1 .1 .0 .1 .0 .1))
 
-mul-k : tie.Need-mul-k Inv-loop μ-loop
-mul-k c = search needs
+mul-key : tie.Need-mul-key Inv-loop μ-loop
+mul-key c = search needs
 
-array-copy-out-k : tie.Need-array-copy-out-k Inv-loop μ-loop
-array-copy-out-k c = search needs
+array-copy-out-key : tie.Need-array-copy-out-key Inv-loop μ-loop
+array-copy-out-key c = search needs
 
 key-length-requires : tie.Need-key-length-requires Inv-loop μ-loop
 key-length-requires c κs = search needs
@@ -38,7 +38,9 @@ loop-less : tie.Need-loop-less Inv-loop μ-loop
 loop-less c = search needs
 
 loop-again : tie.Need-loop-again Inv-loop μ-loop
-loop-again c = passing-goes-on (c .before .before .before .loop .inv) (c .before .before .loop-test .taken) (c .key-length .ensures .is) (c .key-length .ensures .low)
+loop-again c =
+    let loop = c .before .before .before .loop in
+    passing-goes-on (loop .inv) (c .before .before .loop-test .taken) (c .key-length .ensures .is) (c .key-length .ensures .low)
 
 returns : tie.Need-returns Inv-loop μ-loop
 unfolding keysIn
@@ -51,8 +53,8 @@ keys-room-spec =
     Inv-loop
     μ-loop
     loop-holds
-    mul-k
-    array-copy-out-k
+    mul-key
+    array-copy-out-key
     key-length-requires
     add-room
     add-room-2

@@ -21,8 +21,10 @@ same-length c = search needs
 
 returns-2 : tie.Need-returns-2
 returns-2 c =
-    let e = c .before .before .before .before .before .value-length .ensures .is in
-    rw e (out-done _ _ _ _ (rw e at (c .before .before .before .before .if1 .left)) (c .before .before .put-value .ensures))
+    let value-length = c .before .before .before .before .before .value-length in
+    let if1 = c .before .before .before .before .if1 in
+    let e = value-length .ensures .is in
+    rw e (out-done _ _ _ _ (rw e at (if1 .left)) (c .before .before .put-value .ensures))
 
 pub put-found-spec : {M : Type 1} → statement M
 put-found-spec =

@@ -18,11 +18,11 @@ loop-holds : tie.Need-loop-holds Inv-loop μ-loop
 unfolding keysIn
 loop-holds c = putting-starts (c .before .before .pre .0) (simp length-map at (c .before .before .good .1 .0 .1 .1 .1 .1 .0 .1 .0 .1)) (c .before .before .pre .1)
 
-mul-k : tie.Need-mul-k Inv-loop μ-loop
-mul-k c = search needs
+mul-key : tie.Need-mul-key Inv-loop μ-loop
+mul-key c = search needs
 
-array-copy-out-k : tie.Need-array-copy-out-k Inv-loop μ-loop
-array-copy-out-k c = search needs
+array-copy-out-key : tie.Need-array-copy-out-key Inv-loop μ-loop
+array-copy-out-key c = search needs
 
 key-length-requires : tie.Need-key-length-requires Inv-loop μ-loop
 key-length-requires c κs = search needs
@@ -31,13 +31,18 @@ cast-out : tie.Need-cast-out Inv-loop μ-loop
 cast-out c = search needs
 
 slice-write-out : tie.Need-slice-write-out Inv-loop μ-loop
-slice-write-out c = omega (arith, putting-within (c .before .before .before .loop .inv) (c .before .before .loop-test .taken) (c .key-length .ensures .is))
+slice-write-out c =
+    let loop = c .before .before .before .loop in
+    omega (arith, putting-within (loop .inv) (c .before .before .loop-test .taken) (c .key-length .ensures .is))
 
 add-put-key : tie.Need-add-put-key Inv-loop μ-loop
 add-put-key c = search needs
 
 put-key-requires : tie.Need-put-key-requires Inv-loop μ-loop
-put-key-requires c κs = simp length-set (omega (arith, c .before .key-length .ensures .is, putting-within (c .before .before .before .before .loop .inv) (c .before .before .before .loop-test .taken) (c .before .key-length .ensures .is)))
+put-key-requires c κs =
+    let loop = c .before .before .before .before .loop in
+    let loop-test = c .before .before .before .loop-test in
+    simp length-set (omega (arith, c .before .key-length .ensures .is, putting-within (loop .inv) (loop-test .taken) (c .before .key-length .ensures .is)))
 
 add-at : tie.Need-add-at Inv-loop μ-loop
 add-at c = search needs
@@ -53,8 +58,11 @@ loop-less c = search needs
 
 loop-again : tie.Need-loop-again Inv-loop μ-loop
 loop-again c =
-    let k = c .before .before .before .before .key-length .ensures in
-    putting-goes-on (c .before .before .before .before .before .before .before .loop .inv) (c .before .before .before .before .before .before .loop-test .taken) (k .is) (c .before .before .put-key .last .0) (k .low) (c .before .before .put-key .ensures)
+    let loop = c .before .before .before .before .before .before .before .loop in
+    let loop-test = c .before .before .before .before .before .before .loop-test in
+    let key-length = c .before .before .before .before .key-length in
+    let k = key-length .ensures in
+    putting-goes-on (loop .inv) (loop-test .taken) (k .is) (c .before .before .put-key .last .0) (k .low) (c .before .before .put-key .ensures)
 
 cast-result : tie.Need-cast-result Inv-loop μ-loop
 cast-result c = search needs
@@ -73,8 +81,8 @@ put-keys-spec =
     Inv-loop
     μ-loop
     loop-holds
-    mul-k
-    array-copy-out-k
+    mul-key
+    array-copy-out-key
     key-length-requires
     cast-out
     slice-write-out

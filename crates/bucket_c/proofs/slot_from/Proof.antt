@@ -40,7 +40,11 @@ value-from-requires : tie.Need-value-from-requires
 value-from-requires c κs = search needs
 
 returns : tie.Need-returns
-returns c = rw (c .before .key-from .ensures, c .value-from .ensures, c .before .before .before .before .wide .ensures, c .before .before .wide2 .ensures, c .before .before .before .before .before .byte-at .ensures, c .before .before .before .byte-at2 .ensures)
+returns c =
+    let byte-at = c .before .before .before .before .before .byte-at in
+    let wide = c .before .before .before .before .wide in
+    let byte-at2 = c .before .before .before .byte-at2 in
+    rw (c .before .key-from .ensures, c .value-from .ensures, wide .ensures, c .before .before .wide2 .ensures, byte-at .ensures, byte-at2 .ensures)
 
 pub slot-from-spec : {M : Type 1} → statement M
 slot-from-spec =

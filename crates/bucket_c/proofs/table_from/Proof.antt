@@ -18,7 +18,9 @@ slot-from-requires-4 c κs = search needs
 
 returns : tie.Need-returns
 unfolding tableFrom
-returns c = rw (c .before .before .before .slot-from .ensures, c .before .before .slot-from2 .ensures, c .before .slot-from3 .ensures, c .slot-from4 .ensures)
+returns c =
+    let slot-from = c .before .before .before .slot-from in
+    rw (slot-from .ensures, c .before .before .slot-from2 .ensures, c .before .slot-from3 .ensures, c .slot-from4 .ensures)
 
 pub table-from-spec : {M : Type 1} → statement M
 table-from-spec =

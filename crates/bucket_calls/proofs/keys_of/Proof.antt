@@ -31,7 +31,10 @@ trimmed-key-requires-4 c κs = search needs
 
 returns : tie.Need-returns
 returns c =
-    keys-taken (simp length-map at (c .before .before .before .before .before .before .before .before .before .good .0 .1 .1 .1 .0 .1 .0 .1)) (c .before .before .before .before .before .before .trimmed-key .ensures) (c .before .before .before .before .trimmed-key2 .ensures) (c .before .before .trimmed-key3 .ensures) (c .trimmed-key4 .ensures)
+    let good = c .before .before .before .before .before .before .before .before .before .good in
+    let trimmed-key = c .before .before .before .before .before .before .trimmed-key in
+    let trimmed-key2 = c .before .before .before .before .trimmed-key2 in
+    keys-taken (simp length-map at (good .0 .1 .1 .1 .0 .1 .0 .1)) (trimmed-key .ensures) (trimmed-key2 .ensures) (c .before .before .trimmed-key3 .ensures) (c .trimmed-key4 .ensures)
 
 pub keys-of-spec : {M : Type 1} → statement M
 keys-of-spec =

@@ -19,10 +19,11 @@ keys-of-requires c κs = search needs
 returns : tie.Need-returns
 unfolding keysIn
 returns c =
+    let read = c .before .before .before .read in
     record {
       is =
-          list-done _ _ _ (c .before .before .before .read .ensures .number)
-          (rw (c .keys-of .ensures .is) (keys-in-use (c .before .before .before .read .result .table) (c .before .count-of .result) (c .before .count-of .ensures)) ∙ ap keysOf (c .before .before .before .read .ensures .table));
+          list-done _ _ _ (read .ensures .number)
+          (rw (c .keys-of .ensures .is) (keys-in-use (read .result .table) (c .before .count-of .result) (c .before .count-of .ensures)) ∙ ap keysOf (read .ensures .table));
       count = c .before .count-of .ensures .low;
       lengths = c .keys-of .ensures .lengths;
     }

@@ -18,8 +18,9 @@ absent-requires c κs = search needs
 
 returns : tie.Need-returns
 returns c =
+    let read = c .before .before .before .read in
     record {
-      is = look-long _ _ _ _ (c .before .before .before .read .ensures .number) (ap itemIn (c .absent .ensures) ∙ absent-none) (c .before .if1 .taken);
+      is = look-long _ _ _ _ (read .ensures .number) (ap itemIn (c .absent .ensures) ∙ absent-none) (c .before .if1 .taken);
       within = rw (c .absent .ensures) (omega arith);
     }
 
@@ -34,11 +35,13 @@ trimmed-item-requires c κs = search needs
 
 returns-2 : tie.Need-returns-2
 returns-2 c =
-    let r = c .before .before .before .before .before .read .ensures in
+    let read = c .before .before .before .before .before .read in
+    let if1 = c .before .before .before .if1 in
+    let r = read .ensures in
     record {
       is =
           look-found _ _ _ _ (r .number)
-          (c .trimmed-item .ensures .is ∙ c .before .find .ensures ∙ ap₂ valueOf (c .before .before .key-of .ensures ∙ take-all 8 _ (c .before .before .before .if1 .left)) (r .table));
+          (c .trimmed-item .ensures .is ∙ c .before .find .ensures ∙ ap₂ valueOf (c .before .before .key-of .ensures ∙ take-all 8 _ (if1 .left)) (r .table));
       within = c .trimmed-item .ensures .within;
     }
 

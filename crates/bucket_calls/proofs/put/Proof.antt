@@ -23,8 +23,12 @@ same-length c = search needs
 
 returns : tie.Need-returns
 returns c =
+    let storable = c .before .before .before .before .before .before .before .storable in
+    let if1 = c .before .before .before .before .before .before .if1 in
+    let key-of = c .before .before .before .before .key-of in
+    let value-of = c .before .before .before .value-of in
     c .before .before .put-in .ensures
-    ∙ put-storable _ _ _ _ _ (sym (c .before .before .before .before .before .before .before .storable .ensures) ∙ c .before .before .before .before .before .before .if1 .taken) (c .before .before .before .before .key-of .ensures) (c .before .before .before .value-of .ensures)
+    ∙ put-storable _ _ _ _ _ (sym (storable .ensures) ∙ if1 .taken) (key-of .ensures) (value-of .ensures)
 
 returns-2 : tie.Need-returns-2
 unfolding changeNumber

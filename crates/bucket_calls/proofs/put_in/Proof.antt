@@ -23,10 +23,14 @@ same-length c = search needs
 returns : tie.Need-returns
 unfolding changeNumber itemIn
 returns c =
-    put-full _ _ _ _ (was-read (c .before .before .before .before .before .read .ensures) (c .before .before .enum-told .given .1)) (was-full (c .before .store .result) (c .before .store .ensures) (c .if1 .taken))
+    let read = c .before .before .before .before .before .read in
+    put-full _ _ _ _ (was-read (read .ensures) (c .before .before .enum-told .given .1)) (was-full (c .before .store .result) (c .before .store .ensures) (c .if1 .taken))
 
 encode-requires : tie.Need-encode-requires
-encode-requires c κs = omega (arith, length-read _ _ (was-read (c .before .before .before .before .before .before .before .read .ensures) (c .before .before .before .before .enum-told .given .1)))
+encode-requires c κs =
+    let read = c .before .before .before .before .before .before .before .read in
+    let enum-told = c .before .before .before .before .enum-told in
+    omega (arith, length-read _ _ (was-read (read .ensures) (enum-told .given .1)))
 
 enum-told-2 : tie.Need-enum-told-2
 enum-told-2 c = search needs
@@ -37,7 +41,11 @@ same-length-2 c = search needs
 returns-2 : tie.Need-returns-2
 unfolding changeNumber itemIn
 returns-2 c =
-    put-done _ _ _ _ _ _ (was-read (c .before .before .before .before .before .before .before .before .before .before .read .ensures) (c .before .before .before .before .before .before .before .enum-told .given .1)) (was-stored (c .before .before .before .before .before .before .store .result) (c .before .before .before .before .before .before .store .ensures) (c .before .before .before .before .before .if1 .left))
+    let read = c .before .before .before .before .before .before .before .before .before .before .read in
+    let enum-told = c .before .before .before .before .before .before .before .enum-told in
+    let store = c .before .before .before .before .before .before .store in
+    let if1 = c .before .before .before .before .before .if1 in
+    put-done _ _ _ _ _ _ (was-read (read .ensures) (enum-told .given .1)) (was-stored (store .result) (store .ensures) (if1 .left))
     (c .before .before .encode .ensures)
 
 same-length-3 : tie.Need-same-length-3
@@ -45,7 +53,9 @@ same-length-3 c = search needs
 
 returns-3 : tie.Need-returns-3
 unfolding changeNumber
-returns-3 c = put-refused _ _ _ (was-refused (c .before .before .before .read .ensures) (c .enum-told2 .given .1))
+returns-3 c =
+    let read = c .before .before .before .read in
+    put-refused _ _ _ (was-refused (read .ensures) (c .enum-told2 .given .1))
 
 pub put-in-spec : {M : Type 1} → statement M
 put-in-spec =

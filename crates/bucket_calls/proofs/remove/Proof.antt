@@ -22,7 +22,9 @@ same-length c = search needs
 
 returns : tie.Need-returns
 unfolding outcomeNumber
-returns c = remove-long _ _ _ (was-read (c .before .before .before .before .read .ensures) (c .before .enum-told .given .1)) (c .if1 .taken)
+returns c =
+    let read = c .before .before .before .before .read in
+    remove-long _ _ _ (was-read (read .ensures) (c .before .enum-told .given .1)) (c .if1 .taken)
 
 key-of-requires : tie.Need-key-of-requires
 key-of-requires c κs = search needs
@@ -31,7 +33,10 @@ remove-requires : tie.Need-remove-requires
 remove-requires c κs = search needs
 
 encode-requires : tie.Need-encode-requires
-encode-requires c κs = omega (arith, length-read _ _ (was-read (c .before .before .before .before .before .before .before .read .ensures) (c .before .before .before .before .enum-told .given .1)))
+encode-requires c κs =
+    let read = c .before .before .before .before .before .before .before .read in
+    let enum-told = c .before .before .before .before .enum-told in
+    omega (arith, length-read _ _ (was-read (read .ensures) (enum-told .given .1)))
 
 enum-told-2 : tie.Need-enum-told-2
 enum-told-2 c = search needs
@@ -42,8 +47,13 @@ same-length-2 c = search needs
 returns-2 : tie.Need-returns-2
 unfolding outcomeNumber
 returns-2 c =
-    remove-done _ _ _ _ _ (was-read (c .before .before .before .before .before .before .before .before .before .before .read .ensures) (c .before .before .before .before .before .before .before .enum-told .given .1))
-    (c .before .before .before .before .remove .ensures ∙ ap (λ k. remove k (tableIn (c .before .before .before .before .before .before .before .before .before .before .read .result .table))) (c .before .before .before .before .before .key-of .ensures ∙ take-all 8 _ (c .before .before .before .before .before .before .if1 .left)))
+    let read = c .before .before .before .before .before .before .before .before .before .before .read in
+    let enum-told = c .before .before .before .before .before .before .before .enum-told in
+    let if1 = c .before .before .before .before .before .before .if1 in
+    let key-of = c .before .before .before .before .before .key-of in
+    let remove-call = c .before .before .before .before .remove in
+    remove-done _ _ _ _ _ (was-read (read .ensures) (enum-told .given .1))
+    (remove-call .ensures ∙ ap (λ k. remove k (tableIn (read .result .table))) (key-of .ensures ∙ take-all 8 _ (if1 .left)))
     (c .before .before .encode .ensures)
 
 same-length-3 : tie.Need-same-length-3
@@ -51,7 +61,9 @@ same-length-3 c = search needs
 
 returns-3 : tie.Need-returns-3
 unfolding outcomeNumber
-returns-3 c = remove-refused _ _ (was-refused (c .before .before .before .read .ensures) (c .enum-told2 .given .1))
+returns-3 c =
+    let read = c .before .before .before .read in
+    remove-refused _ _ (was-refused (read .ensures) (c .enum-told2 .given .1))
 
 pub remove-spec : {M : Type 1} → statement M
 remove-spec =

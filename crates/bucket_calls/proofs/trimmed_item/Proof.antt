@@ -14,8 +14,9 @@ value-length-requires c κs = search needs
 returns : tie.Need-returns
 unfolding itemIn valueBytes
 returns c =
+    let args = c .before .before .before .args in
     record {
-      is = ap (λ v. elim (c .before .before .before .args .i .there) [ true ↦ some v | false ↦ none ]) (value-whole (c .before .before .before .args .i .value) (c .before .value-length .ensures));
+      is = ap (λ v. elim (args .item .there) [ true ↦ some v | false ↦ none ]) (value-whole (args .item .value) (c .before .value-length .ensures));
       within = c .before .value-length .ensures .low;
     }
 

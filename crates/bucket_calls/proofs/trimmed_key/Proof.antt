@@ -10,7 +10,9 @@ key-length-requires c κs = search needs
 
 returns : tie.Need-returns
 unfolding keyBytes
-returns c = record { is = key-whole (c .before .before .before .args .s .key) (c .before .key-length .ensures); within = c .before .key-length .ensures .low }
+returns c =
+    let args = c .before .before .before .args in
+    record { is = key-whole (args .slot .key) (c .before .key-length .ensures); within = c .before .key-length .ensures .low }
 
 pub trimmed-key-spec : {M : Type 1} → statement M
 trimmed-key-spec = tie.close (tie.spec key-length-requires returns)

@@ -25,20 +25,20 @@ loop-holds c = testing-starts (c .before .count-of .ensures .low) (c .before .co
 add-loop : tie.Need-add-loop Inv-loop μ-loop
 add-loop c = search needs
 
-mul-a : tie.Need-mul-a Inv-loop μ-loop
-mul-a c = search needs
+mul-slot : tie.Need-mul-slot Inv-loop μ-loop
+mul-slot c = search needs
 
-array-copy-out-a : tie.Need-array-copy-out-a Inv-loop μ-loop
-array-copy-out-a c = search needs
+array-copy-out-slot : tie.Need-array-copy-out-slot Inv-loop μ-loop
+array-copy-out-slot c = search needs
 
-add-b : tie.Need-add-b Inv-loop μ-loop
-add-b c = search needs
+add-next : tie.Need-add-next Inv-loop μ-loop
+add-next c = search needs
 
-mul-b : tie.Need-mul-b Inv-loop μ-loop
-mul-b c = search needs
+mul-next : tie.Need-mul-next Inv-loop μ-loop
+mul-next c = search needs
 
-array-copy-out-b : tie.Need-array-copy-out-b Inv-loop μ-loop
-array-copy-out-b c = search needs
+array-copy-out-next : tie.Need-array-copy-out-next Inv-loop μ-loop
+array-copy-out-next c = search needs
 
 compare-requires : tie.Need-compare-requires Inv-loop μ-loop
 compare-requires c κs = search needs
@@ -53,28 +53,42 @@ loop-less : tie.Need-loop-less Inv-loop μ-loop
 loop-less c = search needs
 
 loop-again : tie.Need-loop-again Inv-loop μ-loop
-loop-again c = rising-goes-on (c .before .before .before .before .before .before .before .before .loop .inv) (c .before .before .before .before .before .before .before .loop-test .taken) (sym (c .before .before .compare .ensures) ∙ c .enum-told .given .1)
+loop-again c =
+    let loop = c .before .before .before .before .before .before .before .before .loop in
+    let loop-test = c .before .before .before .before .before .before .before .loop-test in
+    rising-goes-on (loop .inv) (loop-test .taken) (sym (c .before .before .compare .ensures) ∙ c .enum-told .given .1)
 
 enum-told-2 : tie.Need-enum-told-2 Inv-loop μ-loop
 enum-told-2 c = search needs
 
 returns : tie.Need-returns Inv-loop μ-loop
 returns c =
+    let args = c .before .before .before .before .before .before .before .before .before .before .before .args in
+    let count-of = c .before .before .before .before .before .before .before .before .before .before .count-of in
+    let loop = c .before .before .before .before .before .before .before .before .loop in
+    let loop-test = c .before .before .before .before .before .before .before .loop-test in
     sym
-    (rw (table-whole (c .before .before .before .before .before .before .before .before .before .before .before .args .t) (c .before .before .before .before .before .before .before .before .before .before .count-of .ensures)) at
-    (rising-fails (c .before .before .before .before .before .before .before .before .loop .inv) Same (c .before .before .before .before .before .before .before .loop-test .taken) (sym (c .before .before .compare .ensures) ∙ c .enum-told2 .given .1) (λ e. let z : _≡_ {A = ℕ} 0 1 = cc in omega arith)))
+    (rw (table-whole (args .table) (count-of .ensures)) at
+    (rising-fails (loop .inv) Same (loop-test .taken) (sym (c .before .before .compare .ensures) ∙ c .enum-told2 .given .1) (λ e. let z : _≡_ {A = ℕ} 0 1 = cc in omega arith)))
 
 enum-told-3 : tie.Need-enum-told-3 Inv-loop μ-loop
 enum-told-3 c = search needs
 
 returns-2 : tie.Need-returns-2 Inv-loop μ-loop
 returns-2 c =
+    let args = c .before .before .before .before .before .before .before .before .before .before .before .args in
+    let count-of = c .before .before .before .before .before .before .before .before .before .before .count-of in
+    let loop = c .before .before .before .before .before .before .before .before .loop in
+    let loop-test = c .before .before .before .before .before .before .before .loop-test in
     sym
-    (rw (table-whole (c .before .before .before .before .before .before .before .before .before .before .before .args .t) (c .before .before .before .before .before .before .before .before .before .before .count-of .ensures)) at
-    (rising-fails (c .before .before .before .before .before .before .before .before .loop .inv) After (c .before .before .before .before .before .before .before .loop-test .taken) (sym (c .before .before .compare .ensures) ∙ c .enum-told3 .given .1) (λ e. let z : _≡_ {A = ℕ} 0 1 = cc in omega arith)))
+    (rw (table-whole (args .table) (count-of .ensures)) at
+    (rising-fails (loop .inv) After (loop-test .taken) (sym (c .before .before .compare .ensures) ∙ c .enum-told3 .given .1) (λ e. let z : _≡_ {A = ℕ} 0 1 = cc in omega arith)))
 
 returns-3 : tie.Need-returns-3 Inv-loop μ-loop
-returns-3 c = sym (rw (table-whole (c .before .before .before .before .args .t) (c .before .before .before .count-of .ensures)) at (rising-ends (c .before .loop .inv) (c .loop-test .left)))
+returns-3 c =
+    let args = c .before .before .before .before .args in
+    let count-of = c .before .before .before .count-of in
+    sym (rw (table-whole (args .table) (count-of .ensures)) at (rising-ends (c .before .loop .inv) (c .loop-test .left)))
 
 pub all-rising-spec : {M : Type 1} → statement M
 all-rising-spec =
@@ -85,11 +99,11 @@ all-rising-spec =
     count-of-requires
     loop-holds
     add-loop
-    mul-a
-    array-copy-out-a
-    add-b
-    mul-b
-    array-copy-out-b
+    mul-slot
+    array-copy-out-slot
+    add-next
+    mul-next
+    array-copy-out-next
     compare-requires
     enum-told
     add-i

@@ -21,11 +21,11 @@ count-of-requires c κs = search needs
 loop-holds : tie.Need-loop-holds Inv-loop μ-loop
 loop-holds c = testing-starts (c .before .count-of .ensures .low) (c .before .count-of .ensures .four)
 
-mul-s : tie.Need-mul-s Inv-loop μ-loop
-mul-s c = search needs
+mul-slot : tie.Need-mul-slot Inv-loop μ-loop
+mul-slot c = search needs
 
-array-copy-out-s : tie.Need-array-copy-out-s Inv-loop μ-loop
-array-copy-out-s c = search needs
+array-copy-out-slot : tie.Need-array-copy-out-slot Inv-loop μ-loop
+array-copy-out-slot c = search needs
 
 entry-sized-requires : tie.Need-entry-sized-requires Inv-loop μ-loop
 entry-sized-requires c κs = search needs
@@ -37,21 +37,30 @@ loop-less : tie.Need-loop-less Inv-loop μ-loop
 loop-less c = search needs
 
 loop-again : tie.Need-loop-again Inv-loop μ-loop
-loop-again c = sized-goes-on (c .before .before .before .before .loop .inv) (c .before .before .before .loop-test .taken) (sym (c .before .entry-sized .ensures) ∙ c .if1 .taken)
+loop-again c =
+    let loop = c .before .before .before .before .loop in
+    let loop-test = c .before .before .before .loop-test in
+    sized-goes-on (loop .inv) (loop-test .taken) (sym (c .before .entry-sized .ensures) ∙ c .if1 .taken)
 
 returns : tie.Need-returns Inv-loop μ-loop
 returns c =
-    let n = c .before .before .before .before .before .before .count-of .ensures in
+    let args = c .before .before .before .before .before .before .before .args in
+    let count-of = c .before .before .before .before .before .before .count-of in
+    let loop = c .before .before .before .before .loop in
+    let loop-test = c .before .before .before .loop-test in
+    let n = count-of .ensures in
     record {
-      is = sym (rw (table-whole (c .before .before .before .before .before .before .before .args .t) n) at (sized-fails (c .before .before .before .before .loop .inv) (c .before .before .before .loop-test .taken) (sym (c .before .entry-sized .ensures) ∙ c .if1 .left)));
+      is = sym (rw (table-whole (args .table) n) at (sized-fails (loop .inv) (loop-test .taken) (sym (c .before .entry-sized .ensures) ∙ c .if1 .left)));
       few = omega (arith, n .is, n .low);
     }
 
 returns-2 : tie.Need-returns-2 Inv-loop μ-loop
 returns-2 c =
-    let n = c .before .before .before .count-of .ensures in
+    let args = c .before .before .before .before .args in
+    let count-of = c .before .before .before .count-of in
+    let n = count-of .ensures in
     record {
-      is = sym (rw (table-whole (c .before .before .before .before .args .t) n) at (sized-ends (c .before .loop .inv) (c .loop-test .left)));
+      is = sym (rw (table-whole (args .table) n) at (sized-ends (c .before .loop .inv) (c .loop-test .left)));
       few = omega (arith, n .is, n .low);
     }
 
@@ -63,8 +72,8 @@ all-sized-spec =
     μ-loop
     count-of-requires
     loop-holds
-    mul-s
-    array-copy-out-s
+    mul-slot
+    array-copy-out-slot
     entry-sized-requires
     add-i
     loop-less

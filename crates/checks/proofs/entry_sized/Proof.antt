@@ -15,13 +15,16 @@ key-length-requires c κs = search needs
 
 returns : tie.Need-returns
 unfolding entryIn
-returns c = sym (no-key 16 (entryIn (c .before .before .before .args .s)) [] (sym (c .before .key-length .ensures .is) ∙ c .if1 .taken))
+returns c =
+    let args = c .before .before .before .args in
+    sym (no-key 16 (entryIn (args .slot)) [] (sym (c .before .key-length .ensures .is) ∙ c .if1 .taken))
 
 returns-2 : tie.Need-returns-2
 unfolding entryIn valueBytes sized
 returns-2 c =
+    let args = c .before .before .before .args in
     let k = c .before .key-length in
-    let s = c .before .before .before .args .s in
+    let s = args .slot in
     let l : length (s .value .bytes) ≡ 16 = search needs in
     sym
     (sized-from 16 (entryIn s) []

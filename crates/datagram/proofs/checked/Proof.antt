@@ -10,7 +10,7 @@ well-formed-requires : tie.Need-well-formed-requires
 well-formed-requires c κs = search needs
 
 returns : tie.Need-returns
-returns c = stands-too (stands-taken (c .before .before .args .d) (c .before .before .pre)) (sym (checked-right _ (sym (c .before .well-formed .ensures) ∙ c .if1 .taken)))
+returns c = stands-too (stands-taken (c .before .before .args .datagram) (c .before .before .pre)) (sym (checked-right _ (sym (c .before .well-formed .ensures) ∙ c .if1 .taken)))
 
 refused-requires : tie.Need-refused-requires
 refused-requires c κs = search needs

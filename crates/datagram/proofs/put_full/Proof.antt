@@ -30,7 +30,11 @@ same-length c = search needs
 returns : tie.Need-returns
 unfolding meant headerBytes
 returns c =
-    full-stored (c .before .before .before .before .before .before .before .before .before .before .before .before .before .before .args .d) (c .before .before .before .before .before .before .before .before .before .before .before .before .before .before .args .out .now) (c .before .before .before .before .before .before .put-version .last .0) (c .before .before .write .last .1 .0) _ (c .before .before .before .before .before .before .before .before .before .before .before .before .before .before .pre .0) (c .before .before .before .before .before .before .before .before .before .before .before .before .before .before .pre .1) (rw (c .before .before .before .before .before .before .put-version .ensures, c .before .before .before .before .before .before .before .before .before .before .put-header .ensures)) (c .before .before .write .ensures)
+    let pre = c .before .before .before .before .before .before .before .before .before .before .before .before .before .before .pre in
+    let args = c .before .before .before .before .before .before .before .before .before .before .before .before .before .before .args in
+    let put-header = c .before .before .before .before .before .before .before .before .before .before .put-header in
+    let put-version = c .before .before .before .before .before .before .put-version in
+    full-stored (args .datagram) (args .out .now) (put-version .last .0) (c .before .before .write .last .1 .0) _ (pre .0) (pre .1) (rw (put-version .ensures, put-header .ensures)) (c .before .before .write .ensures)
 
 pub put-full-spec : {M : Type 1} → statement M
 put-full-spec =

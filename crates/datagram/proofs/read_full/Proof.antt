@@ -28,8 +28,12 @@ read-version-requires c κs = search needs
 
 returns : tie.Need-returns
 returns c =
+    let pre = c .before .before .before .before .before .before .before .before .pre in
+    let args = c .before .before .before .before .before .before .before .before .args in
+    let if1 = c .before .before .before .before .before .before .if1 in
+    let read = c .before .before .before .before .read in
     stands-too (c .read-version .ensures)
-    (sym (read-full (c .before .before .before .before .before .before .before .before .args .bytes .now) (c .before .before .before .before .before .before .before .before .pre) _ (c .before .before .before .before .before .before .if1 .taken) (ap (readBucket 4 16) (sym (tail-part 16 (c .before .before .before .before .before .before .before .before .args .bytes .now))) ∙ was-read (c .before .before .before .before .read .ensures) (c .before .enum-told .given .1))))
+    (sym (read-full (args .bytes .now) (pre) _ (if1 .taken) (ap (readBucket 4 16) (sym (tail-part 16 (args .bytes .now))) ∙ was-read (read .ensures) (c .before .enum-told .given .1))))
 
 enum-told-2 : tie.Need-enum-told-2
 enum-told-2 c = search needs
@@ -39,14 +43,21 @@ refused-requires c κs = search needs
 
 returns-2 : tie.Need-returns-2
 returns-2 c =
+    let pre = c .before .before .before .before .before .before .before .before .pre in
+    let args = c .before .before .before .before .before .before .before .before .args in
+    let if1 = c .before .before .before .before .before .before .if1 in
+    let read = c .before .before .before .before .read in
     stands-too (stands-bucket _ (c .refused .ensures))
-    (sym (read-full-refused (c .before .before .before .before .before .before .before .before .args .bytes .now) (c .before .before .before .before .before .before .before .before .pre) (c .before .before .before .before .before .before .if1 .taken) (ap (readBucket 4 16) (sym (tail-part 16 (c .before .before .before .before .before .before .before .before .args .bytes .now))) ∙ was-refused (c .before .before .before .before .read .ensures) (c .before .enum-told2 .given .1))))
+    (sym (read-full-refused (args .bytes .now) (pre) (if1 .taken) (ap (readBucket 4 16) (sym (tail-part 16 (args .bytes .now))) ∙ was-refused (read .ensures) (c .before .enum-told2 .given .1))))
 
 refused-requires-2 : tie.Need-refused-requires-2
 refused-requires-2 c κs = search needs
 
 returns-3 : tie.Need-returns-3
-returns-3 c = stands-too (stands-datagram _ (c .refused2 .ensures)) (sym (read-full-other (c .before .before .before .args .bytes .now) (c .before .before .before .pre) (c .before .if1 .left)))
+returns-3 c =
+    let pre = c .before .before .before .pre in
+    let args = c .before .before .before .args in
+    stands-too (stands-datagram _ (c .refused2 .ensures)) (sym (read-full-other (args .bytes .now) (pre) (c .before .if1 .left)))
 
 pub read-full-spec : {M : Type 1} → statement M
 read-full-spec =

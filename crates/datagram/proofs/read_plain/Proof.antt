@@ -1,6 +1,7 @@
 -- `read_plain` meets its contract.
 use mathlib.Core.Path.{sym, ap, _∙_}
 use Rattle.checks.specs.Tests.{sound}
+use Rattle.bucket.proofs.Answering.{empty-sound}
 use Rattle.fields.specs.Form.{version, headed, checked}
 use Rattle.fields.proofs.Parsing.{read-plain, read-plain-other}
 use Rattle.datagram.proofs.Answering.{stands-datagram, stands-too}
@@ -15,19 +16,25 @@ headed-requires : tie.Need-headed-requires
 headed-requires c κs = search needs
 
 checked-requires : tie.Need-checked-requires
-checked-requires c κs = ap sound (c .headed .ensures .table) ∙ c .before .no-table .ensures .sound
+checked-requires c κs = ap sound (c .headed .ensures .table) ∙ empty-sound _ (c .before .no-table .ensures .0)
 
 returns : tie.Need-returns
 returns c =
+    let pre = c .before .before .before .before .before .pre in
+    let args = c .before .before .before .before .before .args in
+    let if1 = c .before .before .before .if1 in
     let d = c .before .headed .ensures .is in
-    let t = c .before .before .no-table .ensures .table in
-    stands-too (c .checked .ensures) (ap checked (d ∙ ap (headed (c .before .before .before .before .before .args .bytes .now) (version 0 0)) t) ∙ sym (read-plain (c .before .before .before .before .before .args .bytes .now) (c .before .before .before .before .before .pre) (c .before .before .before .if1 .taken)))
+    let t = c .before .before .no-table .ensures .1 in
+    stands-too (c .checked .ensures) (ap checked (d ∙ ap (headed (args .bytes .now) (version 0 0)) t) ∙ sym (read-plain (args .bytes .now) (pre) (if1 .taken)))
 
 refused-requires : tie.Need-refused-requires
 refused-requires c κs = search needs
 
 returns-2 : tie.Need-returns-2
-returns-2 c = stands-too (stands-datagram _ (c .refused .ensures)) (sym (read-plain-other (c .before .before .before .args .bytes .now) (c .before .before .before .pre) (c .before .if1 .left)))
+returns-2 c =
+    let pre = c .before .before .before .pre in
+    let args = c .before .before .before .args in
+    stands-too (stands-datagram _ (c .refused .ensures)) (sym (read-plain-other (args .bytes .now) (pre) (c .before .if1 .left)))
 
 pub read-plain-spec : {M : Type 1} → statement M
 read-plain-spec =

@@ -6,7 +6,9 @@ use Rattle.datagram.proofs.write.Statement.{statement}
 use Rattle.datagram.proofs.write.Tie as tie
 
 write-full-requires : tie.Need-write-full-requires
-write-full-requires c κs = carries-write (c .before .before .before .args .d .kind) (c .before .match .keys1)
+write-full-requires c κs =
+    let args = c .before .before .before .args in
+    carries-write (args .datagram .kind) (c .before .match .keys1)
 
 same-length : tie.Need-same-length
 same-length c = search needs
@@ -15,7 +17,9 @@ returns : tie.Need-returns
 returns c = search needs
 
 write-full-requires-2 : tie.Need-write-full-requires-2
-write-full-requires-2 c κs = carries-read (c .before .before .before .args .d .kind) (c .before .match .keys2)
+write-full-requires-2 c κs =
+    let args = c .before .before .before .args in
+    carries-read (args .datagram .kind) (c .before .match .keys2)
 
 same-length-2 : tie.Need-same-length-2
 same-length-2 c = search needs
@@ -24,7 +28,9 @@ returns-2 : tie.Need-returns-2
 returns-2 c = search needs
 
 write-plain-requires : tie.Need-write-plain-requires
-write-plain-requires c κs = carries-none (c .before .before .before .args .d .kind) (omega arith) (omega arith)
+write-plain-requires c κs =
+    let args = c .before .before .before .args in
+    carries-none (args .datagram .kind) (omega arith) (omega arith)
 
 same-length-3 : tie.Need-same-length-3
 same-length-3 c = search needs

@@ -14,25 +14,48 @@ well-formed-requires c κs = search needs
 
 returns : tie.Need-returns
 unfolding writtenNumber
-returns c = write-full-short (c .before .before .before .before .before .before .before .args .d) (c .before .before .before .before .before .before .before .args .out .now) (c .before .before .before .before .before .before .before .pre) (sym (c .before .before .before .before .has-form .ensures) ∙ c .before .before .before .if1 .taken) (sym (c .before .before .well-formed .ensures) ∙ c .before .if2 .taken) (c .if3 .taken)
+returns c =
+    let pre = c .before .before .before .before .before .before .before .pre in
+    let args = c .before .before .before .before .before .before .before .args in
+    let has-form = c .before .before .before .before .has-form in
+    let if1 = c .before .before .before .if1 in
+    write-full-short (args .datagram) (args .out .now) (pre) (sym (has-form .ensures) ∙ if1 .taken) (sym (c .before .before .well-formed .ensures) ∙ c .before .if2 .taken) (c .if3 .taken)
 
 put-full-requires : tie.Need-put-full-requires
-put-full-requires c κs = (c .before .if3 .left, sym (c .before .before .before .before .before .has-form .ensures) ∙ c .before .before .before .before .if1 .taken)
+put-full-requires c κs =
+    let has-form = c .before .before .before .before .before .has-form in
+    let if1 = c .before .before .before .before .if1 in
+    (c .before .if3 .left, sym (has-form .ensures) ∙ if1 .taken)
 
 same-length : tie.Need-same-length
 same-length c = search needs
 
 returns-2 : tie.Need-returns-2
 unfolding writtenNumber
-returns-2 c = write-full-done (c .before .before .before .before .before .before .before .before .before .before .before .args .d) (c .before .before .before .before .before .before .before .before .before .before .before .args .out .now) (c .before .before .before .before .before .before .before .before .before .before .before .pre) (sym (c .before .before .before .before .before .before .before .before .has-form .ensures) ∙ c .before .before .before .before .before .before .before .if1 .taken) (sym (c .before .before .before .before .before .before .well-formed .ensures) ∙ c .before .before .before .before .before .if2 .taken) _ (c .before .before .before .before .if3 .left) (c .before .before .put-full .ensures)
+returns-2 c =
+    let pre = c .before .before .before .before .before .before .before .before .before .before .before .pre in
+    let args = c .before .before .before .before .before .before .before .before .before .before .before .args in
+    let has-form = c .before .before .before .before .before .before .before .before .has-form in
+    let if1 = c .before .before .before .before .before .before .before .if1 in
+    let well-formed = c .before .before .before .before .before .before .well-formed in
+    let if2 = c .before .before .before .before .before .if2 in
+    let if3 = c .before .before .before .before .if3 in
+    write-full-done (args .datagram) (args .out .now) (pre) (sym (has-form .ensures) ∙ if1 .taken) (sym (well-formed .ensures) ∙ if2 .taken) _ (if3 .left) (c .before .before .put-full .ensures)
 
 returns-3 : tie.Need-returns-3
 unfolding writtenNumber
-returns-3 c = write-full-wrong (c .before .before .before .before .before .before .args .d) (c .before .before .before .before .before .before .args .out .now) (c .before .before .before .before .before .before .pre) (sym (c .before .before .before .has-form .ensures) ∙ c .before .before .if1 .taken) (sym (c .before .well-formed .ensures) ∙ c .if2 .left)
+returns-3 c =
+    let pre = c .before .before .before .before .before .before .pre in
+    let args = c .before .before .before .before .before .before .args in
+    let has-form = c .before .before .before .has-form in
+    write-full-wrong (args .datagram) (args .out .now) (pre) (sym (has-form .ensures) ∙ c .before .before .if1 .taken) (sym (c .before .well-formed .ensures) ∙ c .if2 .left)
 
 returns-4 : tie.Need-returns-4
 unfolding writtenNumber
-returns-4 c = write-unfit (c .before .before .before .before .args .d) (c .before .before .before .before .args .out .now) (c .before .before .before .before .pre) (sym (c .before .has-form .ensures) ∙ c .if1 .left)
+returns-4 c =
+    let pre = c .before .before .before .before .pre in
+    let args = c .before .before .before .before .args in
+    write-unfit (args .datagram) (args .out .now) (pre) (sym (c .before .has-form .ensures) ∙ c .if1 .left)
 
 pub write-full-spec : {M : Type 1} → statement M
 write-full-spec =

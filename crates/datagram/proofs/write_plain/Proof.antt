@@ -12,7 +12,10 @@ well-formed-requires c κs = search needs
 
 returns : tie.Need-returns
 unfolding writtenNumber
-returns c = write-plain-short (c .before .before .before .before .args .d) (c .before .before .before .before .args .out .now) (c .before .before .before .before .pre) (sym (c .before .before .well-formed .ensures) ∙ c .before .if1 .taken) (c .if2 .taken)
+returns c =
+    let pre = c .before .before .before .before .pre in
+    let args = c .before .before .before .before .args in
+    write-plain-short (args .datagram) (args .out .now) (pre) (sym (c .before .before .well-formed .ensures) ∙ c .before .if1 .taken) (c .if2 .taken)
 
 put-header-requires : tie.Need-put-header-requires
 put-header-requires c κs = search needs
@@ -22,11 +25,20 @@ same-length c = search needs
 
 returns-2 : tie.Need-returns-2
 unfolding writtenNumber meant headerBytes
-returns-2 c = write-plain-done (c .before .before .before .before .before .before .before .before .args .d) (c .before .before .before .before .before .before .before .before .args .out .now) (c .before .before .before .before .before .before .before .before .pre) (sym (c .before .before .before .before .before .before .well-formed .ensures) ∙ c .before .before .before .before .before .if1 .taken) _ (c .before .before .before .before .if2 .left) (c .before .before .put-header .ensures)
+returns-2 c =
+    let pre = c .before .before .before .before .before .before .before .before .pre in
+    let args = c .before .before .before .before .before .before .before .before .args in
+    let well-formed = c .before .before .before .before .before .before .well-formed in
+    let if1 = c .before .before .before .before .before .if1 in
+    let if2 = c .before .before .before .before .if2 in
+    write-plain-done (args .datagram) (args .out .now) (pre) (sym (well-formed .ensures) ∙ if1 .taken) _ (if2 .left) (c .before .before .put-header .ensures)
 
 returns-3 : tie.Need-returns-3
 unfolding writtenNumber
-returns-3 c = write-plain-wrong (c .before .before .before .args .d) (c .before .before .before .args .out .now) (c .before .before .before .pre) (sym (c .before .well-formed .ensures) ∙ c .if1 .left)
+returns-3 c =
+    let pre = c .before .before .before .pre in
+    let args = c .before .before .before .args in
+    write-plain-wrong (args .datagram) (args .out .now) (pre) (sym (c .before .well-formed .ensures) ∙ c .if1 .left)
 
 pub write-plain-spec : {M : Type 1} → statement M
 write-plain-spec =

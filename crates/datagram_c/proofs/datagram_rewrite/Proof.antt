@@ -26,13 +26,21 @@ same-length : tie.Need-same-length
 same-length c = search needs
 
 returns : tie.Need-returns
-returns c = rw (c .written-number .ensures) (rewrites (c .before .before .before .before .before .before .before .before .read .ensures) _ _ _ (c .before .before .before .before .before .enum-told .given .1) (c .before .before .before .write .ensures))
+returns c =
+    let read = c .before .before .before .before .before .before .before .before .read in
+    let enum-told = c .before .before .before .before .before .enum-told in
+    let write = c .before .before .before .write in
+    rw (c .written-number .ensures) (rewrites (read .ensures) _ _ _ (enum-told .given .1) (write .ensures))
 
 returns-2 : tie.Need-returns-2
-returns-2 c = refuses-bucket (c .before .before .before .read .ensures) _ (c .enum-told2 .given .1)
+returns-2 c =
+    let read = c .before .before .before .read in
+    refuses-bucket (read .ensures) _ (c .enum-told2 .given .1)
 
 returns-3 : tie.Need-returns-3
-returns-3 c = refuses-datagram (c .before .before .before .read .ensures) _ (c .enum-told3 .given .1)
+returns-3 c =
+    let read = c .before .before .before .read in
+    refuses-datagram (read .ensures) _ (c .enum-told3 .given .1)
 
 pub datagram-rewrite-spec : {M : Type 1} → statement M
 datagram-rewrite-spec =

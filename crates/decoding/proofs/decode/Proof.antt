@@ -25,7 +25,9 @@ add-at : tie.Need-add-at Inv-loop μ-loop
 add-at c = search needs
 
 loop-holds : tie.Need-loop-holds Inv-loop μ-loop
-loop-holds c = decoding-starts (c .before .cut-at .ensures) (c .before .before .before .pre) refl
+loop-holds c =
+    let pre = c .before .before .before .pre in
+    decoding-starts (c .before .cut-at .ensures) (pre) refl
 
 mul-cut-at : tie.Need-mul-cut-at Inv-loop μ-loop
 mul-cut-at c = search needs
@@ -68,7 +70,9 @@ loop-less c = search needs
 
 loop-again : tie.Need-loop-again Inv-loop μ-loop
 loop-again c =
-    decoding-goes-on (c .before .before .before .before .loop .inv) (c .slot-at .result) (c .before .before .before .loop-test .taken) (c .before .before .cut-at2 .ensures) (c .before .cut-at3 .ensures) (c .slot-at .ensures)
+    let loop = c .before .before .before .before .loop in
+    let loop-test = c .before .before .before .loop-test in
+    decoding-goes-on (loop .inv) (c .slot-at .result) (loop-test .taken) (c .before .before .cut-at2 .ensures) (c .before .cut-at3 .ensures) (c .slot-at .ensures)
 
 returns : tie.Need-returns Inv-loop μ-loop
 returns c = decoding-ends (c .before .loop .inv) (c .loop-test .left)

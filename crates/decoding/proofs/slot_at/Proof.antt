@@ -39,10 +39,12 @@ value-of-requires c κs = search needs
 
 returns : tie.Need-returns
 returns c =
-    let a = c .before .before .before .before .before .before .before .args in
-    let k : a .at + a .k - a .at ≡ a .k = omega arith in
-    let v : a .at + a .k + a .v - (a .at + a .k) ≡ a .v = omega arith in
-    slot-cut (a .bucket .now) (a .at) (a .k) (a .v) (c .before .before .before .before .key-of .result) (c .before .before .value-of .result) (search needs) (search needs) (search needs) (rw k at (c .before .before .before .before .key-of .ensures)) (rw v at (c .before .before .value-of .ensures))
+    let args = c .before .before .before .before .before .before .before .args in
+    let key-of = c .before .before .before .before .key-of in
+    let a = args in
+    let k : a .at + a .key-len - a .at ≡ a .key-len = omega arith in
+    let v : a .at + a .key-len + a .value-len - (a .at + a .key-len) ≡ a .value-len = omega arith in
+    slot-cut (a .bucket .now) (a .at) (a .key-len) (a .value-len) (key-of .result) (c .before .before .value-of .result) (search needs) (search needs) (search needs) (rw k at (key-of .ensures)) (rw v at (c .before .before .value-of .ensures))
 
 pub slot-at-spec : {M : Type 1} → statement M
 slot-at-spec =

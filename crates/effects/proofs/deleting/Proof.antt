@@ -17,7 +17,7 @@ returns : tie.Need-returns
 unfolding effect
 returns c =
     let a = c .before .before .args in
-    c .setting .ensures ∙ ap (λ v. setting (keyBytes (a .k)) v (tableIn (a .t))) (ap itemIn (c .before .absent .ensures) ∙ absent-none)
+    c .setting .ensures ∙ ap (λ v. setting (keyBytes (a .key)) v (tableIn (a .table))) (ap itemIn (c .before .absent .ensures) ∙ absent-none)
 
 pub deleting-spec : {M : Type 1} → statement M
 deleting-spec = tie.close (tie.spec absent-requires setting-requires returns)

@@ -27,38 +27,43 @@ listing-requires c κs = search needs
 returns : tie.Need-returns
 unfolding wordsBy
 returns c =
-    let a = c .before .before .before .before .before .args in
-    let e : wordsIn (a .w) ≡ calls.get (keyBytes (a .w .key)) = ap (λ k. wordsBy k (a .w)) (c .before .match .keys1) in
-    c .getting .ensures ∙ ap (λ x. effect x (tableIn (a .t))) (sym e)
+    let args = c .before .before .before .before .before .args in
+    let a = args in
+    let e : wordsIn (a .words) ≡ calls.get (keyBytes (a .words .key)) = ap (λ k. wordsBy k (a .words)) (c .before .match .keys1) in
+    c .getting .ensures ∙ ap (λ x. effect x (tableIn (a .table))) (sym e)
 
 returns-2 : tie.Need-returns-2
 unfolding wordsBy effect
 returns-2 c =
-    let a = c .before .before .before .before .before .args in
-    let e : wordsIn (a .w) ≡ calls.set (keyBytes (a .w .key)) (itemIn (a .w .value)) = ap (λ k. wordsBy k (a .w)) (c .before .match .keys2) in
-    c .setting .ensures ∙ ap (λ x. effect x (tableIn (a .t))) (sym e)
+    let args = c .before .before .before .before .before .args in
+    let a = args in
+    let e : wordsIn (a .words) ≡ calls.set (keyBytes (a .words .key)) (itemIn (a .words .value)) = ap (λ k. wordsBy k (a .words)) (c .before .match .keys2) in
+    c .setting .ensures ∙ ap (λ x. effect x (tableIn (a .table))) (sym e)
 
 returns-3 : tie.Need-returns-3
 unfolding wordsBy
 returns-3 c =
-    let a = c .before .before .before .before .before .args in
-    let e : wordsIn (a .w) ≡ calls.setif (keyBytes (a .w .key)) (itemIn (a .w .expected)) (itemIn (a .w .value)) = ap (λ k. wordsBy k (a .w)) (c .before .match .keys3) in
-    c .setting-if .ensures ∙ ap (λ x. effect x (tableIn (a .t))) (sym e)
+    let args = c .before .before .before .before .before .args in
+    let a = args in
+    let e : wordsIn (a .words) ≡ calls.setif (keyBytes (a .words .key)) (itemIn (a .words .expected)) (itemIn (a .words .value)) = ap (λ k. wordsBy k (a .words)) (c .before .match .keys3) in
+    c .setting-if .ensures ∙ ap (λ x. effect x (tableIn (a .table))) (sym e)
 
 returns-4 : tie.Need-returns-4
 unfolding wordsBy
 returns-4 c =
-    let a = c .before .before .before .before .before .args in
-    let e : wordsIn (a .w) ≡ calls.del (keyBytes (a .w .key)) = ap (λ k. wordsBy k (a .w)) (c .before .match .keys4) in
-    c .deleting .ensures ∙ ap (λ x. effect x (tableIn (a .t))) (sym e)
+    let args = c .before .before .before .before .before .args in
+    let a = args in
+    let e : wordsIn (a .words) ≡ calls.del (keyBytes (a .words .key)) = ap (λ k. wordsBy k (a .words)) (c .before .match .keys4) in
+    c .deleting .ensures ∙ ap (λ x. effect x (tableIn (a .table))) (sym e)
 
 returns-5 : tie.Need-returns-5
 unfolding wordsBy
 returns-5 c =
-    let a = c .before .before .before .before .before .args in
+    let args = c .before .before .before .before .before .args in
+    let a = args in
     let not = c .before .match .rest in
-    let e : wordsIn (a .w) ≡ calls.keys (a .w .bucket) = rw (wordsOfKind, ne-eqb _ _ (not .0 .0 .0 .1), ne-eqb _ _ (not .0 .0 .1), ne-eqb _ _ (not .0 .1), ne-eqb _ _ (not .1)) in
-    c .listing .ensures (a .w .bucket) ∙ ap (λ x. effect x (tableIn (a .t))) (sym e)
+    let e : wordsIn (a .words) ≡ calls.keys (a .words .bucket) = rw (wordsOfKind, ne-eqb _ _ (not .0 .0 .0 .1), ne-eqb _ _ (not .0 .0 .1), ne-eqb _ _ (not .0 .1), ne-eqb _ _ (not .1)) in
+    c .listing .ensures (a .words .bucket) ∙ ap (λ x. effect x (tableIn (a .table))) (sym e)
 
 pub effect-spec : {M : Type 1} → statement M
 effect-spec =

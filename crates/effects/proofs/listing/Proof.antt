@@ -6,12 +6,12 @@ use Rattle.server.specs.Views.{resultIn, effectIn}
 use Rattle.effects.proofs.listing.Statement.{statement}
 use Rattle.effects.proofs.listing.Tie as tie
 
-empty-value-requires : tie.Need-empty-value-requires
-empty-value-requires c κs = search needs
+no-value-requires : tie.Need-no-value-requires
+no-value-requires c κs = search needs
 
 returns : tie.Need-returns
 unfolding effectIn resultIn effect
 returns c b = refl
 
 pub listing-spec : {M : Type 1} → statement M
-listing-spec = tie.close (tie.spec empty-value-requires returns)
+listing-spec = tie.close (tie.spec no-value-requires returns)

@@ -15,10 +15,10 @@ use Rattle.effects.proofs.same_value.Statement.{statement}
 use Rattle.effects.proofs.same_value.Tie as tie
 
 abbrev Inv-loop : tie.InvT-loop
-Inv-loop n m x y i₀ i = Comparing n m x y i
+Inv-loop a_len b_len a_bytes b_bytes i₀ i = Comparing a_len b_len a_bytes b_bytes i
 
 abbrev μ-loop : tie.MeasureT-loop
-μ-loop n m x y i₀ i = n - i
+μ-loop a_len b_len a_bytes b_bytes i₀ i = a_len - i
 
 abbrev isSame : Order → Bool
 isSame o = elim o [ Before ↦ false | Same ↦ true | After ↦ false ]
@@ -41,8 +41,10 @@ value-length-requires-2 c κs = search needs
 
 loop-holds : tie.Need-loop-holds Inv-loop μ-loop
 loop-holds c =
-    let a = c .before .before .before .before .args in
-    comparing-starts (value-within (a .a) (c .before .before .before .value-length .ensures)) (value-within (a .b) (c .before .before .value-length2 .ensures))
+    let args = c .before .before .before .before .args in
+    let value-length = c .before .before .before .value-length in
+    let a = args in
+    comparing-starts (value-within (a .a) (value-length .ensures)) (value-within (a .b) (c .before .before .value-length2 .ensures))
 
 returns : tie.Need-returns Inv-loop μ-loop
 returns c = found (c .before .before) After (comparing-longer (c .before .before .loop .inv) (c .before .loop-test .taken) (c .if1 .taken))
@@ -55,8 +57,9 @@ array-read-if2-2 c = search needs
 
 returns-2 : tie.Need-returns-2 Inv-loop μ-loop
 returns-2 c =
+    let loop = c .before .before .before .loop in
     found (c .before .before .before) Before
-    (comparing-less (c .before .before .before .loop .inv) (c .before .before .loop-test .taken) (c .before .if1 .left) (c .if2 .taken))
+    (comparing-less (loop .inv) (c .before .before .loop-test .taken) (c .before .if1 .left) (c .if2 .taken))
 
 array-read-if3 : tie.Need-array-read-if3 Inv-loop μ-loop
 array-read-if3 c = search needs
@@ -66,8 +69,10 @@ array-read-if3-2 c = search needs
 
 returns-3 : tie.Need-returns-3 Inv-loop μ-loop
 returns-3 c =
+    let loop = c .before .before .before .before .loop in
+    let loop-test = c .before .before .before .loop-test in
     found (c .before .before .before .before) After
-    (comparing-more (c .before .before .before .before .loop .inv) (c .before .before .before .loop-test .taken) (c .before .before .if1 .left) (c .if3 .taken))
+    (comparing-more (loop .inv) (loop-test .taken) (c .before .before .if1 .left) (c .if3 .taken))
 
 add-i : tie.Need-add-i Inv-loop μ-loop
 add-i c = search needs
@@ -77,7 +82,9 @@ loop-less c = search needs
 
 loop-again : tie.Need-loop-again Inv-loop μ-loop
 loop-again c =
-    comparing-goes-on (c .before .before .before .before .loop .inv) (c .before .before .before .loop-test .taken) (c .before .before .if1 .left) (c .if3 .left)
+    let loop = c .before .before .before .before .loop in
+    let loop-test = c .before .before .before .loop-test in
+    comparing-goes-on (loop .inv) (loop-test .taken) (c .before .before .if1 .left) (c .if3 .left)
     (c .before .if2 .left)
 
 returns-4 : tie.Need-returns-4 Inv-loop μ-loop

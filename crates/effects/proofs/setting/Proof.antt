@@ -5,8 +5,8 @@ use Rattle.effects.proofs.EffectLaws.{setting-of}
 use Rattle.effects.proofs.setting.Statement.{statement}
 use Rattle.effects.proofs.setting.Tie as tie
 
-empty-value-requires : tie.Need-empty-value-requires
-empty-value-requires c κs = search needs
+no-value-requires : tie.Need-no-value-requires
+no-value-requires c κs = search needs
 
 store-requires : tie.Need-store-requires
 store-requires c κs = search needs
@@ -20,4 +20,4 @@ unfolding effectIn resultIn
 returns-2 c = rw (setting-of (c .before .before .store .ensures), c .if1 .left)
 
 pub setting-spec : {M : Type 1} → statement M
-setting-spec = tie.close (tie.spec empty-value-requires store-requires returns returns-2)
+setting-spec = tie.close (tie.spec no-value-requires store-requires returns returns-2)

@@ -24,20 +24,20 @@ unfolding effect
 returns c =
     let k = c .before .before in
     let a = k .before .before .args in
-    let test : sameValue (valueOf (keyBytes (a .k)) (tableIn (a .t))) (itemIn (a .e)) ≡ true =
-    sym (ap (λ l. sameValue l (itemIn (a .e))) (k .before .find .ensures)) ∙ sym (k .same-item .ensures) ∙ c .before .if1 .taken in
+    let test : sameValue (valueOf (keyBytes (a .key)) (tableIn (a .table))) (itemIn (a .expected)) ≡ true =
+    sym (ap (λ l. sameValue l (itemIn (a .expected))) (k .before .find .ensures)) ∙ sym (k .same-item .ensures) ∙ c .before .if1 .taken in
     rw (effect, test) (c .setting .ensures)
 
-empty-value-requires : tie.Need-empty-value-requires
-empty-value-requires c κs = search needs
+no-value-requires : tie.Need-no-value-requires
+no-value-requires c κs = search needs
 
 returns-2 : tie.Need-returns-2
 unfolding effect effectIn resultIn
 returns-2 c =
     let k = c .before .before in
     let a = k .before .before .args in
-    let test : sameValue (valueOf (keyBytes (a .k)) (tableIn (a .t))) (itemIn (a .e)) ≡ false =
-    sym (ap (λ l. sameValue l (itemIn (a .e))) (k .before .find .ensures)) ∙ sym (k .same-item .ensures) ∙ c .before .if1 .left in
+    let test : sameValue (valueOf (keyBytes (a .key)) (tableIn (a .table))) (itemIn (a .expected)) ≡ false =
+    sym (ap (λ l. sameValue l (itemIn (a .expected))) (k .before .find .ensures)) ∙ sym (k .same-item .ensures) ∙ c .before .if1 .left in
     rw (effect, test)
 
 pub setting-if-spec : {M : Type 1} → statement M
@@ -48,5 +48,5 @@ setting-if-spec =
     same-item-requires
     setting-requires
     returns
-    empty-value-requires
+    no-value-requires
     returns-2)

@@ -22,27 +22,39 @@ put-header-requires c κs = simp length-set (omega arith)
 
 put-body-requires : tie.Need-put-body-requires
 put-body-requires c κs =
-    let h = simp length-set at (c .before .before .before .put-header .kept .0) in
-    omega (arith, c .before .before .before .before .before .before .before .pre)
+    let pre = c .before .before .before .before .before .before .before .pre in
+    let put-header = c .before .before .before .put-header in
+    let h = simp length-set at (put-header .kept .0) in
+    omega (arith, pre)
 
 put-zeros-requires : tie.Need-put-zeros-requires
 put-zeros-requires c κs =
-    let h = simp length-set at (c .before .before .before .before .before .before .before .put-header .kept .0) in
-    let b = c .before .before .before .put-body .kept .0 in
-    (search needs, omega (arith, c .before .before .before .before .before .before .before .before .before .before .before .pre))
+    let pre = c .before .before .before .before .before .before .before .before .before .before .before .pre in
+    let put-header = c .before .before .before .before .before .before .before .put-header in
+    let put-body = c .before .before .before .put-body in
+    let h = simp length-set at (put-header .kept .0) in
+    let b = put-body .kept .0 in
+    (search needs, omega (arith, pre))
 
 same-length : tie.Need-same-length
 same-length c =
-    let h = simp length-set at (c .before .before .before .before .before .before .before .before .before .before .put-header .kept .0) in
-    let b = c .before .before .before .before .before .before .put-body .kept .0 in
+    let put-header = c .before .before .before .before .before .before .before .before .before .before .put-header in
+    let put-body = c .before .before .before .before .before .before .put-body in
+    let h = simp length-set at (put-header .kept .0) in
+    let b = put-body .kept .0 in
     let z = c .before .before .put-zeros .kept .0 in
     z ∙ b ∙ h
 
 returns : tie.Need-returns
 returns c =
-    let a = c .before .before .before .before .before .before .before .before .before .before .before .before .before .before .args in
-    written (tableIn (a .t)) (a .out .now) (set (a .out .now) 0 (c .before .before .before .before .before .before .before .before .before .before .before .before .count-of .result)) (c .before .before .before .before .before .before .before .before .before .before .put-header .last .0) (c .before .before .before .before .before .before .put-body .last .0) (c .before .before .put-zeros .last .0) (c .before .before .before .before .before .before .put-body .result)
-    (c .before .before .before .before .before .before .before .before .before .before .before .before .before .before .pre) (ap (set (a .out .now) 0) (c .before .before .before .before .before .before .before .before .before .before .before .before .count-of .ensures .is)) (c .before .before .before .before .before .before .before .before .before .before .put-header .ensures) (c .before .before .before .before .before .before .put-body .ensures) (c .before .before .put-zeros .ensures)
+    let pre = c .before .before .before .before .before .before .before .before .before .before .before .before .before .before .pre in
+    let args = c .before .before .before .before .before .before .before .before .before .before .before .before .before .before .args in
+    let count-of = c .before .before .before .before .before .before .before .before .before .before .before .before .count-of in
+    let put-header = c .before .before .before .before .before .before .before .before .before .before .put-header in
+    let put-body = c .before .before .before .before .before .before .put-body in
+    let a = args in
+    written (tableIn (a .table)) (a .out .now) (set (a .out .now) 0 (count-of .result)) (put-header .last .0) (put-body .last .0) (c .before .before .put-zeros .last .0) (put-body .result)
+    (pre) (ap (set (a .out .now) 0) (count-of .ensures .is)) (put-header .ensures) (put-body .ensures) (c .before .before .put-zeros .ensures)
 
 pub encode-spec : {M : Type 1} → statement M
 encode-spec =

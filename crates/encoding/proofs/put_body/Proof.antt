@@ -23,13 +23,15 @@ add-at : tie.Need-add-at Inv-loop μ-loop
 add-at c = search needs
 
 loop-holds : tie.Need-loop-holds Inv-loop μ-loop
-loop-holds c = bodying-starts _ _ _ (c .before .count-of .ensures .low) (c .before .count-of .ensures .four) (c .before .before .before .pre)
+loop-holds c =
+    let pre = c .before .before .before .pre in
+    bodying-starts _ _ _ (c .before .count-of .ensures .low) (c .before .count-of .ensures .four) (pre)
 
-mul-s : tie.Need-mul-s Inv-loop μ-loop
-mul-s c = search needs
+mul-slot : tie.Need-mul-slot Inv-loop μ-loop
+mul-slot c = search needs
 
-array-copy-out-s : tie.Need-array-copy-out-s Inv-loop μ-loop
-array-copy-out-s c = search needs
+array-copy-out-slot : tie.Need-array-copy-out-slot Inv-loop μ-loop
+array-copy-out-slot c = search needs
 
 put-entry-requires : tie.Need-put-entry-requires Inv-loop μ-loop
 put-entry-requires c κs = omega arith
@@ -41,13 +43,19 @@ loop-less : tie.Need-loop-less Inv-loop μ-loop
 loop-less c = search needs
 
 loop-again : tie.Need-loop-again Inv-loop μ-loop
-loop-again c = bodying-goes-on (c .before .before .before .before .before .before .loop .inv) (c .before .before .put-entry .last .0) (c .before .before .before .before .before .loop-test .taken) (c .before .before .put-entry .ensures)
+loop-again c =
+    let loop = c .before .before .before .before .before .before .loop in
+    let loop-test = c .before .before .before .before .before .loop-test in
+    bodying-goes-on (loop .inv) (c .before .before .put-entry .last .0) (loop-test .taken) (c .before .before .put-entry .ensures)
 
 same-length : tie.Need-same-length Inv-loop μ-loop
 same-length c = search needs
 
 returns : tie.Need-returns Inv-loop μ-loop
-returns c = rw (table-whole (c .before .before .before .before .before .args .t) (c .before .before .before .count-of .ensures)) at (bodying-ends (c .before .loop .inv) (c .loop-test .left))
+returns c =
+    let args = c .before .before .before .before .before .args in
+    let count-of = c .before .before .before .count-of in
+    rw (table-whole (args .table) (count-of .ensures)) at (bodying-ends (c .before .loop .inv) (c .loop-test .left))
 
 pub put-body-spec : {M : Type 1} → statement M
 put-body-spec =
@@ -59,8 +67,8 @@ put-body-spec =
     mul-at
     add-at
     loop-holds
-    mul-s
-    array-copy-out-s
+    mul-slot
+    array-copy-out-slot
     put-entry-requires
     add-i
     loop-less

@@ -32,15 +32,19 @@ same-length c = search needs
 
 returns : tie.Need-returns
 returns c =
-    let a = c .before .before .before .before .before .before .before .before .before .before .before .before .before .args in
-    let k = c .before .before .before .before .before .before .before .before .before .key-length .ensures in
-    let v = c .before .before .before .before .before .before .before .before .value-length .ensures in
+    let args = c .before .before .before .before .before .before .before .before .before .before .before .before .before .args in
+    let key-length = c .before .before .before .before .before .before .before .before .before .key-length in
+    let value-length = c .before .before .before .before .before .before .before .before .value-length in
+    let put-key = c .before .before .before .before .before .before .put-key in
+    let a = args in
+    let k = key-length .ensures in
+    let v = value-length .ensures in
     record {
       key = rw (← k .is) (k .low);
       value = rw (← v .is) (v .low);
       next = omega (arith, k .is, v .is);
       is =
-          sets-both (a .out .now) (c .before .before .before .before .before .before .put-key .last .0) (c .before .before .put-value .last .0) (a .at) (c .before .before .before .before .before .before .before .before .before .key-length .result) (keyBytes (a .s .key)) (valueBytes (a .s .value)) (k .is) (c .before .before .before .before .before .before .put-key .ensures) (c .before .before .put-value .ensures);
+          sets-both (a .out .now) (put-key .last .0) (c .before .before .put-value .last .0) (a .at) (key-length .result) (keyBytes (a .slot .key)) (valueBytes (a .slot .value)) (k .is) (put-key .ensures) (c .before .before .put-value .ensures);
     }
 
 pub put-entry-spec : {M : Type 1} → statement M

@@ -23,13 +23,15 @@ add-at : tie.Need-add-at Inv-loop μ-loop
 add-at c = search needs
 
 loop-holds : tie.Need-loop-holds Inv-loop μ-loop
-loop-holds c = heading-starts _ _ _ (c .before .count-of .ensures .low) (c .before .count-of .ensures .four) (c .before .before .before .pre)
+loop-holds c =
+    let pre = c .before .before .before .pre in
+    heading-starts _ _ _ (c .before .count-of .ensures .low) (c .before .count-of .ensures .four) (pre)
 
-mul-s : tie.Need-mul-s Inv-loop μ-loop
-mul-s c = search needs
+mul-slot : tie.Need-mul-slot Inv-loop μ-loop
+mul-slot c = search needs
 
-array-copy-out-s : tie.Need-array-copy-out-s Inv-loop μ-loop
-array-copy-out-s c = search needs
+array-copy-out-slot : tie.Need-array-copy-out-slot Inv-loop μ-loop
+array-copy-out-slot c = search needs
 
 put-offsets-requires : tie.Need-put-offsets-requires Inv-loop μ-loop
 put-offsets-requires c κs = omega arith
@@ -41,15 +43,20 @@ loop-less : tie.Need-loop-less Inv-loop μ-loop
 loop-less c = search needs
 
 loop-again : tie.Need-loop-again Inv-loop μ-loop
-loop-again c = heading-goes-on (c .before .before .before .before .before .before .loop .inv) (c .before .before .put-offsets .last .0) (c .before .before .before .before .before .loop-test .taken) (c .before .before .put-offsets .ensures)
+loop-again c =
+    let loop = c .before .before .before .before .before .before .loop in
+    let loop-test = c .before .before .before .before .before .loop-test in
+    heading-goes-on (loop .inv) (c .before .before .put-offsets .last .0) (loop-test .taken) (c .before .before .put-offsets .ensures)
 
 same-length : tie.Need-same-length Inv-loop μ-loop
 same-length c = search needs
 
 returns : tie.Need-returns Inv-loop μ-loop
 returns c =
-    let n = c .before .before .before .count-of .ensures in
-    rw (← n .is) (rw (table-whole (c .before .before .before .before .before .args .t) n) at (heading-ends (c .before .loop .inv) (c .loop-test .left)))
+    let args = c .before .before .before .before .before .args in
+    let count-of = c .before .before .before .count-of in
+    let n = count-of .ensures in
+    rw (← n .is) (rw (table-whole (args .table) n) at (heading-ends (c .before .loop .inv) (c .loop-test .left)))
 
 pub put-header-spec : {M : Type 1} → statement M
 put-header-spec =
@@ -61,8 +68,8 @@ put-header-spec =
     mul-at
     add-at
     loop-holds
-    mul-s
-    array-copy-out-s
+    mul-slot
+    array-copy-out-slot
     put-offsets-requires
     add-i
     loop-less

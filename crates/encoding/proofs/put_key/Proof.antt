@@ -19,9 +19,10 @@ key-length-requires c κs = search needs
 
 loop-holds : tie.Need-loop-holds Inv-loop μ-loop
 loop-holds c =
-    let a = c .before .before .before .args in
+    let args = c .before .before .before .args in
+    let a = args in
     let n = c .before .key-length in
-    putting-starts (a .out .now) (a .at) (take (n .result) (a .k .bytes)) (length-take-le (n .result) (a .k .bytes) (key-within (a .k) (n .ensures))) (search needs)
+    putting-starts (a .out .now) (a .at) (take (n .result) (a .key .bytes)) (length-take-le (n .result) (a .key .bytes) (key-within (a .key) (n .ensures))) (search needs)
 
 array-read-out : tie.Need-array-read-out Inv-loop μ-loop
 array-read-out c = search needs
@@ -45,7 +46,10 @@ same-length : tie.Need-same-length Inv-loop μ-loop
 same-length c = search needs
 
 returns : tie.Need-returns Inv-loop μ-loop
-returns c = rw (key-whole (c .before .before .before .before .before .args .k) (c .before .before .before .key-length .ensures)) at (putting-ends (c .before .loop .inv) (c .loop-test .left))
+returns c =
+    let args = c .before .before .before .before .before .args in
+    let key-length = c .before .before .before .key-length in
+    rw (key-whole (args .key) (key-length .ensures)) at (putting-ends (c .before .loop .inv) (c .loop-test .left))
 
 pub put-key-spec : {M : Type 1} → statement M
 put-key-spec =

@@ -42,8 +42,10 @@ same-length c = search needs
 
 returns : tie.Need-returns
 returns c =
-    let k = c .before .before .before .before .before .key-length .ensures in
-    let v = c .before .before .before .before .value-length .ensures in
+    let key-length = c .before .before .before .before .before .key-length in
+    let value-length = c .before .before .before .before .value-length in
+    let k = key-length .ensures in
+    let v = value-length .ensures in
     record {
       key = rw (← k .is) (k .low);
       value = rw (← v .is) (v .low);

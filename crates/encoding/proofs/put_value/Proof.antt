@@ -19,9 +19,10 @@ value-length-requires c κs = search needs
 
 loop-holds : tie.Need-loop-holds Inv-loop μ-loop
 loop-holds c =
-    let a = c .before .before .before .args in
+    let args = c .before .before .before .args in
+    let a = args in
     let n = c .before .value-length in
-    putting-starts (a .out .now) (a .at) (take (n .result) (a .v .bytes)) (length-take-le (n .result) (a .v .bytes) (value-within (a .v) (n .ensures))) (search needs)
+    putting-starts (a .out .now) (a .at) (take (n .result) (a .value .bytes)) (length-take-le (n .result) (a .value .bytes) (value-within (a .value) (n .ensures))) (search needs)
 
 array-read-out : tie.Need-array-read-out Inv-loop μ-loop
 array-read-out c = search needs
@@ -45,7 +46,10 @@ same-length : tie.Need-same-length Inv-loop μ-loop
 same-length c = search needs
 
 returns : tie.Need-returns Inv-loop μ-loop
-returns c = rw (value-whole (c .before .before .before .before .before .args .v) (c .before .before .before .value-length .ensures)) at (putting-ends (c .before .loop .inv) (c .loop-test .left))
+returns c =
+    let args = c .before .before .before .before .before .args in
+    let value-length = c .before .before .before .value-length in
+    rw (value-whole (args .value) (value-length .ensures)) at (putting-ends (c .before .loop .inv) (c .loop-test .left))
 
 pub put-value-spec : {M : Type 1} → statement M
 put-value-spec =

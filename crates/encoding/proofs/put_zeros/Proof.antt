@@ -12,8 +12,8 @@ Inv-loop out₀ from to n i₀ out i = Putting out₀ from (replicate n 0) n out
 abbrev μ-loop : tie.MeasureT-loop
 μ-loop out₀ from to n i₀ out i = n - i
 
-sub-n : tie.Need-sub-n Inv-loop μ-loop
-sub-n c = search needs
+sub-len : tie.Need-sub-len Inv-loop μ-loop
+sub-len c = search needs
 
 loop-holds : tie.Need-loop-holds Inv-loop μ-loop
 loop-holds c = putting-starts _ _ _ (length-replicate _ 0) (search needs)
@@ -45,7 +45,7 @@ put-zeros-spec =
     (tie.spec
     Inv-loop
     μ-loop
-    sub-n
+    sub-len
     loop-holds
     add-out
     slice-write-out

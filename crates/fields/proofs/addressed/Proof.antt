@@ -20,11 +20,15 @@ returns-3 c = rw (addressed, ne-eqb _ _ (c .before .before .if1 .left), le-leb _
 
 returns-4 : tie.Need-returns-4
 unfolding addressed
-returns-4 c = rw (addressed, ne-eqb _ _ (c .before .before .before .if1 .left), le-leb _ _ (c .before .before .if2 .left), le-leb _ _ (c .before .if3 .left), lt-leb _ _ (c .if4 .taken))
+returns-4 c =
+    let if1 = c .before .before .before .if1 in
+    rw (addressed, ne-eqb _ _ (if1 .left), le-leb _ _ (c .before .before .if2 .left), le-leb _ _ (c .before .if3 .left), lt-leb _ _ (c .if4 .taken))
 
 returns-5 : tie.Need-returns-5
 unfolding addressed
-returns-5 c = rw (addressed, ne-eqb _ _ (c .before .before .before .if1 .left), le-leb _ _ (c .before .before .if2 .left), le-leb _ _ (c .before .if3 .left), le-leb _ _ (c .if4 .left)) (at-least-one 65535 _ (search needs))
+returns-5 c =
+    let if1 = c .before .before .before .if1 in
+    rw (addressed, ne-eqb _ _ (if1 .left), le-leb _ _ (c .before .before .if2 .left), le-leb _ _ (c .before .if3 .left), le-leb _ _ (c .if4 .left)) (at-least-one 65535 _ (search needs))
 
 pub addressed-spec : {M : Type 1} → statement M
 addressed-spec = tie.close (tie.spec returns returns-2 returns-3 returns-4 returns-5)

@@ -18,7 +18,10 @@ same-length c = search needs
 
 returns : tie.Need-returns
 unfolding big
-returns c = rw (c .before .before .put-four .ensures, c .before .before .before .before .before .before .put-two .ensures, c .before .before .before .before .before .before .before .before .before .before .put-names .ensures)
+returns c =
+    let put-names = c .before .before .before .before .before .before .before .before .before .before .put-names in
+    let put-two = c .before .before .before .before .before .before .put-two in
+    rw (c .before .before .put-four .ensures, put-two .ensures, put-names .ensures)
 
 pub put-header-spec : {M : Type 1} → statement M
 put-header-spec =

@@ -15,7 +15,9 @@ same-length c = search needs
 
 returns : tie.Need-returns
 unfolding versionBytes big
-returns c = rw (c .before .before .put-four .ensures, c .before .before .before .before .before .before .put-two .ensures)
+returns c =
+    let put-two = c .before .before .before .before .before .before .put-two in
+    rw (c .before .before .put-four .ensures, put-two .ensures)
 
 pub put-version-spec : {M : Type 1} → statement M
 put-version-spec = tie.close (tie.spec put-two-requires put-four-requires same-length returns)

@@ -12,9 +12,9 @@ use Rattle.flight.proofs.send.Tie as tie
 returns : tie.Need-returns
 returns c =
     let a = c .before .before .args in
-    let x = flight (a .queue .now) (a .loads .now) (a .count) in
+    let x = flight (a .queue .now) (a .payloads .now) (a .count) in
     record {
-      is = sym (sends-nothing (a .n) (a .me) (a .b) (a .k) (a .asked) (a .v) (a .works .now) (a .copies .now) x (c .if1 .taken));
+      is = sym (sends-nothing (a .servers) (a .me) (a .bucket) (a .slot) (a .asked) (a .next) (a .working .now) (a .copies .now) x (c .if1 .taken));
       few = omega arith;
     }
 
@@ -26,22 +26,31 @@ broadcast-of-requires c κs = search needs
 
 send-all-requires : tie.Need-send-all-requires
 send-all-requires c κs =
-    let a = c .before .before .before .before .before .before .before .args in
+    let pre = c .before .before .before .before .before .before .before .pre in
+    let args = c .before .before .before .before .before .before .before .args in
+    let if1 = c .before .before .before .before .before .if1 in
+    let is-broadcast = c .before .before .before .before .is-broadcast in
+    let if2 = c .before .before .before .if2 in
+    let a = args in
     let s = ap (λ m. m .sender) (c .broadcast-of .ensures) in
-    let n = count-all (a .n) (a .v .sends) (c .before .before .before .before .before .if1 .left) (sym (c .before .before .before .before .is-broadcast .ensures) ∙ c .before .before .before .if2 .taken) in
-    (c .before .before .before .before .before .before .before .pre .0, (omega (arith, s, c .before .before .before .before .before .before .before .pre .1 .0), omega (arith, n, c .before .before .before .before .before .before .before .pre .1 .1)))
+    let n = count-all (a .servers) (a .next .sends) (if1 .left) (sym (is-broadcast .ensures) ∙ if2 .taken) in
+    (pre .0, (omega (arith, s, pre .1 .0), omega (arith, n, pre .1 .1)))
 
 returns-2 : tie.Need-returns-2
 returns-2 c =
-    let a = c .before .before .before .before .before .before .before .before .args in
-    let x = flight (a .queue .now) (a .loads .now) (a .count) in
+    let args = c .before .before .before .before .before .before .before .before .args in
+    let if1 = c .before .before .before .before .before .before .if1 in
+    let is-broadcast = c .before .before .before .before .before .is-broadcast in
+    let if2 = c .before .before .before .before .if2 in
+    let a = args in
+    let x = flight (a .queue .now) (a .payloads .now) (a .count) in
     let s = c .send-all .ensures in
-    let all = sym (c .before .before .before .before .before .is-broadcast .ensures) ∙ c .before .before .before .before .if2 .taken in
+    let all = sym (is-broadcast .ensures) ∙ if2 .taken in
     record {
       is =
           s .is
-          ∙ ap (λ m. spread (block contentSize (a .k) (a .works .now)) m (a .n) x) (c .before .broadcast-of .ensures)
-          ∙ sym (sends-all (a .n) (a .me) (a .b) (a .k) (a .asked) (a .v) (a .works .now) (a .copies .now) x (c .before .before .before .before .before .before .if1 .left) all);
+          ∙ ap (λ m. spread (block contentSize (a .slot) (a .working .now)) m (a .servers) x) (c .before .broadcast-of .ensures)
+          ∙ sym (sends-all (a .servers) (a .me) (a .bucket) (a .slot) (a .asked) (a .next) (a .working .now) (a .copies .now) x (if1 .left) all);
       few = s .few;
     }
 
@@ -50,10 +59,15 @@ reply-of-requires c κs = search needs
 
 append-message-requires : tie.Need-append-message-requires
 append-message-requires c κs =
-    let a = c .before .before .before .before .before .before .before .before .args in
-    let n = count-reply (a .n) (a .v .sends) (c .before .before .before .before .before .before .if1 .left) (sym (c .before .before .before .before .before .is-broadcast .ensures) ∙ c .before .before .before .before .if2 .left) in
-    let l = c .before .before .before .before .before .before .before .before .pre .0 in
-    let h = c .before .before .before .before .before .before .before .before .pre .1 .1 in
+    let pre = c .before .before .before .before .before .before .before .before .pre in
+    let args = c .before .before .before .before .before .before .before .before .args in
+    let if1 = c .before .before .before .before .before .before .if1 in
+    let is-broadcast = c .before .before .before .before .before .is-broadcast in
+    let if2 = c .before .before .before .before .if2 in
+    let a = args in
+    let n = count-reply (a .servers) (a .next .sends) (if1 .left) (sym (is-broadcast .ensures) ∙ if2 .left) in
+    let l = pre .0 in
+    let h = pre .1 .1 in
     (omega (arith, n, h), search needs)
 
 add-result : tie.Need-add-result
@@ -61,17 +75,22 @@ add-result c = search needs
 
 returns-3 : tie.Need-returns-3
 returns-3 c =
-    let a = c .before .before .before .before .before .before .before .before .before .args in
-    let v = block contentSize (a .k) (a .copies .now) in
-    let x = flight (a .queue .now) (a .loads .now) (a .count) in
-    let one = sym (c .before .before .before .before .before .before .is-broadcast .ensures) ∙ c .before .before .before .before .before .if2 .left in
-    let n = count-reply (a .n) (a .v .sends) (c .before .before .before .before .before .before .before .if1 .left) one in
+    let pre = c .before .before .before .before .before .before .before .before .before .pre in
+    let args = c .before .before .before .before .before .before .before .before .before .args in
+    let if1 = c .before .before .before .before .before .before .before .if1 in
+    let is-broadcast = c .before .before .before .before .before .before .is-broadcast in
+    let if2 = c .before .before .before .before .before .if2 in
+    let a = args in
+    let v = block contentSize (a .slot) (a .copies .now) in
+    let x = flight (a .queue .now) (a .payloads .now) (a .count) in
+    let one = sym (is-broadcast .ensures) ∙ if2 .left in
+    let n = count-reply (a .servers) (a .next .sends) (if1 .left) one in
     record {
       is =
-          appended-is (a .queue .now) (a .loads .now) (a .count) _ v _ _ (c .append-message .ensures)
+          appended-is (a .queue .now) (a .payloads .now) (a .count) _ v _ _ (c .append-message .ensures)
           ∙ ap (λ m. appended v m x) (c .before .before .reply-of .ensures)
-          ∙ sym (sends-reply (a .n) (a .me) (a .b) (a .k) (a .asked) (a .v) (a .works .now) (a .copies .now) x (c .before .before .before .before .before .before .before .if1 .left) one);
-      few = omega (arith, n, c .before .before .before .before .before .before .before .before .before .pre .1 .1);
+          ∙ sym (sends-reply (a .servers) (a .me) (a .bucket) (a .slot) (a .asked) (a .next) (a .working .now) (a .copies .now) x (if1 .left) one);
+      few = omega (arith, n, pre .1 .1);
     }
 
 pub send-spec : {M : Type 1} → statement M

@@ -13,7 +13,7 @@ returns : tie.Need-returns
 returns c =
     let a = c .before .before .args in
     record {
-      is = sym (sent-self (block contentSize (a .k) (a .works .now)) (a .m) (flight (a .queue .now) (a .loads .now) (a .count)) (a .q) (c .if1 .taken));
+      is = sym (sent-self (block contentSize (a .slot) (a .working .now)) (a .message) (flight (a .queue .now) (a .payloads .now) (a .count)) (a .receiver) (c .if1 .taken));
       few = c .before .before .pre .1 .0;
     }
 
@@ -22,7 +22,9 @@ message-to-requires c κs = search needs
 
 append-message-requires : tie.Need-append-message-requires
 append-message-requires c κs =
-    let h = c .before .before .before .before .before .before .pre .1 .1 (c .before .before .before .before .if1 .left) in
+    let pre = c .before .before .before .before .before .before .pre in
+    let if1 = c .before .before .before .before .if1 in
+    let h = pre .1 .1 (if1 .left) in
     search needs
 
 add-result : tie.Need-add-result
@@ -30,15 +32,18 @@ add-result c = search needs
 
 returns-2 : tie.Need-returns-2
 returns-2 c =
-    let a = c .before .before .before .before .before .before .before .args in
-    let v = block contentSize (a .k) (a .works .now) in
-    let x = flight (a .queue .now) (a .loads .now) (a .count) in
-    let h = c .before .before .before .before .before .before .before .pre .1 .1 (c .before .before .before .before .before .if1 .left) in
+    let pre = c .before .before .before .before .before .before .before .pre in
+    let args = c .before .before .before .before .before .before .before .args in
+    let if1 = c .before .before .before .before .before .if1 in
+    let a = args in
+    let v = block contentSize (a .slot) (a .working .now) in
+    let x = flight (a .queue .now) (a .payloads .now) (a .count) in
+    let h = pre .1 .1 (if1 .left) in
     record {
       is =
-          appended-is (a .queue .now) (a .loads .now) (a .count) _ v _ _ (c .append-message .ensures)
+          appended-is (a .queue .now) (a .payloads .now) (a .count) _ v _ _ (c .append-message .ensures)
           ∙ ap (λ m. appended v m x) (c .before .before .message-to .ensures)
-          ∙ sym (sent-other v (a .m) x (a .q) (c .before .before .before .before .before .if1 .left));
+          ∙ sym (sent-other v (a .message) x (a .receiver) (if1 .left));
       few = omega arith;
     }
 

@@ -25,7 +25,8 @@ rem-result c = search needs
 
 returns-2 : tie.Need-returns-2
 returns-2 c =
-    let a = c .before .before .before .args in
+    let args = c .before .before .before .args in
+    let a = args in
     rw (c .fnv1a .ensures) (remainder (a .buckets) (a .key .now) (search needs))
 
 pub bucket-of-spec : {M : Type 1} → statement M

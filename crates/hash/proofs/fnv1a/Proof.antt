@@ -45,12 +45,16 @@ loop-less c = omega arith
 
 loop-again : tie.Need-loop-again Inv-loop μ-loop
 loop-again c =
-    let l = c .before .before .before .loop in
-    let key = c .before .before .before .before .before .args .key .now in
+    let args = c .before .before .before .before .before .args in
+    let loop = c .before .before .before .loop in
+    let l = loop in
+    let key = args .key .now in
     (omega arith, c .fnv-byte .ensures ∙ ap (λ h. fnvByte h (getD key (l .i) 0)) (l .inv .1) ∙ sym (one-more key (l .i) (omega arith)))
 
 returns : tie.Need-returns Inv-loop μ-loop
-returns c = c .before .loop .inv .1 ∙ ap fnv (take-all (c .before .loop .i) (c .before .before .before .args .key .now) (omega arith))
+returns c =
+    let args = c .before .before .before .args in
+    c .before .loop .inv .1 ∙ ap fnv (take-all (c .before .loop .i) (args .key .now) (omega arith))
 
 pub fnv1a-spec : {M : Type 1} → statement M
 fnv1a-spec =

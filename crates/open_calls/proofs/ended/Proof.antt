@@ -13,8 +13,8 @@ ended-as-requires c κs = search needs
 returns : tie.Need-returns
 returns c =
     let a = c .before .args in
-    let is : answerWith (a .c) (c .ended-as .result) ≡ endedOf (a .c) = ap (answerWith (a .c)) (c .ended-as .ensures) in
-    (is, λ words v t. ap (λ r. answerIn r v t) is ∙ ended-means (a .c) words v t)
+    let is : answerWith (a .call) (c .ended-as .result) ≡ endedOf (a .call) = ap (answerWith (a .call)) (c .ended-as .ensures) in
+    (is, λ words v t. ap (λ r. answerIn r v t) is ∙ ended-means (a .call) words v t)
 
 pub ended-spec : {M : Type 1} → statement M
 ended-spec = tie.close (tie.spec ended-as-requires returns)

@@ -13,8 +13,8 @@ wrapping-add-u32-requires c κs = search needs
 returns : tie.Need-returns
 returns c =
     let a = c .before .args in
-    let is : versionOf (a .number) (c .wrapping-add-u32 .result) ≡ nextVersionOf (a .number) (a .v) = ap (versionOf (a .number)) (c .wrapping-add-u32 .ensures) in
-    (is, λ b s low e h. ap versionIn is ∙ next-version-means (a .number) b (a .v) s low e h)
+    let is : versionOf (a .number) (c .wrapping-add-u32 .result) ≡ nextVersionOf (a .number) (a .version) = ap (versionOf (a .number)) (c .wrapping-add-u32 .ensures) in
+    (is, λ b s low e h. ap versionIn is ∙ next-version-means (a .number) b (a .version) s low e h)
 
 pub next-version-spec : {M : Type 1} → statement M
 next-version-spec = tie.close (tie.spec wrapping-add-u32-requires returns)

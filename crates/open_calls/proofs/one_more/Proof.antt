@@ -16,8 +16,8 @@ wrapping-add-u32-requires c κs = search needs
 returns : tie.Need-returns
 returns c =
     let a = c .before .before .args in
-    let is : callWith (a .c) (c .wrapping-add-u32 .result) (c .before .sent-by .result) ≡ oneMoreOf (a .own) (a .c) = ap₂ (callWith (a .c)) (c .wrapping-add-u32 .ensures) (c .before .sent-by .ensures) in
-    (is, λ words low. ap (λ r. callIn r words) is ∙ one-more-means (a .own) (a .c) words low)
+    let is : callWith (a .call) (c .wrapping-add-u32 .result) (c .before .sent-by .result) ≡ oneMoreOf (a .own) (a .call) = ap₂ (callWith (a .call)) (c .wrapping-add-u32 .ensures) (c .before .sent-by .ensures) in
+    (is, λ words low. ap (λ r. callIn r words) is ∙ one-more-means (a .own) (a .call) words low)
 
 pub one-more-spec : {M : Type 1} → statement M
 one-more-spec =

@@ -9,7 +9,7 @@ use Rattle.output.proofs.put_end.Tie as tie
 
 put-tally-requires : tie.Need-put-tally-requires
 put-tally-requires c κs =
-    let t = c .before .before .args .t in
+    let t = c .before .before .args .tally in
     let room = tally-room 10 (tallyIn t) (omega arith) (below (t .sent) (search needs)) (below (t .copied) (search needs)) (below (t .delivered) (search needs)) (below (t .lost) (search needs)) (below (t .flight) (search needs)) in
     omega (arith, c .before .before .pre, room)
 
@@ -18,7 +18,8 @@ same-length c = search needs
 
 returns : tie.Need-returns
 returns c =
-    let t = c .before .before .before .before .before .args .t in
+    let args = c .before .before .before .before .before .args in
+    let t = args .tally in
     let room = tally-room 10 (tallyIn t) (omega arith) (below (t .sent) (search needs)) (below (t .copied) (search needs)) (below (t .delivered) (search needs)) (below (t .lost) (search needs)) (below (t .flight) (search needs)) in
     (c .before .before .put-tally .ensures, omega (arith, room, c .before .before .put-tally .ensures .ends))
 

@@ -35,13 +35,19 @@ with-word-requires : tie.Need-with-word-requires
 with-word-requires c κs = search needs
 
 returns-2 : tie.Need-returns-2
-returns-2 c = rw (words-cut _ (c .before .before .before .before .word-end .ensures) (c .before .before .before .if2 .taken), ← parse-short _ (c .before .before .before .before .before .if1 .left)) at (c .with-word .ensures)
+returns-2 c =
+    let if1 = c .before .before .before .before .before .if1 in
+    let word-end = c .before .before .before .before .word-end in
+    let if2 = c .before .before .before .if2 in
+    rw (words-cut _ (word-end .ensures) (if2 .taken), ← parse-short _ (if1 .left)) at (c .with-word .ensures)
 
 malformed-requires-2 : tie.Need-malformed-requires-2
 malformed-requires-2 c κs = search needs
 
 returns-3 : tie.Need-returns-3
-returns-3 c = c .malformed2 .ensures ∙ sym (ap parsed (parse-short _ (c .before .before .before .if1 .left) ∙ rw (← words-whole _ (c .before .before .word-end .ensures) (c .before .if2 .left)) (one-word _)))
+returns-3 c =
+    let if1 = c .before .before .before .if1 in
+    c .malformed2 .ensures ∙ sym (ap parsed (parse-short _ (if1 .left) ∙ rw (← words-whole _ (c .before .before .word-end .ensures) (c .before .if2 .left)) (one-word _)))
 
 pub parse-line-spec : {M : Type 1} → statement M
 parse-line-spec =

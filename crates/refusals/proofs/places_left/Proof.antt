@@ -15,17 +15,24 @@ chosen-requires c κs = search needs
 
 returns : tie.Need-returns
 returns c =
-    let n = c .before .before .before .send-count .result in
-    let e : c .before .before .before .before .args .c .messages - c .before .before .chosen .result + n ≡ n = omega (arith, c .if1 .taken) in
-    rw (← c .before .before .chosen .ensures, ← c .before .before .before .send-count .ensures, e)
+    let args = c .before .before .before .before .args in
+    let send-count = c .before .before .before .send-count in
+    let n = send-count .result in
+    let e : args .cluster .messages - c .before .before .chosen .result + n ≡ n = omega (arith, c .if1 .taken) in
+    rw (← c .before .before .chosen .ensures, ← send-count .ensures, e)
 
 add-result : tie.Need-add-result
 add-result c =
-    let h : c .before .before .before .before .send-count .result ≤ 7 = rw (c .before .before .before .before .send-count .ensures) (few-sent _ _ (c .before .before .before .before .before .pre .0)) in
-    omega (arith, c .before .before .before .before .before .pre .1)
+    let pre = c .before .before .before .before .before .pre in
+    let send-count = c .before .before .before .before .send-count in
+    let h : send-count .result ≤ 7 = rw (send-count .ensures) (few-sent _ _ (pre .0)) in
+    omega (arith, pre .1)
 
 returns-2 : tie.Need-returns-2
-returns-2 c = rw (c .before .before .before .before .send-count .ensures, c .before .before .before .chosen .ensures)
+returns-2 c =
+    let send-count = c .before .before .before .before .send-count in
+    let chosen = c .before .before .before .chosen in
+    rw (send-count .ensures, chosen .ensures)
 
 pub places-left-spec : {M : Type 1} → statement M
 places-left-spec =

@@ -14,14 +14,18 @@ is-broadcast-requires c κs = search needs
 
 returns-2 : tie.Need-returns-2
 unfolding sendCount
-returns-2 c = rw (sendCount, ne-eqb _ _ (c .before .before .before .if1 .left), ← c .before .before .is-broadcast .ensures, c .before .if2 .taken, c .if3 .taken)
+returns-2 c =
+    let if1 = c .before .before .before .if1 in
+    rw (sendCount, ne-eqb _ _ (if1 .left), ← c .before .before .is-broadcast .ensures, c .before .if2 .taken, c .if3 .taken)
 
 sub-result : tie.Need-sub-result
 sub-result c = search needs
 
 returns-3 : tie.Need-returns-3
 unfolding sendCount
-returns-3 c = rw (sendCount, ne-eqb _ _ (c .before .before .before .if1 .left), ← c .before .before .is-broadcast .ensures, c .before .if2 .taken)
+returns-3 c =
+    let if1 = c .before .before .before .if1 in
+    rw (sendCount, ne-eqb _ _ (if1 .left), ← c .before .before .is-broadcast .ensures, c .before .if2 .taken)
 
 returns-4 : tie.Need-returns-4
 unfolding sendCount

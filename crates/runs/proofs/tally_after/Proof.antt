@@ -19,7 +19,10 @@ wrapping-add-u32-requires-4 c κs = search needs
 
 returns : tie.Need-returns
 unfolding tallyAfter
-returns c = rw (tallyAfter, eq-eqb _ _ (c .before .before .before .before .if1 .taken), c .before .before .before .wrapping-add-u32 .ensures, c .before .before .wrapping-add-u322 .ensures, c .before .wrapping-add-u323 .ensures, c .wrapping-add-u324 .ensures)
+returns c =
+    let if1 = c .before .before .before .before .if1 in
+    let wrapping-add-u32 = c .before .before .before .wrapping-add-u32 in
+    rw (tallyAfter, eq-eqb _ _ (if1 .taken), wrapping-add-u32 .ensures, c .before .before .wrapping-add-u322 .ensures, c .before .wrapping-add-u323 .ensures, c .wrapping-add-u324 .ensures)
 
 returns-2 : tie.Need-returns-2
 unfolding tallyAfter

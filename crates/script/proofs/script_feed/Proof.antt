@@ -43,11 +43,11 @@ use denote.Exit.{yes}
 use Rattle.tally.specs.Sums.{tallySum}
 use Rattle.feed.specs.Entry.{Feeds}
 use Rattle.runs.specs.declared.Tally.{Tally}
-use Rattle.feed.specs.declared.Answer.{Answer}
+use Rattle.feed.specs.declared.FedPart.{FedPart}
 use Rattle.runs.proofs.Tally as T
 use Rattle.runs.proofs.Tally.Laws as T′
-use Rattle.feed.proofs.Answer as U
-use Rattle.feed.proofs.Answer.Laws as U′
+use Rattle.feed.proofs.FedPart as U
+use Rattle.feed.proofs.FedPart.Laws as U′
 use Rattle.feed.proofs.entry.feed_value as callee
 use Rattle.feed.proofs.entry.feed_value.Symbol as callee-def
 use Rattle.feed.proofs.entry.feed_value.Symbol.{name as #feed·entry·feed-value}
@@ -188,7 +188,7 @@ module _ {M : Type 1} (𝓤 : URA M) (H : Heap 𝓤) (A : Atoms 𝓤) (W : Given
   abbrev kept : List ℕ → List ℕ → List ℕ → List ℕ → List ℕ → List ℕ → List ℕ → List ℕ → List ℕ → List ℕ → List ℕ → List ℕ → Tally → List (Item 𝓤)
   kept z0 z1 z2 z3 z4 z5 z6 z7 z8 z9 z10 z13 u = ‵ (flft κt qt) ∷ tokens ∷ ‵ (fres γ (T.the-row .coded .code u)) ∷ ‵ (finally u8 (x13 .name) z13) ∷ ‵ (fres (x0 .name) (R0 .coded .code z0)) ∷ ‵ (fres (x1 .name) (R1 .coded .code z1)) ∷ ‵ (fres (x2 .name) (R2 .coded .code z2)) ∷ ‵ (fres (x3 .name) (R3 .coded .code z3)) ∷ ‵ (fres (x4 .name) (R4 .coded .code z4)) ∷ ‵ (fres (x5 .name) (R5 .coded .code z5)) ∷ ‵ (fres (x6 .name) (R6 .coded .code z6)) ∷ ‵ (fres (x7 .name) (R7 .coded .code z7)) ∷ ‵ (fres (x8 .name) (R8 .coded .code z8)) ∷ ‵ (fres (x9 .name) (R9 .coded .code z9)) ∷ ‵ (fres (x10 .name) (R10 .coded .code z10)) ∷ []
 
-  exits : (z0 z1 z2 z3 z4 z5 z6 z7 z8 z9 z10 z13 : List ℕ) (u : Tally) (r : Answer) → Feeds (x0 .now) (x1 .now) (x2 .now) (x3 .now) (x4 .now) (x5 .now) (x6 .now) (x7 .now) (x8 .now) (x9 .now) (x10 .now) h (x12 .now) (x13 .now) z0 z1 z2 z3 z4 z5 z6 z7 z8 z9 z10 (tallySum h (r .change)) z13 (r .taken) → u ≡ tallySum h (r .change) → length z13 ≡ length (x13 .now) → r .taken < 2 ^ 64 → ent 𝓤 (⋆ 𝓤 H A (kept z0 z1 z2 z3 z4 z5 z6 z7 z8 z9 z10 z13 u)) (Post (vint w64 (r .taken)))
+  exits : (z0 z1 z2 z3 z4 z5 z6 z7 z8 z9 z10 z13 : List ℕ) (u : Tally) (r : FedPart) → Feeds (x0 .now) (x1 .now) (x2 .now) (x3 .now) (x4 .now) (x5 .now) (x6 .now) (x7 .now) (x8 .now) (x9 .now) (x10 .now) h (x12 .now) (x13 .now) z0 z1 z2 z3 z4 z5 z6 z7 z8 z9 z10 (tallySum h (r .change)) z13 (r .taken) → u ≡ tallySum h (r .change) → length z13 ≡ length (x13 .now) → r .taken < 2 ^ 64 → ent 𝓤 (⋆ 𝓤 H A (kept z0 z1 z2 z3 z4 z5 z6 z7 z8 z9 z10 z13 u)) (Post (vint w64 (r .taken)))
   exits z0 z1 z2 z3 z4 z5 z6 z7 z8 z9 z10 z13 u r e a l13 fits =
       qed W (kept z0 z1 z2 z3 z4 z5 z6 z7 z8 z9 z10 z13 u) ∵
       suffices ! _ (ends-at 𝓤 H A f.ended stayed (f.clauses 𝓤 H A at-mem run) W bound (vint w64 (r .taken)) (r .taken) (z0, (z1, (z2, (z3, (z4, (z5, (z6, (z7, (z8, (z9, (z10, (u, (tt, (z13, tt)))))))))))))) (tt, (tt, (tt, (tt, (tt, (tt, (tt, (tt, (tt, (tt, (tt, (tt, (tt, (l13, tt))))))))))))))) $
@@ -201,7 +201,7 @@ module _ {M : Type 1} (𝓤 : URA M) (H : Heap 𝓤) (A : Atoms 𝓤) (W : Given
       fjoin ! $ owned ! usize (Is usize) (uint-makes 𝓤 H A W w64) (r .taken) _ (refl, fits) $ move ! (1 ∷ 0 ∷ []) $ done !
 
   -- what whoever holds the answer knows of its two fields
-  fields : (r : Answer) (v : Val) → Is U.the-row r (v ∷ []) → Is T.the-row (r .change) (val (r .change) ∷ []) × (r .taken < 2 ^ 64)
+  fields : (r : FedPart) (v : Val) → Is U.the-row r (v ∷ []) → Is T.the-row (r .change) (val (r .change) ∷ []) × (r .taken < 2 ^ 64)
   fields r v is = let o = LL.owed U.the-type U′.the-laws r (v ∷ []) is in (o .0, o .1 .0 .1)
 
   module _ (C : Calls 𝓤 H) (Λ : Loops 𝓤 H) (fm : FmC 𝓤 H (W .laws) C) (line-known : Triple 𝓤 (C #feed·entry·feed-value) (Line 𝓤 H A at-mem run)) (add-known : Triple 𝓤 (C #tally·add) (Add 𝓤 H A at-mem run)) where
@@ -232,7 +232,7 @@ module _ {M : Type 1} (𝓤 : URA M) (H : Heap 𝓤) (A : Atoms 𝓤) (W : Given
         -- the call
         owned ! T.the-row (Is T.the-row) (LL.makes T.the-type T′.the-plain 𝓤 H A) h _ was $ move ! (0 ∷ 70 ∷ []) $ fjoin ! $ move ! (71 ∷ 0 ∷ []) $ fjoin ! $ move ! (71 ∷ 0 ∷ []) $ fjoin ! $ move ! (71 ∷ 0 ∷ []) $ fjoin ! $ move ! (71 ∷ 0 ∷ []) $
         fjoin ! $ move ! (71 ∷ 0 ∷ []) $ fjoin ! $ move ! (71 ∷ 0 ∷ []) $ fjoin ! $ move ! (71 ∷ 0 ∷ []) $ fjoin ! $ move ! (71 ∷ 0 ∷ []) $ fjoin ! $ move ! (71 ∷ 0 ∷ []) $ fjoin ! $ move ! (71 ∷ 0 ∷ []) $ fjoin ! $ move ! (71 ∷ 0 ∷ []) $
-        fjoin ! $ move ! (70 ∷ 0 ∷ []) $ use2 W (raw (Line 𝓤 H A at-mem run .pre to-line)) goes-line $ calls-at ! fm (Line 𝓤 H A at-mem run) line-known to-line (and-then ! (load ! (from ! (stop !)) (look ! 34 refl)) (and-then ! (load ! (from ! (stop !)) (look ! 32 refl)) (and-then ! (load ! (from ! (stop !)) (look ! 30 refl)) (and-then ! (load ! (from ! (stop !)) (look ! 28 refl)) (and-then ! (load ! (from ! (stop !)) (look ! 26 refl)) (and-then ! (load ! (from ! (stop !)) (look ! 24 refl)) (and-then ! (load ! (from ! (stop !)) (look ! 22 refl)) (and-then ! (load ! (from ! (stop !)) (look ! 20 refl)) (and-then ! (load ! (from ! (stop !)) (look ! 18 refl)) (and-then ! (load ! (from ! (stop !)) (look ! 16 refl)) (and-then ! (load ! (from ! (stop !)) (look ! 14 refl)) (and-then ! (load ! (from ! (stop !)) (look ! 12 refl)) (and-then ! (load ! (from ! (stop !)) (look ! 42 refl)) (and-then ! (load ! (from ! (stop !)) (look ! 8 refl)) (no-more !))))))))))))))) (λ v. use1 W (later (some (λ (r : Answer). (tokens ⊛ ‵ (U.the-row .own r (v ∷ []))) ⊛ raw (ensured 𝓤 H A callee.ended (callee.clauses 𝓤 H A at-mem run) (to-line .0 .0) (to-line .0 .3) tt r)))) (id⊢ 𝓤 _) $
+        fjoin ! $ move ! (70 ∷ 0 ∷ []) $ use2 W (raw (Line 𝓤 H A at-mem run .pre to-line)) goes-line $ calls-at ! fm (Line 𝓤 H A at-mem run) line-known to-line (and-then ! (load ! (from ! (stop !)) (look ! 34 refl)) (and-then ! (load ! (from ! (stop !)) (look ! 32 refl)) (and-then ! (load ! (from ! (stop !)) (look ! 30 refl)) (and-then ! (load ! (from ! (stop !)) (look ! 28 refl)) (and-then ! (load ! (from ! (stop !)) (look ! 26 refl)) (and-then ! (load ! (from ! (stop !)) (look ! 24 refl)) (and-then ! (load ! (from ! (stop !)) (look ! 22 refl)) (and-then ! (load ! (from ! (stop !)) (look ! 20 refl)) (and-then ! (load ! (from ! (stop !)) (look ! 18 refl)) (and-then ! (load ! (from ! (stop !)) (look ! 16 refl)) (and-then ! (load ! (from ! (stop !)) (look ! 14 refl)) (and-then ! (load ! (from ! (stop !)) (look ! 12 refl)) (and-then ! (load ! (from ! (stop !)) (look ! 42 refl)) (and-then ! (load ! (from ! (stop !)) (look ! 8 refl)) (no-more !))))))))))))))) (λ v. use1 W (later (some (λ (r : FedPart). (tokens ⊛ ‵ (U.the-row .own r (v ∷ []))) ⊛ raw (ensured 𝓤 H A callee.ended (callee.clauses 𝓤 H A at-mem run) (to-line .0 .0) (to-line .0 .3) tt r)))) (id⊢ 𝓤 _) $
         await ! tt $ pick ! (λ r. split ! $ move ! (1 ∷ []) $
         -- what the callee ensures, at some last values
         use1 W (some (λ (zs : Lasts). ‵ (lasts callee.ended (to-line .0 .0) (to-line .0 .3) zs) ⊛ raw (fact 𝓤 (Feeds (x0 .now) (x1 .now) (x2 .now) (x3 .now) (x4 .now) (x5 .now) (x6 .now) (x7 .now) (x8 .now) (x9 .now) (x10 .now) h (x12 .now) (x13 .now) (zs .0) (zs .1 .0) (zs .1 .1 .0) (zs .1 .1 .1 .0) (zs .1 .1 .1 .1 .0) (zs .1 .1 .1 .1 .1 .0) (zs .1 .1 .1 .1 .1 .1 .0) (zs .1 .1 .1 .1 .1 .1 .1 .0) (zs .1 .1 .1 .1 .1 .1 .1 .1 .0) (zs .1 .1 .1 .1 .1 .1 .1 .1 .1 .0) (zs .1 .1 .1 .1 .1 .1 .1 .1 .1 .1 .0) (tallySum h (r .change)) (zs .1 .1 .1 .1 .1 .1 .1 .1 .1 .1 .1 .1 .1 .0) (r .taken))))) (id⊢ 𝓤 _) $

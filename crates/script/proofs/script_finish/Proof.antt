@@ -42,11 +42,11 @@ use denote.Triple.Walked.{says, Stays, gave-ref, gave-slice, walkOf, AllGo, goes
 use Rattle.tally.specs.Sums.{tallySum}
 use Rattle.feed.specs.Entry.{Finishes}
 use Rattle.runs.specs.declared.Tally.{Tally}
-use Rattle.feed.specs.declared.Answer.{Answer}
+use Rattle.feed.specs.declared.FedEnd.{FedEnd}
 use Rattle.runs.proofs.Tally as T
 use Rattle.runs.proofs.Tally.Laws as T′
-use Rattle.feed.proofs.Answer as U
-use Rattle.feed.proofs.Answer.Laws as U′
+use Rattle.feed.proofs.FedEnd as U
+use Rattle.feed.proofs.FedEnd.Laws as U′
 use Rattle.feed.proofs.entry.finish_value as callee
 use Rattle.feed.proofs.entry.finish_value.Symbol as callee-def
 use Rattle.feed.proofs.entry.finish_value.Symbol.{name as #feed·entry·finish-value}
@@ -184,20 +184,20 @@ module _ {M : Type 1} (𝓤 : URA M) (H : Heap 𝓤) (A : Atoms 𝓤) (W : Given
   abbrev kept : List ℕ → List ℕ → List ℕ → List ℕ → List ℕ → List ℕ → List ℕ → List ℕ → List ℕ → List ℕ → List ℕ → List ℕ → Tally → List (Item 𝓤)
   kept z0 z1 z2 z3 z4 z5 z6 z7 z8 z9 z10 z12 u = ‵ (flft κt qt) ∷ tokens ∷ ‵ (fres γ (T.the-row .coded .code u)) ∷ ‵ (finally u8 (x12 .name) z12) ∷ ‵ (fres (x0 .name) (R0 .coded .code z0)) ∷ ‵ (fres (x1 .name) (R1 .coded .code z1)) ∷ ‵ (fres (x2 .name) (R2 .coded .code z2)) ∷ ‵ (fres (x3 .name) (R3 .coded .code z3)) ∷ ‵ (fres (x4 .name) (R4 .coded .code z4)) ∷ ‵ (fres (x5 .name) (R5 .coded .code z5)) ∷ ‵ (fres (x6 .name) (R6 .coded .code z6)) ∷ ‵ (fres (x7 .name) (R7 .coded .code z7)) ∷ ‵ (fres (x8 .name) (R8 .coded .code z8)) ∷ ‵ (fres (x9 .name) (R9 .coded .code z9)) ∷ ‵ (fres (x10 .name) (R10 .coded .code z10)) ∷ []
 
-  exits : (z0 z1 z2 z3 z4 z5 z6 z7 z8 z9 z10 z12 : List ℕ) (u : Tally) (r : Answer) → Finishes (x0 .now) (x1 .now) (x2 .now) (x3 .now) (x4 .now) (x5 .now) (x6 .now) (x7 .now) (x8 .now) (x9 .now) (x10 .now) h (x12 .now) z0 z1 z2 z3 z4 z5 z6 z7 z8 z9 z10 (tallySum h (r .change)) z12 (r .taken) → u ≡ tallySum h (r .change) → length z12 ≡ length (x12 .now) → r .taken < 2 ^ 64 → ent 𝓤 (⋆ 𝓤 H A (kept z0 z1 z2 z3 z4 z5 z6 z7 z8 z9 z10 z12 u)) (Post (vint w64 (r .taken)))
+  exits : (z0 z1 z2 z3 z4 z5 z6 z7 z8 z9 z10 z12 : List ℕ) (u : Tally) (r : FedEnd) → Finishes (x0 .now) (x1 .now) (x2 .now) (x3 .now) (x4 .now) (x5 .now) (x6 .now) (x7 .now) (x8 .now) (x9 .now) (x10 .now) h (x12 .now) z0 z1 z2 z3 z4 z5 z6 z7 z8 z9 z10 (tallySum h (r .change)) z12 (r .written) → u ≡ tallySum h (r .change) → length z12 ≡ length (x12 .now) → r .written < 2 ^ 64 → ent 𝓤 (⋆ 𝓤 H A (kept z0 z1 z2 z3 z4 z5 z6 z7 z8 z9 z10 z12 u)) (Post (vint w64 (r .written)))
   exits z0 z1 z2 z3 z4 z5 z6 z7 z8 z9 z10 z12 u r e a l12 fits =
       qed W (kept z0 z1 z2 z3 z4 z5 z6 z7 z8 z9 z10 z12 u) ∵
-      suffices ! _ (ends-at 𝓤 H A f.ended stayed (f.clauses 𝓤 H A at-mem run) W bound (vint w64 (r .taken)) (r .taken) (z0, (z1, (z2, (z3, (z4, (z5, (z6, (z7, (z8, (z9, (z10, (u, (z12, tt))))))))))))) (tt, (tt, (tt, (tt, (tt, (tt, (tt, (tt, (tt, (tt, (tt, (tt, (l12, tt)))))))))))))) $
-      says ! (subst (λ (y : Tally). Finishes (x0 .now) (x1 .now) (x2 .now) (x3 .now) (x4 .now) (x5 .now) (x6 .now) (x7 .now) (x8 .now) (x9 .now) (x10 .now) h (x12 .now) z0 z1 z2 z3 z4 z5 z6 z7 z8 z9 z10 y z12 (r .taken)) (sym a) e) $
+      suffices ! _ (ends-at 𝓤 H A f.ended stayed (f.clauses 𝓤 H A at-mem run) W bound (vint w64 (r .written)) (r .written) (z0, (z1, (z2, (z3, (z4, (z5, (z6, (z7, (z8, (z9, (z10, (u, (z12, tt))))))))))))) (tt, (tt, (tt, (tt, (tt, (tt, (tt, (tt, (tt, (tt, (tt, (tt, (l12, tt)))))))))))))) $
+      says ! (subst (λ (y : Tally). Finishes (x0 .now) (x1 .now) (x2 .now) (x3 .now) (x4 .now) (x5 .now) (x6 .now) (x7 .now) (x8 .now) (x9 .now) (x10 .now) h (x12 .now) z0 z1 z2 z3 z4 z5 z6 z7 z8 z9 z10 y z12 (r .written)) (sym a) e) $
       move ! (1 ∷ []) $ split ! $ move ! (1 ∷ []) $ split ! $ move ! (1 ∷ []) $ split ! $ move ! (1 ∷ []) $ split ! $ move ! (1 ∷ []) $ split ! $ move ! (1 ∷ []) $ split ! $ move ! (1 ∷ []) $ split ! $ move ! (1 ∷ []) $ split ! $
       move ! (1 ∷ []) $ split ! $ move ! (1 ∷ []) $ split ! $ move ! (1 ∷ []) $ split ! $ move ! (12 ∷ 1 ∷ []) $ join ! $ move ! (1 ∷ 0 ∷ []) $ join ! $ move ! (1 ∷ 0 ∷ []) $ join ! $ move ! (1 ∷ 0 ∷ []) $ join ! $ move ! (1 ∷ 0 ∷ []) $
       join ! $ move ! (1 ∷ 0 ∷ []) $ join ! $ move ! (1 ∷ 0 ∷ []) $ join ! $ move ! (1 ∷ 0 ∷ []) $ join ! $ move ! (1 ∷ 0 ∷ []) $ join ! $ move ! (1 ∷ 0 ∷ []) $ join ! $ move ! (1 ∷ 0 ∷ []) $ join ! $ move ! (1 ∷ 0 ∷ []) $ join ! $
       frame ! $ nothing ! $ move ! (2 ∷ 0 ∷ []) $ fjoin ! $ move ! (1 ∷ 0 ∷ []) $ fjoin ! $ move ! (11 ∷ 0 ∷ []) $ fjoin ! $ move ! (10 ∷ 0 ∷ []) $ fjoin ! $ move ! (9 ∷ 0 ∷ []) $ fjoin ! $ move ! (8 ∷ 0 ∷ []) $ fjoin ! $ move ! (7 ∷ 0 ∷ []) $
-      fjoin ! $ move ! (6 ∷ 0 ∷ []) $ fjoin ! $ move ! (5 ∷ 0 ∷ []) $ fjoin ! $ move ! (4 ∷ 0 ∷ []) $ fjoin ! $ move ! (3 ∷ 0 ∷ []) $ fjoin ! $ move ! (2 ∷ 0 ∷ []) $ fjoin ! $ move ! (1 ∷ 0 ∷ []) $ fjoin ! $ owned ! usize (Is usize) (uint-makes 𝓤 H A W w64) (r .taken) _ (refl, fits) $
+      fjoin ! $ move ! (6 ∷ 0 ∷ []) $ fjoin ! $ move ! (5 ∷ 0 ∷ []) $ fjoin ! $ move ! (4 ∷ 0 ∷ []) $ fjoin ! $ move ! (3 ∷ 0 ∷ []) $ fjoin ! $ move ! (2 ∷ 0 ∷ []) $ fjoin ! $ move ! (1 ∷ 0 ∷ []) $ fjoin ! $ owned ! usize (Is usize) (uint-makes 𝓤 H A W w64) (r .written) _ (refl, fits) $
       move ! (1 ∷ 0 ∷ []) $ done !
 
   -- what whoever holds the answer knows of its two fields
-  fields : (r : Answer) (v : Val) → Is U.the-row r (v ∷ []) → Is T.the-row (r .change) (val (r .change) ∷ []) × (r .taken < 2 ^ 64)
+  fields : (r : FedEnd) (v : Val) → Is U.the-row r (v ∷ []) → Is T.the-row (r .change) (val (r .change) ∷ []) × (r .written < 2 ^ 64)
   fields r v is = let o = LL.owed U.the-type U′.the-laws r (v ∷ []) is in (o .0, o .1 .0 .1)
 
   module _ (C : Calls 𝓤 H) (Λ : Loops 𝓤 H) (fm : FmC 𝓤 H (W .laws) C) (line-known : Triple 𝓤 (C #feed·entry·finish-value) (Line 𝓤 H A at-mem run)) (add-known : Triple 𝓤 (C #tally·add) (Add 𝓤 H A at-mem run)) where
@@ -228,11 +228,11 @@ module _ {M : Type 1} (𝓤 : URA M) (H : Heap 𝓤) (A : Atoms 𝓤) (W : Given
         -- the call
         owned ! T.the-row (Is T.the-row) (LL.makes T.the-type T′.the-plain 𝓤 H A) h _ was $ move ! (0 ∷ 68 ∷ []) $ fjoin ! $ move ! (69 ∷ 0 ∷ []) $ fjoin ! $ move ! (69 ∷ 0 ∷ []) $ fjoin ! $ move ! (69 ∷ 0 ∷ []) $ fjoin ! $ move ! (69 ∷ 0 ∷ []) $
         fjoin ! $ move ! (69 ∷ 0 ∷ []) $ fjoin ! $ move ! (69 ∷ 0 ∷ []) $ fjoin ! $ move ! (69 ∷ 0 ∷ []) $ fjoin ! $ move ! (69 ∷ 0 ∷ []) $ fjoin ! $ move ! (69 ∷ 0 ∷ []) $ fjoin ! $ move ! (69 ∷ 0 ∷ []) $ fjoin ! $ move ! (69 ∷ 0 ∷ []) $
-        fjoin ! $ move ! (68 ∷ 0 ∷ []) $ use2 W (raw (Line 𝓤 H A at-mem run .pre to-line)) goes-line $ calls-at ! fm (Line 𝓤 H A at-mem run) line-known to-line (and-then ! (load ! (from ! (stop !)) (look ! 34 refl)) (and-then ! (load ! (from ! (stop !)) (look ! 32 refl)) (and-then ! (load ! (from ! (stop !)) (look ! 30 refl)) (and-then ! (load ! (from ! (stop !)) (look ! 28 refl)) (and-then ! (load ! (from ! (stop !)) (look ! 26 refl)) (and-then ! (load ! (from ! (stop !)) (look ! 24 refl)) (and-then ! (load ! (from ! (stop !)) (look ! 22 refl)) (and-then ! (load ! (from ! (stop !)) (look ! 20 refl)) (and-then ! (load ! (from ! (stop !)) (look ! 18 refl)) (and-then ! (load ! (from ! (stop !)) (look ! 16 refl)) (and-then ! (load ! (from ! (stop !)) (look ! 14 refl)) (and-then ! (load ! (from ! (stop !)) (look ! 12 refl)) (and-then ! (load ! (from ! (stop !)) (look ! 8 refl)) (no-more !)))))))))))))) (λ v. use1 W (later (some (λ (r : Answer). (tokens ⊛ ‵ (U.the-row .own r (v ∷ []))) ⊛ raw (ensured 𝓤 H A callee.ended (callee.clauses 𝓤 H A at-mem run) (to-line .0 .0) (to-line .0 .3) tt r)))) (id⊢ 𝓤 _) $
+        fjoin ! $ move ! (68 ∷ 0 ∷ []) $ use2 W (raw (Line 𝓤 H A at-mem run .pre to-line)) goes-line $ calls-at ! fm (Line 𝓤 H A at-mem run) line-known to-line (and-then ! (load ! (from ! (stop !)) (look ! 34 refl)) (and-then ! (load ! (from ! (stop !)) (look ! 32 refl)) (and-then ! (load ! (from ! (stop !)) (look ! 30 refl)) (and-then ! (load ! (from ! (stop !)) (look ! 28 refl)) (and-then ! (load ! (from ! (stop !)) (look ! 26 refl)) (and-then ! (load ! (from ! (stop !)) (look ! 24 refl)) (and-then ! (load ! (from ! (stop !)) (look ! 22 refl)) (and-then ! (load ! (from ! (stop !)) (look ! 20 refl)) (and-then ! (load ! (from ! (stop !)) (look ! 18 refl)) (and-then ! (load ! (from ! (stop !)) (look ! 16 refl)) (and-then ! (load ! (from ! (stop !)) (look ! 14 refl)) (and-then ! (load ! (from ! (stop !)) (look ! 12 refl)) (and-then ! (load ! (from ! (stop !)) (look ! 8 refl)) (no-more !)))))))))))))) (λ v. use1 W (later (some (λ (r : FedEnd). (tokens ⊛ ‵ (U.the-row .own r (v ∷ []))) ⊛ raw (ensured 𝓤 H A callee.ended (callee.clauses 𝓤 H A at-mem run) (to-line .0 .0) (to-line .0 .3) tt r)))) (id⊢ 𝓤 _) $
         await ! tt $ pick ! (λ r. split ! $ move ! (1 ∷ []) $
         -- what the callee ensures, at some last values
-        use1 W (some (λ (zs : Lasts). ‵ (lasts callee.ended (to-line .0 .0) (to-line .0 .3) zs) ⊛ raw (fact 𝓤 (Finishes (x0 .now) (x1 .now) (x2 .now) (x3 .now) (x4 .now) (x5 .now) (x6 .now) (x7 .now) (x8 .now) (x9 .now) (x10 .now) h (x12 .now) (zs .0) (zs .1 .0) (zs .1 .1 .0) (zs .1 .1 .1 .0) (zs .1 .1 .1 .1 .0) (zs .1 .1 .1 .1 .1 .0) (zs .1 .1 .1 .1 .1 .1 .0) (zs .1 .1 .1 .1 .1 .1 .1 .0) (zs .1 .1 .1 .1 .1 .1 .1 .1 .0) (zs .1 .1 .1 .1 .1 .1 .1 .1 .1 .0) (zs .1 .1 .1 .1 .1 .1 .1 .1 .1 .1 .0) (tallySum h (r .change)) (zs .1 .1 .1 .1 .1 .1 .1 .1 .1 .1 .1 .1 .0) (r .taken))))) (id⊢ 𝓤 _) $
-        pick ! (λ zs. split ! $ move ! (1 ∷ []) $ heard ! (Finishes (x0 .now) (x1 .now) (x2 .now) (x3 .now) (x4 .now) (x5 .now) (x6 .now) (x7 .now) (x8 .now) (x9 .now) (x10 .now) h (x12 .now) (zs .0) (zs .1 .0) (zs .1 .1 .0) (zs .1 .1 .1 .0) (zs .1 .1 .1 .1 .0) (zs .1 .1 .1 .1 .1 .0) (zs .1 .1 .1 .1 .1 .1 .0) (zs .1 .1 .1 .1 .1 .1 .1 .0) (zs .1 .1 .1 .1 .1 .1 .1 .1 .0) (zs .1 .1 .1 .1 .1 .1 .1 .1 .1 .0) (zs .1 .1 .1 .1 .1 .1 .1 .1 .1 .1 .0) (tallySum h (r .change)) (zs .1 .1 .1 .1 .1 .1 .1 .1 .1 .1 .1 .1 .0) (r .taken)) (λ e. fsplit ! $
+        use1 W (some (λ (zs : Lasts). ‵ (lasts callee.ended (to-line .0 .0) (to-line .0 .3) zs) ⊛ raw (fact 𝓤 (Finishes (x0 .now) (x1 .now) (x2 .now) (x3 .now) (x4 .now) (x5 .now) (x6 .now) (x7 .now) (x8 .now) (x9 .now) (x10 .now) h (x12 .now) (zs .0) (zs .1 .0) (zs .1 .1 .0) (zs .1 .1 .1 .0) (zs .1 .1 .1 .1 .0) (zs .1 .1 .1 .1 .1 .0) (zs .1 .1 .1 .1 .1 .1 .0) (zs .1 .1 .1 .1 .1 .1 .1 .0) (zs .1 .1 .1 .1 .1 .1 .1 .1 .0) (zs .1 .1 .1 .1 .1 .1 .1 .1 .1 .0) (zs .1 .1 .1 .1 .1 .1 .1 .1 .1 .1 .0) (tallySum h (r .change)) (zs .1 .1 .1 .1 .1 .1 .1 .1 .1 .1 .1 .1 .0) (r .written))))) (id⊢ 𝓤 _) $
+        pick ! (λ zs. split ! $ move ! (1 ∷ []) $ heard ! (Finishes (x0 .now) (x1 .now) (x2 .now) (x3 .now) (x4 .now) (x5 .now) (x6 .now) (x7 .now) (x8 .now) (x9 .now) (x10 .now) h (x12 .now) (zs .0) (zs .1 .0) (zs .1 .1 .0) (zs .1 .1 .1 .0) (zs .1 .1 .1 .1 .0) (zs .1 .1 .1 .1 .1 .0) (zs .1 .1 .1 .1 .1 .1 .0) (zs .1 .1 .1 .1 .1 .1 .1 .0) (zs .1 .1 .1 .1 .1 .1 .1 .1 .0) (zs .1 .1 .1 .1 .1 .1 .1 .1 .1 .0) (zs .1 .1 .1 .1 .1 .1 .1 .1 .1 .1 .0) (tallySum h (r .change)) (zs .1 .1 .1 .1 .1 .1 .1 .1 .1 .1 .1 .1 .0) (r .written)) (λ e. fsplit ! $
         move ! (1 ∷ []) $ fsplit ! $ move ! (1 ∷ []) $ fsplit ! $ move ! (1 ∷ []) $ fsplit ! $ move ! (1 ∷ []) $ fsplit ! $ move ! (1 ∷ []) $ fsplit ! $ move ! (1 ∷ []) $ fsplit ! $ move ! (1 ∷ []) $ fsplit ! $ move ! (1 ∷ []) $
         fsplit ! $ move ! (1 ∷ []) $ fsplit ! $ move ! (1 ∷ []) $ fsplit ! $ move ! (1 ∷ []) $ fsplit ! $ move ! (1 ∷ []) $ fsplit ! $ fsplit ! $ move ! (1 ∷ []) $ feqL ! (λ l12. move ! (14 ∷ []) $ split ! $ move ! (1 ∷ []) $ peeks ! U.the-row (Is U.the-row) (shows 𝓤 H A U.the-row) r (v ∷ []) (λ is.
         -- the answer lands, and its change is copied out

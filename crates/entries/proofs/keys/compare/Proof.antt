@@ -19,9 +19,12 @@ abbrev μ-loop : tie.MeasureT-loop
 -- what is compared are the keys
 whole : (c : tie.At-loop Inv-loop μ-loop) → order (take (c .before .before .before .before .key-length .result) (c .before .before .before .before .before .args .a .bytes)) (take (c .before .before .before .key-length2 .result) (c .before .before .before .before .before .args .b .bytes)) ≡ order (keyBytes (c .before .before .before .before .before .args .a)) (keyBytes (c .before .before .before .before .before .args .b))
 whole c =
-    let a = c .before .before .before .before .before .args in
-    ap₂ order (key-whole (a .a) (c .before .before .before .before .key-length .ensures))
-    (key-whole (a .b) (c .before .before .before .key-length2 .ensures))
+    let args = c .before .before .before .before .before .args in
+    let key-length = c .before .before .before .before .key-length in
+    let key-length2 = c .before .before .before .key-length2 in
+    let a = args in
+    ap₂ order (key-whole (a .a) (key-length .ensures))
+    (key-whole (a .b) (key-length2 .ensures))
 
 key-length-requires : tie.Need-key-length-requires Inv-loop μ-loop
 key-length-requires c κs = search needs
@@ -31,8 +34,10 @@ key-length-requires-2 c κs = search needs
 
 loop-holds : tie.Need-loop-holds Inv-loop μ-loop
 loop-holds c =
-    let a = c .before .before .before .before .args in
-    comparing-starts (key-within (a .a) (c .before .before .before .key-length .ensures)) (key-within (a .b) (c .before .before .key-length2 .ensures))
+    let args = c .before .before .before .before .args in
+    let key-length = c .before .before .before .key-length in
+    let a = args in
+    comparing-starts (key-within (a .a) (key-length .ensures)) (key-within (a .b) (c .before .before .key-length2 .ensures))
 
 returns : tie.Need-returns Inv-loop μ-loop
 returns c = sym (sym (whole (c .before .before)) ∙ comparing-longer (c .before .before .loop .inv) (c .before .loop-test .taken) (c .if1 .taken))
@@ -45,9 +50,10 @@ array-read-if2-2 c = search needs
 
 returns-2 : tie.Need-returns-2 Inv-loop μ-loop
 returns-2 c =
+    let loop = c .before .before .before .loop in
     sym
     (sym (whole (c .before .before .before))
-    ∙ comparing-less (c .before .before .before .loop .inv) (c .before .before .loop-test .taken) (c .before .if1 .left) (c .if2 .taken))
+    ∙ comparing-less (loop .inv) (c .before .before .loop-test .taken) (c .before .if1 .left) (c .if2 .taken))
 
 array-read-if3 : tie.Need-array-read-if3 Inv-loop μ-loop
 array-read-if3 c = search needs
@@ -57,9 +63,11 @@ array-read-if3-2 c = search needs
 
 returns-3 : tie.Need-returns-3 Inv-loop μ-loop
 returns-3 c =
+    let loop = c .before .before .before .before .loop in
+    let loop-test = c .before .before .before .loop-test in
     sym
     (sym (whole (c .before .before .before .before))
-    ∙ comparing-more (c .before .before .before .before .loop .inv) (c .before .before .before .loop-test .taken) (c .before .before .if1 .left) (c .if3 .taken))
+    ∙ comparing-more (loop .inv) (loop-test .taken) (c .before .before .if1 .left) (c .if3 .taken))
 
 add-i : tie.Need-add-i Inv-loop μ-loop
 add-i c = search needs
@@ -69,7 +77,9 @@ loop-less c = search needs
 
 loop-again : tie.Need-loop-again Inv-loop μ-loop
 loop-again c =
-    comparing-goes-on (c .before .before .before .before .loop .inv) (c .before .before .before .loop-test .taken) (c .before .before .if1 .left) (c .if3 .left)
+    let loop = c .before .before .before .before .loop in
+    let loop-test = c .before .before .before .loop-test in
+    comparing-goes-on (loop .inv) (loop-test .taken) (c .before .before .if1 .left) (c .if3 .left)
     (c .before .if2 .left)
 
 returns-4 : tie.Need-returns-4 Inv-loop μ-loop

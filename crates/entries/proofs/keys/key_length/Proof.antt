@@ -13,7 +13,7 @@ at-most-requires c κs = search needs
 returns : tie.Need-returns
 unfolding keyBytes
 returns c =
-    let a = c .before .args .k in
+    let a = c .before .args .key in
     let l : length (a .bytes) ≡ 8 = search needs in
     rw (c .at-most .ensures) (cut-length (a .len) 8 (a .bytes) l)
 

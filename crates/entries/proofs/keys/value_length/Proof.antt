@@ -13,7 +13,7 @@ at-most-requires c κs = search needs
 returns : tie.Need-returns
 unfolding valueBytes
 returns c =
-    let a = c .before .args .v in
+    let a = c .before .args .value in
     let l : length (a .bytes) ≡ 16 = search needs in
     rw (c .at-most .ensures) (cut-length (a .len) 16 (a .bytes) l)
 

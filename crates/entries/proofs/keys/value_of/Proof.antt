@@ -18,11 +18,11 @@ at-most-requires c κs = search needs
 loop-holds : tie.Need-loop-holds Inv-loop μ-loop
 loop-holds c = copying-starts _ _ _ _ (c .at-most .ensures) (search needs)
 
-shared-slice-read-b : tie.Need-shared-slice-read-b Inv-loop μ-loop
-shared-slice-read-b c = search needs
+shared-slice-read-kept : tie.Need-shared-slice-read-kept Inv-loop μ-loop
+shared-slice-read-kept c = search needs
 
-array-write-b : tie.Need-array-write-b Inv-loop μ-loop
-array-write-b c = search needs
+array-write-kept : tie.Need-array-write-kept Inv-loop μ-loop
+array-write-kept c = search needs
 
 add-i : tie.Need-add-i Inv-loop μ-loop
 add-i c = search needs
@@ -45,8 +45,8 @@ value-of-spec =
     μ-loop
     at-most-requires
     loop-holds
-    shared-slice-read-b
-    array-write-b
+    shared-slice-read-kept
+    array-write-kept
     add-i
     loop-less
     loop-again

@@ -14,7 +14,7 @@ at-most-requires c κs = search needs
 returns : tie.Need-returns
 unfolding tableIn
 returns c =
-    let a = c .before .args .t in
+    let a = c .before .args .table in
     let l : length (a .slots) ≡ 4 = simp length-map at (c .before .good .0 .1 .1 .1 .0 .1 .0 .1) in
     let cut = cut-length (a .count) 4 (map entryIn (a .slots)) (length-map (a .slots) entryIn ∙ l) in
     record { is = c .at-most .ensures ∙ cut .is; low = rw (c .at-most .ensures) (cut .low); four = l }

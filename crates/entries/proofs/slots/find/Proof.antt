@@ -12,21 +12,26 @@ use Rattle.entries.proofs.slots.find.Tie as tie
 place-requires : tie.Need-place-requires
 place-requires c κs = search needs
 
-mul-s : tie.Need-mul-s
-mul-s c =
+mul-slot : tie.Need-mul-slot
+mul-slot c =
+    let args = c .before .before .before .args in
     let p = c .before .before .place in
-    omega (arith, held-below (c .before .before .before .args .t) (p .result) (p .ensures) (c .before .if1 .taken), p .ensures .low)
+    omega (arith, held-below (args .table) (p .result) (p .ensures) (c .before .if1 .taken), p .ensures .low)
 
-array-copy-out-s : tie.Need-array-copy-out-s
-array-copy-out-s c =
+array-copy-out-slot : tie.Need-array-copy-out-slot
+array-copy-out-slot c =
+    let args = c .before .before .before .args in
     let p = c .before .before .place in
-    omega (arith, held-below (c .before .before .before .args .t) (p .result) (p .ensures) (c .before .if1 .taken), p .ensures .low)
+    omega (arith, held-below (args .table) (p .result) (p .ensures) (c .before .if1 .taken), p .ensures .low)
 
 returns : tie.Need-returns
 unfolding itemIn
 returns c =
-    let p = c .before .before .before .before .place in
-    found (c .before .before .before .before .before .args .t) (p .result) (p .ensures) (c .before .before .before .if1 .taken)
+    let args = c .before .before .before .before .before .args in
+    let place = c .before .before .before .before .place in
+    let if1 = c .before .before .before .if1 in
+    let p = place in
+    found (args .table) (p .result) (p .ensures) (if1 .taken)
 
 absent-requires : tie.Need-absent-requires
 absent-requires c κs = search needs
@@ -38,4 +43,4 @@ returns-2 c =
 
 pub find-spec : {M : Type 1} → statement M
 find-spec =
-    tie.close (tie.spec place-requires mul-s array-copy-out-s returns absent-requires returns-2)
+    tie.close (tie.spec place-requires mul-slot array-copy-out-slot returns absent-requires returns-2)

@@ -20,11 +20,11 @@ count-of-requires c κs = search needs
 loop-holds : tie.Need-loop-holds Inv-loop μ-loop
 loop-holds c = placing-starts (c .before .count-of .ensures .low) (c .before .count-of .ensures .four)
 
-mul-s : tie.Need-mul-s Inv-loop μ-loop
-mul-s c = search needs
+mul-slot : tie.Need-mul-slot Inv-loop μ-loop
+mul-slot c = search needs
 
-array-copy-out-s : tie.Need-array-copy-out-s Inv-loop μ-loop
-array-copy-out-s c = search needs
+array-copy-out-slot : tie.Need-array-copy-out-slot Inv-loop μ-loop
+array-copy-out-slot c = search needs
 
 compare-requires : tie.Need-compare-requires Inv-loop μ-loop
 compare-requires c κs = search needs
@@ -34,16 +34,24 @@ enum-told c = search needs
 
 returns : tie.Need-returns Inv-loop μ-loop
 returns c =
-    rw (table-whole (c .before .before .before .before .before .before .before .before .before .args .t) (c .before .before .before .before .before .before .before .before .count-of .ensures)) at
-    (placing-before (c .before .before .before .before .before .before .loop .inv) (c .before .before .before .before .before .loop-test .taken) (sym (c .before .before .compare .ensures) ∙ c .enum-told .given .1))
+    let args = c .before .before .before .before .before .before .before .before .before .args in
+    let count-of = c .before .before .before .before .before .before .before .before .count-of in
+    let loop = c .before .before .before .before .before .before .loop in
+    let loop-test = c .before .before .before .before .before .loop-test in
+    rw (table-whole (args .table) (count-of .ensures)) at
+    (placing-before (loop .inv) (loop-test .taken) (sym (c .before .before .compare .ensures) ∙ c .enum-told .given .1))
 
 enum-told-2 : tie.Need-enum-told-2 Inv-loop μ-loop
 enum-told-2 c = search needs
 
 returns-2 : tie.Need-returns-2 Inv-loop μ-loop
 returns-2 c =
-    rw (table-whole (c .before .before .before .before .before .before .before .before .before .args .t) (c .before .before .before .before .before .before .before .before .count-of .ensures)) at
-    (placing-same (c .before .before .before .before .before .before .loop .inv) (c .before .before .before .before .before .loop-test .taken) (sym (c .before .before .compare .ensures) ∙ c .enum-told2 .given .1))
+    let args = c .before .before .before .before .before .before .before .before .before .args in
+    let count-of = c .before .before .before .before .before .before .before .before .count-of in
+    let loop = c .before .before .before .before .before .before .loop in
+    let loop-test = c .before .before .before .before .before .loop-test in
+    rw (table-whole (args .table) (count-of .ensures)) at
+    (placing-same (loop .inv) (loop-test .taken) (sym (c .before .before .compare .ensures) ∙ c .enum-told2 .given .1))
 
 enum-told-3 : tie.Need-enum-told-3 Inv-loop μ-loop
 enum-told-3 c = search needs
@@ -56,11 +64,15 @@ loop-less c = search needs
 
 loop-again : tie.Need-loop-again Inv-loop μ-loop
 loop-again c =
-    placing-goes-on (c .before .before .before .before .before .before .loop .inv) (c .before .before .before .before .before .loop-test .taken) (sym (c .before .before .compare .ensures) ∙ c .enum-told3 .given .1)
+    let loop = c .before .before .before .before .before .before .loop in
+    let loop-test = c .before .before .before .before .before .loop-test in
+    placing-goes-on (loop .inv) (loop-test .taken) (sym (c .before .before .compare .ensures) ∙ c .enum-told3 .given .1)
 
 returns-3 : tie.Need-returns-3 Inv-loop μ-loop
 returns-3 c =
-    rw (table-whole (c .before .before .before .before .args .t) (c .before .before .before .count-of .ensures)) at
+    let args = c .before .before .before .before .args in
+    let count-of = c .before .before .before .count-of in
+    rw (table-whole (args .table) (count-of .ensures)) at
     (placing-ends (c .before .loop .inv) (c .loop-test .left))
 
 pub place-spec : {M : Type 1} → statement M
@@ -71,8 +83,8 @@ place-spec =
     μ-loop
     count-of-requires
     loop-holds
-    mul-s
-    array-copy-out-s
+    mul-slot
+    array-copy-out-slot
     compare-requires
     enum-told
     returns

@@ -15,21 +15,29 @@ count-of-requires c κs = search needs
 
 replaced-requires : tie.Need-replaced-requires
 replaced-requires c κs =
-    let p = c .before .before .before .place in
-    omega (arith, held-below (c .before .before .before .before .args .t) (p .result) (p .ensures) (c .if1 .taken), p .ensures .low)
+    let args = c .before .before .before .before .args in
+    let place = c .before .before .before .place in
+    let p = place in
+    omega (arith, held-below (args .table) (p .result) (p .ensures) (c .if1 .taken), p .ensures .low)
 
 returns : tie.Need-returns
 unfolding entryIn
 returns c =
-    let a = c .before .before .before .before .before .args in
-    let p = c .before .before .before .before .place in
+    let args = c .before .before .before .before .before .args in
+    let place = c .before .before .before .before .place in
+    let count-of = c .before .before .before .count-of in
+    let a = args in
+    let p = place in
     rw (c .replaced .ensures)
-    (storing-replaced (a .t) (p .result) (p .ensures) (c .before .before .before .count-of .ensures) (valueBytes (a .v)) (record { key = a .k; value = a .v }) refl (c .before .if1 .taken))
+    (storing-replaced (a .table) (p .result) (p .ensures) (count-of .ensures) (valueBytes (a .value)) (record { key = a .key; value = a .value }) refl (c .before .if1 .taken))
 
 inserted-requires : tie.Need-inserted-requires
 inserted-requires c κs =
-    let p = c .before .before .before .before .place in
-    omega (arith, place-within (c .before .before .before .before .before .args .t) (p .result) (p .ensures), c .before .before .before .count-of .ensures .is, c .if2 .taken)
+    let args = c .before .before .before .before .before .args in
+    let place = c .before .before .before .before .place in
+    let count-of = c .before .before .before .count-of in
+    let p = place in
+    omega (arith, place-within (args .table) (p .result) (p .ensures), count-of .ensures .is, c .if2 .taken)
 
 add-t13 : tie.Need-add-t13
 add-t13 c = search needs
@@ -37,16 +45,22 @@ add-t13 c = search needs
 returns-2 : tie.Need-returns-2
 unfolding entryIn
 returns-2 c =
-    let a = c .before .before .before .before .before .before .args in
-    let p = c .before .before .before .before .before .place in
-    storing-inserted (a .t) (p .result) (p .ensures) (c .before .before .before .before .count-of .ensures) (valueBytes (a .v)) (record { key = a .k; value = a .v }) (c .inserted .result) refl
+    let args = c .before .before .before .before .before .before .args in
+    let place = c .before .before .before .before .before .place in
+    let count-of = c .before .before .before .before .count-of in
+    let a = args in
+    let p = place in
+    storing-inserted (a .table) (p .result) (p .ensures) (count-of .ensures) (valueBytes (a .value)) (record { key = a .key; value = a .value }) (c .inserted .result) refl
     (c .before .before .if1 .left) (c .before .if2 .taken) (c .inserted .ensures)
 
 returns-3 : tie.Need-returns-3
 returns-3 c =
-    let a = c .before .before .before .before .before .args in
-    let p = c .before .before .before .before .place in
-    storing-full (a .t) (p .result) (p .ensures) (c .before .before .before .count-of .ensures) (valueBytes (a .v)) (c .before .if1 .left) (c .if2 .left)
+    let args = c .before .before .before .before .before .args in
+    let place = c .before .before .before .before .place in
+    let count-of = c .before .before .before .count-of in
+    let a = args in
+    let p = place in
+    storing-full (a .table) (p .result) (p .ensures) (count-of .ensures) (valueBytes (a .value)) (c .before .if1 .left) (c .if2 .left)
 
 pub put-spec : {M : Type 1} → statement M
 put-spec =

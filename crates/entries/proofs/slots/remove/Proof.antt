@@ -15,18 +15,26 @@ count-of-requires c κs = search needs
 
 removed-requires : tie.Need-removed-requires
 removed-requires c κs =
-    let p = c .before .before .before .place in
-    omega (arith, held-below (c .before .before .before .before .args .t) (p .result) (p .ensures) (c .before .before .if1 .taken), p .ensures .low)
+    let args = c .before .before .before .before .args in
+    let place = c .before .before .before .place in
+    let p = place in
+    omega (arith, held-below (args .table) (p .result) (p .ensures) (c .before .before .if1 .taken), p .ensures .low)
 
 sub-t8 : tie.Need-sub-t8
 sub-t8 c =
-    let p = c .before .before .before .before .place in
-    omega (arith, held-below (c .before .before .before .before .before .args .t) (p .result) (p .ensures) (c .before .before .before .if1 .taken), c .before .before .count-of .ensures .is)
+    let args = c .before .before .before .before .before .args in
+    let place = c .before .before .before .before .place in
+    let if1 = c .before .before .before .if1 in
+    let p = place in
+    omega (arith, held-below (args .table) (p .result) (p .ensures) (if1 .taken), c .before .before .count-of .ensures .is)
 
 returns : tie.Need-returns
 returns c =
-    let p = c .before .before .before .before .place in
-    table-removed (c .before .before .before .before .before .args .t) (p .result) (p .ensures) (c .before .before .count-of .ensures) (c .removed .result) (c .before .before .before .if1 .taken) (c .removed .ensures)
+    let args = c .before .before .before .before .before .args in
+    let place = c .before .before .before .before .place in
+    let if1 = c .before .before .before .if1 in
+    let p = place in
+    table-removed (args .table) (p .result) (p .ensures) (c .before .before .count-of .ensures) (c .removed .result) (if1 .taken) (c .removed .ensures)
 
 returns-2 : tie.Need-returns-2
 returns-2 c = sym (absent-remove _ _ (sym (c .before .place .ensures .held-is) ∙ c .if1 .left))

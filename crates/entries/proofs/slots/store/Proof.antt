@@ -17,7 +17,7 @@ remove-requires c κs = search needs
 
 returns-2 : tie.Need-returns-2
 unfolding itemIn
-returns-2 c = rw (itemIn, c .before .if1 .left) (storing-removed (c .before .before .args .t) (c .remove .result) (c .remove .ensures))
+returns-2 c = rw (itemIn, c .before .if1 .left) (storing-removed (c .before .before .args .table) (c .remove .result) (c .remove .ensures))
 
 pub store-spec : {M : Type 1} → statement M
 store-spec =

@@ -26,7 +26,11 @@ same-length : tie.Need-same-length
 same-length c = search needs
 
 returns : tie.Need-returns
-returns c = rw (c .change .ensures) (part-fed _ _ (c .before .before .before .before .before .before .before .before .before .before .before .before .before .before .before .before .before .before .before .before .before .before .before .before .before .before .before .args .reader .now) _ _ _ _ _ _ _ _ (c .before .before .before .before .before .before .feed-part .result) _ (c .before .before .before .before .before .before .before .before .before .before .before .before .before .before .before .before .before .before .before .before .sizes .ensures .0) (c .before .before .before .before .before .before .before .before .before .before .before .before .before .before .before .before .before .before .before .before .sizes .ensures .1) (c .before .before .before .before .before .before .feed-part .ensures) (c .before .before .put-reader .ensures))
+returns c =
+    let args = c .before .before .before .before .before .before .before .before .before .before .before .before .before .before .before .before .before .before .before .before .before .before .before .before .before .before .before .args in
+    let sizes = c .before .before .before .before .before .before .before .before .before .before .before .before .before .before .before .before .before .before .before .before .sizes in
+    let feed-part = c .before .before .before .before .before .before .feed-part in
+    rw (c .change .ensures) (part-fed _ _ (args .reader .now) _ _ _ _ _ _ _ _ (feed-part .result) _ (sizes .ensures .0) (sizes .ensures .1) (feed-part .ensures) (c .before .before .put-reader .ensures))
 
 pub feed-value-spec : {M : Type 1} → statement M
 feed-value-spec =

@@ -30,19 +30,29 @@ slice-relend-prefix-feed-part : tie.Need-slice-relend-prefix-feed-part
 slice-relend-prefix-feed-part c = search needs
 
 slice-aggregate-feed-part : tie.Need-slice-aggregate-feed-part
-slice-aggregate-feed-part c = sym (length-take-le lineRoom (c .before .before .before .before .before .before .before .before .before .before .before .before .before .before .before .before .before .before .before .before .before .args .out .now) (omega (arith, c .before .before .before .before .before .before .before .before .before .before .before .before .before .before .if1 .left)))
+slice-aggregate-feed-part c =
+    let args = c .before .before .before .before .before .before .before .before .before .before .before .before .before .before .before .before .before .before .before .before .before .args in
+    let if1 = c .before .before .before .before .before .before .before .before .before .before .before .before .before .before .if1 in
+    sym (length-take-le lineRoom (args .out .now) (omega (arith, if1 .left)))
 
 array-share-prefix-feed : tie.Need-array-share-prefix-feed
 array-share-prefix-feed c = search needs
 
 slice-aggregate-feed-part-2 : tie.Need-slice-aggregate-feed-part-2
-slice-aggregate-feed-part-2 c = sym (length-take-le _ _ (c .before .before .before .before .before .before .before .before .before .before .before .before .line-feeds .ensures .1))
+slice-aggregate-feed-part-2 c =
+    let line-feeds = c .before .before .before .before .before .before .before .before .before .before .before .before .line-feeds in
+    sym (length-take-le _ _ (line-feeds .ensures .1))
 
 feed-part-requires : tie.Need-feed-part-requires
 feed-part-requires c κs = search needs
 
 put-end-requires : tie.Need-put-end-requires
-put-end-requires c κs = tally-fits _ _ (c .before .before .before .before .before .before .before .before .before .before .before .before .before .before .before .before .before .before .before .before .before .before .before .before .before .before .before .args .out .now) _ _ _ _ (c .before .before .before .before .before .before .before .before .before .before .before .before .before .before .before .before .before .before .before .before .if1 .left) (c .before .before .before .before .feed-part .ensures) (c .before .before .before .out .given .0)
+put-end-requires c κs =
+    let args = c .before .before .before .before .before .before .before .before .before .before .before .before .before .before .before .before .before .before .before .before .before .before .before .before .before .before .before .args in
+    let if1 = c .before .before .before .before .before .before .before .before .before .before .before .before .before .before .before .before .before .before .before .before .if1 in
+    let feed-part = c .before .before .before .before .feed-part in
+    let out = c .before .before .before .out in
+    tally-fits _ _ (args .out .now) _ _ _ _ (if1 .left) (feed-part .ensures) (out .given .0)
 
 put-reader-requires : tie.Need-put-reader-requires
 put-reader-requires c κs = search needs
@@ -55,10 +65,17 @@ same-length c = search needs
 
 returns-2 : tie.Need-returns-2
 returns-2 c =
-    let a = c .before .before .before .before .before .before .before .before .before .before .before .before .before .before .before .before .before .before .before .before .before .before .before .before .before .before .before .before .before .before .before .before .before .args in
-    let sizes = c .before .before .before .before .before .before .before .before .before .before .before .before .before .before .before .before .before .before .before .before .before .before .before .before .before .before .before .sizes .ensures in
-    let fed = c .before .before .before .before .before .before .before .before .before .before .feed-part in
-    rw (c .change2 .ensures) (end-finished _ _ _ _ _ _ _ _ _ (a .reader .now) _ _ (a .out .now) _ _ _ _ _ _ _ _ _ _ _ _ _ (fed .result) _ _ (sizes .0) (sizes .1) (c .before .before .before .before .before .before .before .before .before .before .before .before .before .before .before .before .before .before .before .before .before .before .before .before .before .before .if1 .left) (fed .ensures) (c .before .before .before .before .before .before .before .before .before .before .before .before .before .before .before .before .before .before .before .before .before .before .before .line-feeds .ensures .0) (c .before .before .before .before .before .before .before .before .before .out .given .0) (c .before .before .before .before .before .put-end .ensures .0) (c .before .put-reader .ensures))
+    let args = c .before .before .before .before .before .before .before .before .before .before .before .before .before .before .before .before .before .before .before .before .before .before .before .before .before .before .before .before .before .before .before .before .before .args in
+    let sizes-call = c .before .before .before .before .before .before .before .before .before .before .before .before .before .before .before .before .before .before .before .before .before .before .before .before .before .before .before .sizes in
+    let if1 = c .before .before .before .before .before .before .before .before .before .before .before .before .before .before .before .before .before .before .before .before .before .before .before .before .before .before .if1 in
+    let line-feeds = c .before .before .before .before .before .before .before .before .before .before .before .before .before .before .before .before .before .before .before .before .before .before .before .line-feeds in
+    let feed-part = c .before .before .before .before .before .before .before .before .before .before .feed-part in
+    let out = c .before .before .before .before .before .before .before .before .before .out in
+    let put-end = c .before .before .before .before .before .put-end in
+    let a = args in
+    let sizes = sizes-call .ensures in
+    let fed = feed-part in
+    rw (c .change2 .ensures) (end-finished _ _ _ _ _ _ _ _ _ (a .reader .now) _ _ (a .out .now) _ _ _ _ _ _ _ _ _ _ _ _ _ (fed .result) _ _ (sizes .0) (sizes .1) (if1 .left) (fed .ensures) (line-feeds .ensures .0) (out .given .0) (put-end .ensures .0) (c .before .put-reader .ensures))
 
 pub finish-value-spec : {M : Type 1} → statement M
 finish-value-spec =

@@ -10,11 +10,11 @@ use Rattle.lines.proofs.feeding.feed_part.Statement.{statement}
 use Rattle.lines.proofs.feeding.feed_part.Tie as tie
 
 abbrev Inv-loop : tie.InvT-loop
-Inv-loop counts₀ heads₀ slots₀ copies₀ works₀ texts₀ queue₀ loads₀ answers₀ line₀ out₀ input lines count p₀ counts heads slots copies works texts queue loads answers line out p =
-    Going (session (memory counts₀ heads₀ slots₀ copies₀ works₀ texts₀ queue₀ loads₀) answers₀ (p₀ .tally) lines (held line₀ count)) input out₀ (session (memory counts heads slots copies works texts queue loads) answers (p .tally) (p .lines) (held line (p .held))) out p
+Inv-loop counts₀ heads₀ slots₀ copies₀ working₀ texts₀ queue₀ payloads₀ answers₀ line₀ out₀ input lines count p₀ counts heads slots copies working texts queue payloads answers line out p =
+    Going (session (memory counts₀ heads₀ slots₀ copies₀ working₀ texts₀ queue₀ payloads₀) answers₀ (p₀ .tally) lines (held line₀ count)) input out₀ (session (memory counts heads slots copies working texts queue payloads) answers (p .tally) (p .lines) (held line (p .held))) out p
 
 abbrev μ-loop : tie.MeasureT-loop
-μ-loop counts₀ heads₀ slots₀ copies₀ works₀ texts₀ queue₀ loads₀ answers₀ line₀ out₀ input lines count p₀ counts heads slots copies works texts queue loads answers line out p =
+μ-loop counts₀ heads₀ slots₀ copies₀ working₀ texts₀ queue₀ payloads₀ answers₀ line₀ out₀ input lines count p₀ counts heads slots copies working texts queue payloads answers line out p =
     stepsLeft (p .more) (length input) (p .taken)
 
 begun-requires : tie.Need-begun-requires Inv-loop μ-loop
@@ -24,13 +24,19 @@ loop-holds : tie.Need-loop-holds Inv-loop μ-loop
 loop-holds c = going-starts _ _ _ _ _ _ _ _ _ (c .begun .ensures)
 
 advance-requires : tie.Need-advance-requires Inv-loop μ-loop
-advance-requires c κs = (c .before .before .before .before .before .before .before .before .before .before .before .before .loop .inv .within, omega (arith, c .before .before .before .before .before .before .before .before .before .before .before .before .loop .inv .room, c .before .before .before .before .before .before .before .before .before .before .before .before .loop .inv .size))
+advance-requires c κs =
+    let loop = c .before .before .before .before .before .before .before .before .before .before .before .before .loop in
+    (loop .inv .within, omega (arith, loop .inv .room, loop .inv .size))
 
 loop-less : tie.Need-loop-less Inv-loop μ-loop
-loop-less c = steps-fall _ _ _ _ _ (c .before .before .before .before .before .before .before .before .before .before .before .before .before .before .loop-test .taken) (c .before .before .advance .ensures .goes) (c .before .before .advance .ensures .within)
+loop-less c =
+    let loop-test = c .before .before .before .before .before .before .before .before .before .before .before .before .before .before .loop-test in
+    steps-fall _ _ _ _ _ (loop-test .taken) (c .before .before .advance .ensures .goes) (c .before .before .advance .ensures .within)
 
 loop-again : tie.Need-loop-again Inv-loop μ-loop
-loop-again c = going-on _ _ _ _ _ _ _ _ _ (c .before .before .before .before .before .before .before .before .before .before .before .before .before .before .before .loop .inv) (c .before .before .advance .ensures)
+loop-again c =
+    let loop = c .before .before .before .before .before .before .before .before .before .before .before .before .before .before .before .loop in
+    going-on _ _ _ _ _ _ _ _ _ (loop .inv) (c .before .before .advance .ensures)
 
 same-length : tie.Need-same-length Inv-loop μ-loop
 same-length c = search needs

@@ -20,11 +20,13 @@ abbrev μ-loop : tie.MeasureT-loop
 loop-holds : tie.Need-loop-holds Inv-loop μ-loop
 loop-holds c = starts _ _ _ (c .before .pre)
 
-shared-slice-read-b : tie.Need-shared-slice-read-b Inv-loop μ-loop
-shared-slice-read-b c = search needs
+shared-slice-read-byte : tie.Need-shared-slice-read-byte Inv-loop μ-loop
+shared-slice-read-byte c = search needs
 
 returns : tie.Need-returns Inv-loop μ-loop
-returns c = record { keeps = c .before .before .before .loop .inv; stops = λ h. c .if1 .taken }
+returns c =
+    let loop = c .before .before .before .loop in
+    record { keeps = loop .inv; stops = λ h. c .if1 .taken }
 
 keep-byte-requires : tie.Need-keep-byte-requires Inv-loop μ-loop
 keep-byte-requires c κs = tt
@@ -37,9 +39,12 @@ loop-less c = search needs
 
 loop-again : tie.Need-loop-again Inv-loop μ-loop
 loop-again c =
-    let a = c .before .before .before .before .before .before .before .args in
-    let l = c .before .before .before .before .before .loop in
-    let k = goes (held (a .line .now) (a .count)) (a .input .now) (a .from) (held (l .line) (l .h)) (l .i) (l .inv) (c .before .before .before .before .loop-test .taken) (ne-eqb _ 10 (c .before .before .if1 .left)) in
+    let args = c .before .before .before .before .before .before .before .args in
+    let loop = c .before .before .before .before .before .loop in
+    let loop-test = c .before .before .before .before .loop-test in
+    let a = args in
+    let l = loop in
+    let k = goes (held (a .line .now) (a .count)) (a .input .now) (a .from) (held (l .line) (l .held)) (l .i) (l .inv) (loop-test .taken) (ne-eqb _ 10 (c .before .before .if1 .left)) in
     subst (λ (h : Held). KeptTo (held (a .line .now) (a .count)) (a .input .now) (a .from) h (l .i + 1)) (sym (c .keep-byte .ensures)) k
 
 returns-2 : tie.Need-returns-2 Inv-loop μ-loop
@@ -52,7 +57,7 @@ keep-spec =
     Inv-loop
     μ-loop
     loop-holds
-    shared-slice-read-b
+    shared-slice-read-byte
     returns
     keep-byte-requires
     add-i

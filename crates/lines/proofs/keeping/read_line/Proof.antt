@@ -11,7 +11,8 @@ at-most-requires c κs = search needs
 
 slice-aggregate-parse-line : tie.Need-slice-aggregate-parse-line
 slice-aggregate-parse-line c =
-    let a = c .before .before .before .args in
+    let args = c .before .before .before .args in
+    let a = args in
     sym (length-take-le _ _ (cut-within (a .line .now) (a .count) _ (c .before .at-most .ensures)))
 
 parse-line-requires : tie.Need-parse-line-requires

@@ -13,33 +13,43 @@ step-requires : tie.Need-step-requires
 step-requires c κs = search needs
 
 add-number : tie.Need-add-number
-add-number c = omega (arith, c .before .before .before .before .before .before .before .before .before .before .before .before .before .before .pre .0)
+add-number c =
+    let pre = c .before .before .before .before .before .before .before .before .before .before .before .before .before .before .pre in
+    omega (arith, pre .0)
 
 cast-number : tie.Need-cast-number
-cast-number c = omega (arith, c .before .before .before .before .before .before .before .before .before .before .before .before .before .before .pre .0)
+cast-number c =
+    let pre = c .before .before .before .before .before .before .before .before .before .before .before .before .before .before .pre in
+    omega (arith, pre .0)
 
 put-outcome-requires : tie.Need-put-outcome-requires
-put-outcome-requires c κs = (c .before .before .before .before .before .before .before .before .before .before .before .before .before .before .before .before .pre .1, few-answers (c .before .before .before .step .ensures))
+put-outcome-requires c κs =
+    let pre = c .before .before .before .before .before .before .before .before .before .before .before .before .before .before .before .before .pre in
+    let step = c .before .before .before .step in
+    (pre .1, few-answers (step .ensures))
 
 same-length : tie.Need-same-length
 same-length c = search needs
 
 returns : tie.Need-returns
 returns c =
-    let read = c .before .before .before .before .before .before .before .before .before .before .before .before .before .before .before .before .before .read-line in
-    let ran = c .before .before .before .before .before .before .before .step in
+    let read-line = c .before .before .before .before .before .before .before .before .before .before .before .before .before .before .before .before .before .read-line in
+    let step = c .before .before .before .before .before .before .before .step in
+    let put-outcome = c .before .before .before .put-outcome in
+    let read = read-line in
+    let ran = step in
     record {
       text = _;
       ends =
           record {
             told = ran .result;
-            runs = record { performs = rw (← read .ensures) (ran .ensures) };
+            performs = rw (← read .ensures) (ran .ensures);
             counted = refl;
             next = refl;
             clear = refl;
             printed = refl;
           };
-      told = c .before .before .before .put-outcome .ensures;
+      told = put-outcome .ensures;
     }
 
 pub end-line-spec : {M : Type 1} → statement M

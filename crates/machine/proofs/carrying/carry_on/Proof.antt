@@ -22,7 +22,10 @@ cast-t26 : tie.Need-cast-t26
 cast-t26 c = search needs
 
 returns : tie.Need-returns
-returns c = record { server = c .before .before .before .before .before .before .before .before .change-server .ensures; flown = c .before .before .before .before .change-flight .ensures; counted = rw (c .before .store-counts .ensures, c .before .before .next-counts .ensures); sends = c .send-count .ensures }
+returns c =
+    let change-server = c .before .before .before .before .before .before .before .before .change-server in
+    let change-flight = c .before .before .before .before .change-flight in
+    record { server = change-server .ensures; flown = change-flight .ensures; counted = rw (c .before .store-counts .ensures, c .before .before .next-counts .ensures); sends = c .send-count .ensures }
 
 pub carry-on-spec : {M : Type 1} → statement M
 carry-on-spec =

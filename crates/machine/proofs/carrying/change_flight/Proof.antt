@@ -14,23 +14,27 @@ cast-leave-2 c = search needs
 leave-requires : tie.Need-leave-requires
 leave-requires c κs = search needs
 
-cast-k : tie.Need-cast-k
-cast-k c = search needs
+cast-slot-of : tie.Need-cast-slot-of
+cast-slot-of c = search needs
 
-mul-k : tie.Need-mul-k
-mul-k c = search needs
+cast-slot-of-2 : tie.Need-cast-slot-of-2
+cast-slot-of-2 c = search needs
 
-cast-k-2 : tie.Need-cast-k-2
-cast-k-2 c = search needs
-
-add-k : tie.Need-add-k
-add-k c = search needs
+slot-of-requires : tie.Need-slot-of-requires
+slot-of-requires c κs = search needs
 
 send-requires : tie.Need-send-requires
-send-requires c κs = (omega arith, (c .before .before .before .before .before .before .before .before .before .pre .server, room-left (c .before .before .before .before .before .before .before .before .before .args .c) (c .before .before .before .before .before .before .before .before .before .args .x .removes) (c .before .before .before .before .before .before .before .before .before .args .x .message) (c .before .before .before .before .before .before .before .before .before .args .v .sends) _ _ _ _ _ (c .before .before .before .before .leave .ensures) (c .before .before .before .before .before .before .before .before .before .pre .room)))
+send-requires c κs =
+    let pre = c .before .before .before .before .before .before .before .before .before .before .pre in
+    let args = c .before .before .before .before .before .before .before .before .before .before .args in
+    let leave = c .before .before .before .before .before .leave in
+    (omega arith, (pre .server, room-left (args .cluster) (args .step .removes) (args .step .place) (args .next .sends) _ _ _ _ _ (leave .ensures) (pre .room)))
 
 returns : tie.Need-returns
-returns c = rw (← c .before .before .before .before .before .leave .ensures .is) (c .send .ensures)
+returns c =
+    let leave = c .before .before .before .before .before .before .leave in
+    let slot-of = c .before .before .before .slot-of in
+    rw (← slot-of .ensures, ← leave .ensures .is) (c .send .ensures)
 
 pub change-flight-spec : {M : Type 1} → statement M
 change-flight-spec =
@@ -39,9 +43,8 @@ change-flight-spec =
     cast-leave
     cast-leave-2
     leave-requires
-    cast-k
-    mul-k
-    cast-k-2
-    add-k
+    cast-slot-of
+    cast-slot-of-2
+    slot-of-requires
     send-requires
     returns)

@@ -5,10 +5,14 @@ use Rattle.machine.proofs.carrying.leave.Statement.{statement}
 use Rattle.machine.proofs.carrying.leave.Tie as tie
 
 remove-requires : tie.Need-remove-requires
-remove-requires c κs = (c .before .before .before .pre .1 (c .before .before .if1 .taken), c .before .before .before .pre .0)
+remove-requires c κs =
+    let pre = c .before .before .before .pre in
+    (pre .1 (c .before .before .if1 .taken), pre .0)
 
 returns : tie.Need-returns
-returns c = rw (c .before .before .before .if1 .taken) (c .remove .ensures)
+returns c =
+    let if1 = c .before .before .before .if1 in
+    rw (if1 .taken) (c .remove .ensures)
 
 returns-2 : tie.Need-returns-2
 unfolding withoutMessage

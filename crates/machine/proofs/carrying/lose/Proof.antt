@@ -23,7 +23,9 @@ cast-t15 : tie.Need-cast-t15
 cast-t15 c = search needs
 
 returns : tie.Need-returns
-returns c = record { rest = c .before .before .before .leave .ensures .is; counted = rw (c .store-counts .ensures, c .before .next-counts .ensures); report = refl }
+returns c =
+    let leave = c .before .before .before .leave in
+    record { rest = leave .ensures .is; counted = rw (c .store-counts .ensures, c .before .next-counts .ensures); report = refl }
 
 pub lose-spec : {M : Type 1} → statement M
 lose-spec =

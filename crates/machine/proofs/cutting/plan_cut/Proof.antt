@@ -17,14 +17,17 @@ message-refusal-requires c κs = search needs
 
 load-message-requires : tie.Need-load-message-requires
 load-message-requires c κs =
-    let p = c .before .before .before .pre in
+    let pre = c .before .before .before .pre in
+    let p = pre in
     omega (arith, in-list _ _ (sym (c .before .message-refusal .ensures) ∙ c .if1 .taken), p .messages)
 
 cut-step-requires : tie.Need-cut-step-requires
 cut-step-requires c κs = search needs
 
 receiver-requires : tie.Need-receiver-requires
-receiver-requires c κs = let a = c .before .before .before .before .before .args in cut-slot (a .c) (a .i) _ _ (c .cut-step .ensures)
+receiver-requires c κs =
+    let args = c .before .before .before .before .before .args in
+    let a = args in cut-slot (a .cluster) (a .place) _ _ (c .cut-step .ensures)
 
 cut-plan-requires : tie.Need-cut-plan-requires
 cut-plan-requires c κs = search needs
@@ -32,10 +35,15 @@ cut-plan-requires c κs = search needs
 returns : tie.Need-returns
 unfolding cutAt
 returns c =
-    let a = c .before .before .before .before .before .before .before .args in
+    let args = c .before .before .before .before .before .before .before .args in
+    let no-effect = c .before .before .before .before .before .before .no-effect in
+    let message-refusal = c .before .before .before .before .before .message-refusal in
+    let if1 = c .before .before .before .before .if1 in
+    let load-message = c .before .before .before .load-message in
+    let a = args in
     let m = memory [] (a .heads .now) (a .slots .now) [] [] [] (a .queue .now) [] in
-    told (cutAt m (a .c) (a .i) (a .k)) (c .before .before .before .before .before .before .no-effect .result) _ (cut-at-keeps m (a .c) (a .i) (a .k))
-    (rw (cutAt, unless-none _ _ _ (sym (c .before .before .before .before .before .message-refusal .ensures) ∙ c .before .before .before .before .if1 .taken), c .cut-plan .ensures, c .before .receiver .ensures, c .before .before .cut-step .ensures, c .before .before .before .load-message .ensures))
+    told (cutAt m (a .cluster) (a .place) (a .stores)) (no-effect .result) _ (cut-at-keeps m (a .cluster) (a .place) (a .stores))
+    (rw (cutAt, unless-none _ _ _ (sym (message-refusal .ensures) ∙ if1 .taken), c .cut-plan .ensures, c .before .receiver .ensures, c .before .before .cut-step .ensures, load-message .ensures))
 
 refused-plan-requires : tie.Need-refused-plan-requires
 refused-plan-requires c κs = search needs
@@ -43,9 +51,11 @@ refused-plan-requires c κs = search needs
 returns-2 : tie.Need-returns-2
 unfolding cutAt
 returns-2 c =
-    let a = c .before .before .before .before .args in
+    let args = c .before .before .before .before .args in
+    let no-effect = c .before .before .before .no-effect in
+    let a = args in
     let m = memory [] (a .heads .now) (a .slots .now) [] [] [] (a .queue .now) [] in
-    told (cutAt m (a .c) (a .i) (a .k)) (c .before .before .before .no-effect .result) _ (cut-at-keeps m (a .c) (a .i) (a .k))
+    told (cutAt m (a .cluster) (a .place) (a .stores)) (no-effect .result) _ (cut-at-keeps m (a .cluster) (a .place) (a .stores))
     (rw (c .refused-plan .ensures, c .before .before .message-refusal .ensures) (sym (unless-some _ _ _ (λ z. c .before .if1 .left (c .before .before .message-refusal .ensures ∙ z)))))
 
 pub plan-cut-spec : {M : Type 1} → statement M

@@ -17,7 +17,10 @@ tally-after-requires : tie.Need-tally-after-requires
 tally-after-requires c κs = search needs
 
 returns : tie.Need-returns
-returns c = steps _ _ _ _ _ _ _ (c .before .before .before .before .before .before .before .before .before .before .before .before .sizes .ensures .0) (c .before .before .before .before .before .before .before .before .before .before .before .before .sizes .ensures .1) (c .before .before .before .before .before .before .before .before .before .before .before .whole .ensures) (c .before .run-line .ensures) (c .tally-after .ensures)
+returns c =
+    let sizes = c .before .before .before .before .before .before .before .before .before .before .before .before .sizes in
+    let whole = c .before .before .before .before .before .before .before .before .before .before .before .whole in
+    steps _ _ _ _ _ _ _ (sizes .ensures .0) (sizes .ensures .1) (whole .ensures) (c .before .run-line .ensures) (c .tally-after .ensures)
 
 pub step-spec : {M : Type 1} → statement M
 step-spec =

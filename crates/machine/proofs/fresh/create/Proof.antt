@@ -19,7 +19,11 @@ store-counts-requires : tie.Need-store-counts-requires
 store-counts-requires c κs = search needs
 
 returns : tie.Need-returns
-returns c = record { counted = rw (c .store-counts .ensures, c .before .fresh-counts .ensures); heads = c .before .before .before .before .before .before .before .zero-words .ensures; slots = c .before .before .before .before .before .zero-words2 .ensures; copies = c .before .before .before .zero-bytes .ensures }
+returns c =
+    let zero-words = c .before .before .before .before .before .before .before .zero-words in
+    let zero-words2 = c .before .before .before .before .before .zero-words2 in
+    let zero-bytes = c .before .before .before .zero-bytes in
+    record { counted = rw (c .store-counts .ensures, c .before .fresh-counts .ensures); heads = zero-words .ensures; slots = zero-words2 .ensures; copies = zero-bytes .ensures }
 
 pub create-spec : {M : Type 1} → statement M
 create-spec =

@@ -17,28 +17,47 @@ message-refusal-requires : tie.Need-message-refusal-requires
 message-refusal-requires c κs = search needs
 
 hand-listed-requires : tie.Need-hand-listed-requires
-hand-listed-requires c κs = (standing-measured _ (sym (c .before .before .before .before .before .before .before .before .before .before .before .standing .ensures) ∙ c .before .before .before .before .before .before .before .before .before .before .if1 .taken), in-list _ _ (sym (c .before .before .before .before .before .before .before .before .before .message-refusal .ensures) ∙ c .before .before .before .before .before .before .before .before .if2 .taken))
+hand-listed-requires c κs =
+    let standing = c .before .before .before .before .before .before .before .before .before .before .before .standing in
+    let if1 = c .before .before .before .before .before .before .before .before .before .before .if1 in
+    let message-refusal = c .before .before .before .before .before .before .before .before .before .message-refusal in
+    let if2 = c .before .before .before .before .before .before .before .before .if2 in
+    (standing-measured _ (sym (standing .ensures) ∙ if1 .taken), in-list _ _ (sym (message-refusal .ensures) ∙ if2 .taken))
 
 returns : tie.Need-returns
-returns c = hands-listed _ _ _ (c .before .before .before .before .before .before .before .before .before .before .before .before .before .load-counts .ensures) _ _ (sym (c .before .before .before .before .before .before .before .before .before .before .before .before .standing .ensures) ∙ c .before .before .before .before .before .before .before .before .before .before .before .if1 .taken) (sym (c .before .before .before .before .before .before .before .before .before .before .message-refusal .ensures) ∙ c .before .before .before .before .before .before .before .before .before .if2 .taken) (c .hand-listed .ensures)
+returns c =
+    let load-counts = c .before .before .before .before .before .before .before .before .before .before .before .before .before .load-counts in
+    let standing = c .before .before .before .before .before .before .before .before .before .before .before .before .standing in
+    let if1 = c .before .before .before .before .before .before .before .before .before .before .before .if1 in
+    let message-refusal = c .before .before .before .before .before .before .before .before .before .before .message-refusal in
+    let if2 = c .before .before .before .before .before .before .before .before .before .if2 in
+    hands-listed _ _ _ (load-counts .ensures) _ _ (sym (standing .ensures) ∙ if1 .taken) (sym (message-refusal .ensures) ∙ if2 .taken) (c .hand-listed .ensures)
 
 no-effect-requires : tie.Need-no-effect-requires
 no-effect-requires c κs = search needs
 
-refused-requires : tie.Need-refused-requires
-refused-requires c κs = search needs
+bare-report-requires : tie.Need-bare-report-requires
+bare-report-requires c κs = search needs
 
 returns-2 : tie.Need-returns-2
-returns-2 c = hands-refused _ _ _ (c .before .before .before .before .before .before .load-counts .ensures) _ _ _ _ (sym (c .before .before .before .before .before .standing .ensures) ∙ c .before .before .before .before .if1 .taken) (c .before .before .before .message-refusal .ensures) (c .before .before .if2 .left) (c .refused .ensures)
+returns-2 c =
+    let load-counts = c .before .before .before .before .before .before .load-counts in
+    let standing = c .before .before .before .before .before .standing in
+    let if1 = c .before .before .before .before .if1 in
+    let message-refusal = c .before .before .before .message-refusal in
+    hands-refused _ _ _ (load-counts .ensures) _ _ _ _ (sym (standing .ensures) ∙ if1 .taken) (message-refusal .ensures) (c .before .before .if2 .left) (c .bare-report .ensures)
 
 no-effect-requires-2 : tie.Need-no-effect-requires-2
 no-effect-requires-2 c κs = search needs
 
-refused-requires-2 : tie.Need-refused-requires-2
-refused-requires-2 c κs = search needs
+bare-report-requires-2 : tie.Need-bare-report-requires-2
+bare-report-requires-2 c κs = search needs
 
 returns-3 : tie.Need-returns-3
-returns-3 c = hands-nowhere _ _ _ (c .before .before .before .before .load-counts .ensures) _ _ _ (sym (c .before .before .before .standing .ensures) ∙ c .before .before .if1 .left) (c .refused2 .ensures)
+returns-3 c =
+    let load-counts = c .before .before .before .before .load-counts in
+    let standing = c .before .before .before .standing in
+    hands-nowhere _ _ _ (load-counts .ensures) _ _ _ (sym (standing .ensures) ∙ c .before .before .if1 .left) (c .bare-report2 .ensures)
 
 pub hand-line-spec : {M : Type 1} → statement M
 hand-line-spec =
@@ -50,8 +69,8 @@ hand-line-spec =
     hand-listed-requires
     returns
     no-effect-requires
-    refused-requires
+    bare-report-requires
     returns-2
     no-effect-requires-2
-    refused-requires-2
+    bare-report-requires-2
     returns-3)

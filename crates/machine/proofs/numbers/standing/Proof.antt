@@ -12,11 +12,16 @@ within-requires-2 c κs = search needs
 
 returns : tie.Need-returns
 unfolding standing
-returns c = rw (standing, ← c .before .before .before .before .within .ensures, c .before .before .before .if1 .taken, ← c .before .before .within2 .ensures, c .before .if2 .taken)
+returns c =
+    let within = c .before .before .before .before .within in
+    let if1 = c .before .before .before .if1 in
+    rw (standing, ← within .ensures, if1 .taken, ← c .before .before .within2 .ensures, c .before .if2 .taken)
 
 returns-2 : tie.Need-returns-2
 unfolding standing
-returns-2 c = rw (standing, ← c .before .before .before .within .ensures, c .before .before .if1 .taken, ← c .before .within2 .ensures, c .if2 .left)
+returns-2 c =
+    let within = c .before .before .before .within in
+    rw (standing, ← within .ensures, c .before .before .if1 .taken, ← c .before .within2 .ensures, c .if2 .left)
 
 returns-3 : tie.Need-returns-3
 unfolding standing

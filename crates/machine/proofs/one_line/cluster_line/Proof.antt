@@ -25,13 +25,29 @@ create-requires : tie.Need-create-requires
 create-requires c κs = search needs
 
 returns-2 : tie.Need-returns-2
-returns-2 c = made (sym (c .before .before .before .before .before .before .before .before .before .before .standing .ensures ∙ ap standing (c .before .before .before .before .before .before .before .before .before .before .before .load-counts .ensures)) ∙ c .before .before .before .before .before .before .before .before .before .if1 .left) (sym (c .before .before .before .before .before .before .before .before .within .ensures) ∙ c .before .before .before .before .before .before .before .if2 .taken) (sym (c .before .before .before .before .before .before .within2 .ensures) ∙ c .before .before .before .before .before .if3 .taken) (c .create .ensures)
+returns-2 c =
+    let load-counts = c .before .before .before .before .before .before .before .before .before .before .before .load-counts in
+    let standing-call = c .before .before .before .before .before .before .before .before .before .before .standing in
+    let if1 = c .before .before .before .before .before .before .before .before .before .if1 in
+    let within = c .before .before .before .before .before .before .before .before .within in
+    let if2 = c .before .before .before .before .before .before .before .if2 in
+    let within2 = c .before .before .before .before .before .before .within2 in
+    let if3 = c .before .before .before .before .before .if3 in
+    made (sym (standing-call .ensures ∙ ap standing (load-counts .ensures)) ∙ if1 .left) (sym (within .ensures) ∙ if2 .taken) (sym (within2 .ensures) ∙ if3 .taken) (c .create .ensures)
 
 returns-3 : tie.Need-returns-3
-returns-3 c = out-of-range (sym (c .before .before .before .before .before .standing .ensures ∙ ap standing (c .before .before .before .before .before .before .load-counts .ensures)) ∙ c .before .before .before .before .if1 .left) (sym (c .before .before .before .within .ensures) ∙ c .before .before .if2 .taken) (sym (c .before .within2 .ensures) ∙ c .if3 .left)
+returns-3 c =
+    let load-counts = c .before .before .before .before .before .before .load-counts in
+    let standing-call = c .before .before .before .before .before .standing in
+    let if1 = c .before .before .before .before .if1 in
+    let within = c .before .before .before .within in
+    out-of-range (sym (standing-call .ensures ∙ ap standing (load-counts .ensures)) ∙ if1 .left) (sym (within .ensures) ∙ c .before .before .if2 .taken) (sym (c .before .within2 .ensures) ∙ c .if3 .left)
 
 returns-4 : tie.Need-returns-4
-returns-4 c = too-many-servers (sym (c .before .before .before .standing .ensures ∙ ap standing (c .before .before .before .before .load-counts .ensures)) ∙ c .before .before .if1 .left) (sym (c .before .within .ensures) ∙ c .if2 .left)
+returns-4 c =
+    let load-counts = c .before .before .before .before .load-counts in
+    let standing-call = c .before .before .before .standing in
+    too-many-servers (sym (standing-call .ensures ∙ ap standing (load-counts .ensures)) ∙ c .before .before .if1 .left) (sym (c .before .within .ensures) ∙ c .if2 .left)
 
 pub cluster-line-spec : {M : Type 1} → statement M
 cluster-line-spec =

@@ -110,49 +110,63 @@ plan-start-requires : tie.Need-plan-start-requires
 plan-start-requires c κs = search needs
 
 returns : tie.Need-returns
-returns c = malformed-planned _ _ _ _ _ _ _ _ _ (c .before .before .enum-told .given .1) (c .refused-plan .ensures)
+returns c = malformed-planned _ _ _ _ _ _ _ _ (c .before .before .enum-told .given .1) (c .refused-plan .ensures)
 
 returns-2 : tie.Need-returns-2
-returns-2 c = cluster-planned _ _ _ _ _ _ _ _ _ (c .before .before .enum-told2 .given .1) (c .refused-plan2 .ensures)
+returns-2 c = cluster-planned _ _ _ _ _ _ _ _ (c .before .before .enum-told2 .given .1) (c .refused-plan2 .ensures)
 
 returns-3 : tie.Need-returns-3
-returns-3 c = elect-planned _ _ _ _ _ _ _ _ (c .before .enum-told3 .given .1) (c .plan-elect .ensures)
+returns-3 c = elect-planned _ _ _ _ _ _ _ (c .before .enum-told3 .given .1) (c .plan-elect .ensures)
 
 returns-4 : tie.Need-returns-4
-returns-4 c = get-planned _ _ _ _ _ _ _ _ _ (c .before .enum-told4 .given .1) (c .before .before .before .words-of .ensures) (c .plan-call .ensures)
+returns-4 c =
+    let words-of = c .before .before .before .words-of in
+    get-planned _ _ _ _ _ _ _ _ (c .before .enum-told4 .given .1) (words-of .ensures) (c .plan-call .ensures)
 
 returns-5 : tie.Need-returns-5
-returns-5 c = set-planned _ _ _ _ _ _ _ _ _ (c .before .enum-told5 .given .1) (c .before .before .before .words-of .ensures) (c .plan-call2 .ensures)
+returns-5 c =
+    let words-of = c .before .before .before .words-of in
+    set-planned _ _ _ _ _ _ _ _ (c .before .enum-told5 .given .1) (words-of .ensures) (c .plan-call2 .ensures)
 
 returns-6 : tie.Need-returns-6
-returns-6 c = setif-planned _ _ _ _ _ _ _ _ _ (c .before .enum-told6 .given .1) (c .before .before .before .words-of .ensures) (c .plan-call3 .ensures)
+returns-6 c =
+    let words-of = c .before .before .before .words-of in
+    setif-planned _ _ _ _ _ _ _ _ (c .before .enum-told6 .given .1) (words-of .ensures) (c .plan-call3 .ensures)
 
 returns-7 : tie.Need-returns-7
-returns-7 c = del-planned _ _ _ _ _ _ _ _ _ (c .before .enum-told7 .given .1) (c .before .before .before .words-of .ensures) (c .plan-call4 .ensures)
+returns-7 c =
+    let words-of = c .before .before .before .words-of in
+    del-planned _ _ _ _ _ _ _ _ (c .before .enum-told7 .given .1) (words-of .ensures) (c .plan-call4 .ensures)
 
 returns-8 : tie.Need-returns-8
-returns-8 c = keys-planned _ _ _ _ _ _ _ _ _ (c .before .enum-told8 .given .1) (c .before .before .before .words-of .ensures) (c .plan-call5 .ensures)
+returns-8 c =
+    let words-of = c .before .before .before .words-of in
+    keys-planned _ _ _ _ _ _ _ _ (c .before .enum-told8 .given .1) (words-of .ensures) (c .plan-call5 .ensures)
 
 returns-9 : tie.Need-returns-9
-returns-9 c = deliver-unplanned _ _ _ _ _ _ _ _ (c .before .before .enum-told9 .given .1) (c .before .before .before .before .before .pre .1)
+returns-9 c =
+    let pre = c .before .before .before .before .before .pre in
+    deliver-unplanned _ _ _ _ _ _ _ (c .before .before .enum-told9 .given .1) (pre .1)
 
 returns-10 : tie.Need-returns-10
-returns-10 c = copy-unplanned _ _ _ _ _ _ _ _ (c .before .before .enum-told10 .given .1) (c .before .before .before .before .before .pre .1)
+returns-10 c =
+    let pre = c .before .before .before .before .before .pre in
+    copy-unplanned _ _ _ _ _ _ _ (c .before .before .enum-told10 .given .1) (pre .1)
 
 returns-11 : tie.Need-returns-11
-returns-11 c = lose-planned _ _ _ _ _ _ _ _ (c .before .enum-told11 .given .1) (c .plan-lose .ensures)
+returns-11 c = lose-planned _ _ _ _ _ _ _ (c .before .enum-told11 .given .1) (c .plan-lose .ensures)
 
 returns-12 : tie.Need-returns-12
-returns-12 c = timeout-planned _ _ _ _ _ _ _ _ (c .before .enum-told12 .given .1) (c .plan-timeout .ensures)
+returns-12 c = timeout-planned _ _ _ _ _ _ _ (c .before .enum-told12 .given .1) (c .plan-timeout .ensures)
 
 returns-13 : tie.Need-returns-13
-returns-13 c = stop-planned _ _ _ _ _ _ _ _ (c .before .enum-told13 .given .1) (c .plan-stop .ensures)
+returns-13 c = stop-planned _ _ _ _ _ _ _ (c .before .enum-told13 .given .1) (c .plan-stop .ensures)
 
 returns-14 : tie.Need-returns-14
-returns-14 c = cut-planned _ _ _ _ _ _ _ _ (c .before .enum-told14 .given .1) (c .plan-cut .ensures)
+returns-14 c = cut-planned _ _ _ _ _ _ _ (c .before .enum-told14 .given .1) (c .plan-cut .ensures)
 
 returns-15 : tie.Need-returns-15
-returns-15 c = start-planned _ _ _ _ _ _ _ _ (c .before .enum-told15 .given .1) (c .plan-start .ensures)
+returns-15 c = start-planned _ _ _ _ _ _ _ (c .before .enum-told15 .given .1) (c .plan-start .ensures)
 
 pub plan-line-spec : {M : Type 1} → statement M
 plan-line-spec =

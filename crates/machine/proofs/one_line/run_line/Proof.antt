@@ -1,21 +1,23 @@
--- `one_line::run_line` meets its contract: by the sort of the line.
+-- `one_line::run_line` meets its contract: by the route of the line.
 use mathlib.Core.Path.{refl, sym, _∙_}
 use Rattle.machine.proofs.Planning.{malformed-run, cluster-run, other-run, hand-run}
 use borrow.Author.Needs.{needs}
 use Rattle.machine.proofs.one_line.run_line.Statement.{statement}
 use Rattle.machine.proofs.one_line.run_line.Tie as tie
 
-sort-requires : tie.Need-sort-requires
-sort-requires c κs = search needs
+route-of-requires : tie.Need-route-of-requires
+route-of-requires c κs = search needs
 
 no-effect-requires : tie.Need-no-effect-requires
 no-effect-requires c κs = search needs
 
-refused-requires : tie.Need-refused-requires
-refused-requires c κs = search needs
+bare-report-requires : tie.Need-bare-report-requires
+bare-report-requires c κs = search needs
 
 returns : tie.Need-returns
-returns c = malformed-run _ _ _ _ _ _ refl (sym (c .before .before .before .sort .ensures) ∙ c .before .before .if1 .taken) (c .refused .ensures)
+returns c =
+    let route-of = c .before .before .before .route-of in
+    malformed-run _ _ _ _ _ _ refl (sym (route-of .ensures) ∙ c .before .before .if1 .taken) (c .bare-report .ensures)
 
 cluster-line-requires : tie.Need-cluster-line-requires
 cluster-line-requires c κs = search needs
@@ -23,35 +25,50 @@ cluster-line-requires c κs = search needs
 no-effect-requires-2 : tie.Need-no-effect-requires-2
 no-effect-requires-2 c κs = search needs
 
-refused-requires-2 : tie.Need-refused-requires-2
-refused-requires-2 c κs = search needs
+bare-report-requires-2 : tie.Need-bare-report-requires-2
+bare-report-requires-2 c κs = search needs
 
 returns-2 : tie.Need-returns-2
-returns-2 c = cluster-run _ _ _ _ _ _ _ _ _ _ _ refl (sym (c .before .before .before .before .before .before .before .before .before .sort .ensures) ∙ c .before .before .before .before .before .before .before .if2 .taken) (c .before .before .cluster-line .ensures) (c .refused2 .ensures)
+returns-2 c =
+    let route-of = c .before .before .before .before .before .before .before .before .before .route-of in
+    let if2 = c .before .before .before .before .before .before .before .if2 in
+    cluster-run _ _ _ _ _ _ _ _ _ _ _ refl (sym (route-of .ensures) ∙ if2 .taken) (c .before .before .cluster-line .ensures) (c .bare-report2 .ensures)
 
 planned-line-requires : tie.Need-planned-line-requires
-planned-line-requires c κs = sym (c .before .before .before .before .before .before .before .before .before .before .before .before .sort .ensures) ∙ c .before .before .before .before .before .before .before .before .before .if3 .taken
+planned-line-requires c κs =
+    let route-of = c .before .before .before .before .before .before .before .before .before .before .before .before .route-of in
+    let if3 = c .before .before .before .before .before .before .before .before .before .if3 in
+    sym (route-of .ensures) ∙ if3 .taken
 
 returns-3 : tie.Need-returns-3
-returns-3 c = other-run _ _ _ _ _ _ _ refl (λ z. c .before .before .before .before .before .before .before .before .before .before .before .before .if1 .left (c .before .before .before .before .before .before .before .before .before .before .before .before .before .sort .ensures ∙ z)) (λ z. c .before .before .before .before .before .before .before .before .before .before .before .if2 .left (c .before .before .before .before .before .before .before .before .before .before .before .before .before .sort .ensures ∙ z)) (c .planned-line .ensures)
+returns-3 c =
+    let route-of = c .before .before .before .before .before .before .before .before .before .before .before .before .before .route-of in
+    let if1 = c .before .before .before .before .before .before .before .before .before .before .before .before .if1 in
+    let if2 = c .before .before .before .before .before .before .before .before .before .before .before .if2 in
+    other-run _ _ _ _ _ _ _ refl (λ z. if1 .left (route-of .ensures ∙ z)) (λ z. if2 .left (route-of .ensures ∙ z)) (c .planned-line .ensures)
 
 hand-line-requires : tie.Need-hand-line-requires
 hand-line-requires c κs = search needs
 
 returns-4 : tie.Need-returns-4
-returns-4 c = hand-run _ _ _ _ _ _ _ (c .before .before .before .before .before .before .before .before .before .before .before .before .before .sort .ensures) (c .before .before .before .before .before .before .before .before .before .before .before .before .if1 .left) (c .before .before .before .before .before .before .before .before .before .before .before .if2 .left) (c .before .before .before .before .before .before .before .before .before .before .if3 .left) (c .hand-line .ensures)
+returns-4 c =
+    let route-of = c .before .before .before .before .before .before .before .before .before .before .before .before .before .route-of in
+    let if1 = c .before .before .before .before .before .before .before .before .before .before .before .before .if1 in
+    let if2 = c .before .before .before .before .before .before .before .before .before .before .before .if2 in
+    let if3 = c .before .before .before .before .before .before .before .before .before .before .if3 in
+    hand-run _ _ _ _ _ _ _ (route-of .ensures) (if1 .left) (if2 .left) (if3 .left) (c .hand-line .ensures)
 
 pub run-line-spec : {M : Type 1} → statement M
 run-line-spec =
     tie.close
     (tie.spec
-    sort-requires
+    route-of-requires
     no-effect-requires
-    refused-requires
+    bare-report-requires
     returns
     cluster-line-requires
     no-effect-requires-2
-    refused-requires-2
+    bare-report-requires-2
     returns-2
     planned-line-requires
     returns-3

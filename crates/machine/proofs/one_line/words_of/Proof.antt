@@ -103,63 +103,97 @@ no-words-requires-10 c κs = search needs
 
 returns : tie.Need-returns
 unfolding wordsOf
-returns c = c .no-words .ensures ∙ sym (ap (λ k. wordsOf k (c .before .before .before .before .before .before .before .args .line)) (c .before .enum-told .given .1))
+returns c =
+    let args = c .before .before .before .before .before .before .before .args in
+    c .no-words .ensures ∙ sym (ap (λ k. wordsOf k (args .line)) (c .before .enum-told .given .1))
 
 returns-2 : tie.Need-returns-2
 unfolding wordsOf
-returns-2 c = c .no-words2 .ensures ∙ sym (ap (λ k. wordsOf k (c .before .before .before .before .before .before .before .args .line)) (c .before .enum-told2 .given .1))
+returns-2 c =
+    let args = c .before .before .before .before .before .before .before .args in
+    c .no-words2 .ensures ∙ sym (ap (λ k. wordsOf k (args .line)) (c .before .enum-told2 .given .1))
 
 returns-3 : tie.Need-returns-3
 unfolding wordsOf
-returns-3 c = c .no-words3 .ensures ∙ sym (ap (λ k. wordsOf k (c .before .before .before .before .before .before .before .args .line)) (c .before .enum-told3 .given .1))
+returns-3 c =
+    let args = c .before .before .before .before .before .before .before .args in
+    c .no-words3 .ensures ∙ sym (ap (λ k. wordsOf k (args .line)) (c .before .enum-told3 .given .1))
 
 returns-4 : tie.Need-returns-4
 unfolding wordsOf
-returns-4 c = rw (c .words .ensures, c .before .before .before .absent .ensures) (sym (ap (λ k. wordsOf k (c .before .before .before .before .before .before .before .args .line)) (c .before .enum-told4 .given .1)))
+returns-4 c =
+    let args = c .before .before .before .before .before .before .before .args in
+    let absent = c .before .before .before .absent in
+    rw (c .words .ensures, absent .ensures) (sym (ap (λ k. wordsOf k (args .line)) (c .before .enum-told4 .given .1)))
 
 returns-5 : tie.Need-returns-5
 unfolding wordsOf
-returns-5 c = rw (c .words2 .ensures, c .before .before .before .absent .ensures) (sym (ap (λ k. wordsOf k (c .before .before .before .before .before .before .before .args .line)) (c .before .enum-told5 .given .1)))
+returns-5 c =
+    let args = c .before .before .before .before .before .before .before .args in
+    let absent = c .before .before .before .absent in
+    rw (c .words2 .ensures, absent .ensures) (sym (ap (λ k. wordsOf k (args .line)) (c .before .enum-told5 .given .1)))
 
 returns-6 : tie.Need-returns-6
 unfolding wordsOf
-returns-6 c = rw (c .words3 .ensures) (sym (ap (λ k. wordsOf k (c .before .before .before .before .before .before .before .args .line)) (c .before .enum-told6 .given .1)))
+returns-6 c =
+    let args = c .before .before .before .before .before .before .before .args in
+    rw (c .words3 .ensures) (sym (ap (λ k. wordsOf k (args .line)) (c .before .enum-told6 .given .1)))
 
 returns-7 : tie.Need-returns-7
 unfolding wordsOf
-returns-7 c = rw (c .words4 .ensures, c .before .before .before .absent .ensures) (sym (ap (λ k. wordsOf k (c .before .before .before .before .before .before .before .args .line)) (c .before .enum-told7 .given .1)))
+returns-7 c =
+    let args = c .before .before .before .before .before .before .before .args in
+    let absent = c .before .before .before .absent in
+    rw (c .words4 .ensures, absent .ensures) (sym (ap (λ k. wordsOf k (args .line)) (c .before .enum-told7 .given .1)))
 
 returns-8 : tie.Need-returns-8
 unfolding wordsOf
-returns-8 c = rw (c .words5 .ensures, c .before .no-key .ensures, c .before .before .before .before .absent .ensures) (sym (ap (λ k. wordsOf k (c .before .before .before .before .before .before .before .before .args .line)) (c .before .before .enum-told8 .given .1)))
+returns-8 c =
+    let args = c .before .before .before .before .before .before .before .before .args in
+    let absent = c .before .before .before .before .absent in
+    rw (c .words5 .ensures, c .before .no-key .ensures, absent .ensures) (sym (ap (λ k. wordsOf k (args .line)) (c .before .before .enum-told8 .given .1)))
 
 returns-9 : tie.Need-returns-9
 unfolding wordsOf
-returns-9 c = c .no-words4 .ensures ∙ sym (ap (λ k. wordsOf k (c .before .before .before .before .before .before .before .args .line)) (c .before .enum-told9 .given .1))
+returns-9 c =
+    let args = c .before .before .before .before .before .before .before .args in
+    c .no-words4 .ensures ∙ sym (ap (λ k. wordsOf k (args .line)) (c .before .enum-told9 .given .1))
 
 returns-10 : tie.Need-returns-10
 unfolding wordsOf
-returns-10 c = c .no-words5 .ensures ∙ sym (ap (λ k. wordsOf k (c .before .before .before .before .before .before .before .args .line)) (c .before .enum-told10 .given .1))
+returns-10 c =
+    let args = c .before .before .before .before .before .before .before .args in
+    c .no-words5 .ensures ∙ sym (ap (λ k. wordsOf k (args .line)) (c .before .enum-told10 .given .1))
 
 returns-11 : tie.Need-returns-11
 unfolding wordsOf
-returns-11 c = c .no-words6 .ensures ∙ sym (ap (λ k. wordsOf k (c .before .before .before .before .before .before .before .args .line)) (c .before .enum-told11 .given .1))
+returns-11 c =
+    let args = c .before .before .before .before .before .before .before .args in
+    c .no-words6 .ensures ∙ sym (ap (λ k. wordsOf k (args .line)) (c .before .enum-told11 .given .1))
 
 returns-12 : tie.Need-returns-12
 unfolding wordsOf
-returns-12 c = c .no-words7 .ensures ∙ sym (ap (λ k. wordsOf k (c .before .before .before .before .before .before .before .args .line)) (c .before .enum-told12 .given .1))
+returns-12 c =
+    let args = c .before .before .before .before .before .before .before .args in
+    c .no-words7 .ensures ∙ sym (ap (λ k. wordsOf k (args .line)) (c .before .enum-told12 .given .1))
 
 returns-13 : tie.Need-returns-13
 unfolding wordsOf
-returns-13 c = c .no-words8 .ensures ∙ sym (ap (λ k. wordsOf k (c .before .before .before .before .before .before .before .args .line)) (c .before .enum-told13 .given .1))
+returns-13 c =
+    let args = c .before .before .before .before .before .before .before .args in
+    c .no-words8 .ensures ∙ sym (ap (λ k. wordsOf k (args .line)) (c .before .enum-told13 .given .1))
 
 returns-14 : tie.Need-returns-14
 unfolding wordsOf
-returns-14 c = c .no-words9 .ensures ∙ sym (ap (λ k. wordsOf k (c .before .before .before .before .before .before .before .args .line)) (c .before .enum-told14 .given .1))
+returns-14 c =
+    let args = c .before .before .before .before .before .before .before .args in
+    c .no-words9 .ensures ∙ sym (ap (λ k. wordsOf k (args .line)) (c .before .enum-told14 .given .1))
 
 returns-15 : tie.Need-returns-15
 unfolding wordsOf
-returns-15 c = c .no-words10 .ensures ∙ sym (ap (λ k. wordsOf k (c .before .before .before .before .before .before .before .args .line)) (c .before .enum-told15 .given .1))
+returns-15 c =
+    let args = c .before .before .before .before .before .before .before .args in
+    c .no-words10 .ensures ∙ sym (ap (λ k. wordsOf k (args .line)) (c .before .enum-told15 .given .1))
 
 pub words-of-spec : {M : Type 1} → statement M
 words-of-spec =

@@ -34,19 +34,27 @@ quiet-requires c κs = search needs
 
 returns : tie.Need-returns
 unfolding handledMove handlingMove
-returns c = rw (handledMove, sym (c .before .before .before .before .kind-of-message .ensures .0) ∙ c .before .before .kind .given .1) (c .voting-move .ensures)
+returns c =
+    let kind-of-message = c .before .before .before .before .kind-of-message in
+    rw (handledMove, sym (kind-of-message .ensures .0) ∙ c .before .before .kind .given .1) (c .voting-move .ensures)
 
 returns-2 : tie.Need-returns-2
 unfolding handledMove handlingMove
-returns-2 c = rw (handledMove, sym (c .before .before .before .before .kind-of-message .ensures .0) ∙ c .before .before .writes .given .1) (c .request-move .ensures)
+returns-2 c =
+    let kind-of-message = c .before .before .before .before .kind-of-message in
+    rw (handledMove, sym (kind-of-message .ensures .0) ∙ c .before .before .writes .given .1) (c .request-move .ensures)
 
 returns-3 : tie.Need-returns-3
 unfolding handledMove handlingMove
-returns-3 c = rw (handledMove, sym (c .before .before .before .before .kind-of-message .ensures .0) ∙ c .before .before .mark .given .1) (c .reported-move .ensures)
+returns-3 c =
+    let kind-of-message = c .before .before .before .before .kind-of-message in
+    rw (handledMove, sym (kind-of-message .ensures .0) ∙ c .before .before .mark .given .1) (c .reported-move .ensures)
 
 returns-4 : tie.Need-returns-4
 unfolding handledMove handlingMove
-returns-4 c = rw (handledMove, sym (c .before .before .before .kind-of-message .ensures .0) ∙ c .before .enum-told .given .1) (c .quiet .ensures)
+returns-4 c =
+    let kind-of-message = c .before .before .before .kind-of-message in
+    rw (handledMove, sym (kind-of-message .ensures .0) ∙ c .before .enum-told .given .1) (c .quiet .ensures)
 
 pub handled-move-spec : {M : Type 1} → statement M
 handled-move-spec =

@@ -33,7 +33,9 @@ returns-2 c = rw (readsTable, sym (c .before .before .kind-of-message .ensures .
 
 returns-3 : tie.Need-returns-3
 unfolding readsTable readsBy
-returns-3 c = rw (readsTable, sym (c .before .before .before .before .kind-of-message .ensures .0) ∙ c .before .before .mark .given .1) (c .closes-check .ensures)
+returns-3 c =
+    let kind-of-message = c .before .before .before .before .kind-of-message in
+    rw (readsTable, sym (kind-of-message .ensures .0) ∙ c .before .before .mark .given .1) (c .closes-check .ensures)
 
 returns-4 : tie.Need-returns-4
 unfolding readsTable readsBy

@@ -17,7 +17,9 @@ reading-move-requires c κs = search needs
 
 returns-2 : tie.Need-returns-2
 unfolding closedMove
-returns-2 c = rw (closedMove, ne-eqb _ _ (c .before .before .before .if1 .left), eq-eqb _ _ (c .before .if2 .taken)) (c .reading-move .ensures)
+returns-2 c =
+    let if1 = c .before .before .before .if1 in
+    rw (closedMove, ne-eqb _ _ (if1 .left), eq-eqb _ _ (c .before .if2 .taken)) (c .reading-move .ensures)
 
 after-read-move-requires : tie.Need-after-read-move-requires
 after-read-move-requires c κs = search needs

@@ -14,14 +14,18 @@ own-write-move-requires c κs = search needs
 
 returns : tie.Need-returns
 unfolding startedMove
-returns c = rw (startedMove, sym (c .before .before .before .recovered .ensures) ∙ c .before .before .if1 .taken, eq-eqb _ _ (c .before .if2 .taken)) (c .own-write-move .ensures)
+returns c =
+    let recovered = c .before .before .before .recovered in
+    rw (startedMove, sym (recovered .ensures) ∙ c .before .before .if1 .taken, eq-eqb _ _ (c .before .if2 .taken)) (c .own-write-move .ensures)
 
 reading-move-requires : tie.Need-reading-move-requires
 reading-move-requires c κs = search needs
 
 returns-2 : tie.Need-returns-2
 unfolding startedMove
-returns-2 c = rw (startedMove, sym (c .before .before .before .recovered .ensures) ∙ c .before .before .if1 .taken, ne-eqb _ _ (c .before .if2 .left)) (c .reading-move .ensures)
+returns-2 c =
+    let recovered = c .before .before .before .recovered in
+    rw (startedMove, sym (recovered .ensures) ∙ c .before .before .if1 .taken, ne-eqb _ _ (c .before .if2 .left)) (c .reading-move .ensures)
 
 reading-move-requires-2 : tie.Need-reading-move-requires-2
 reading-move-requires-2 c κs = search needs

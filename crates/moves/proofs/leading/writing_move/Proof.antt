@@ -21,7 +21,10 @@ chosen-requires-2 c κs = search needs
 
 returns : tie.Need-returns
 unfolding writingMove
-returns c = rw (c .chosen2 .ensures, c .before .chosen .ensures, c .before .before .sending .ensures, c .before .before .before .after-write .ensures, c .before .before .before .before .above .ensures)
+returns c =
+    let above = c .before .before .before .before .above in
+    let after-write = c .before .before .before .after-write in
+    rw (c .chosen2 .ensures, c .before .chosen .ensures, c .before .before .sending .ensures, after-write .ensures, above .ensures)
 
 pub writing-move-spec : {M : Type 1} → statement M
 writing-move-spec =

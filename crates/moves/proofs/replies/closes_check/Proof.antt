@@ -25,16 +25,18 @@ closes-requires c κs = search needs
 returns : tie.Need-returns
 unfolding readsBy
 returns c =
+    let if2 = c .before .before .before .before .if2 in
+    let no-version = c .before .before .before .no-version in
     let k = c .before .before .before .before .before in
     let a = k .before .before .before .before .args in
-    rw (readsBy, eq-eqb _ _ (k .before .if1 .taken), sym (k .matches .ensures (a .n) []) ∙ c .before .before .before .before .if2 .taken, c .closes .ensures, c .before .counted .ensures .0, c .before .before .pick-version .ensures, c .before .before .before .no-version .ensures)
+    rw (readsBy, eq-eqb _ _ (k .before .if1 .taken), sym (k .matches .ensures (a .servers) []) ∙ if2 .taken, c .closes .ensures, c .before .counted .ensures .0, c .before .before .pick-version .ensures, no-version .ensures)
 
 returns-2 : tie.Need-returns-2
 unfolding readsBy
 returns-2 c =
     let k = c .before in
     let a = k .before .before .before .before .args in
-    rw (readsBy, eq-eqb _ _ (k .before .if1 .taken), sym (k .matches .ensures (a .n) []) ∙ c .if2 .left)
+    rw (readsBy, eq-eqb _ _ (k .before .if1 .taken), sym (k .matches .ensures (a .servers) []) ∙ c .if2 .left)
 
 returns-3 : tie.Need-returns-3
 unfolding readsBy

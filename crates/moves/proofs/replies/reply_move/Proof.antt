@@ -20,7 +20,7 @@ unfolding replyMove
 returns c =
     let k = c .before .before .before in
     let a = k .before .args in
-    rw (replyMove, sym (k .matches .ensures (a .n) []) ∙ c .before .before .if1 .taken, c .counted-move .ensures, c .before .counted .ensures .0)
+    rw (replyMove, sym (k .matches .ensures (a .servers) []) ∙ c .before .before .if1 .taken, c .counted-move .ensures, c .before .counted .ensures .0)
 
 quiet-requires : tie.Need-quiet-requires
 quiet-requires c κs = search needs
@@ -29,7 +29,7 @@ returns-2 : tie.Need-returns-2
 unfolding replyMove
 returns-2 c =
     let k = c .before .before in
-    rw (replyMove, sym (k .matches .ensures (k .before .args .n) []) ∙ c .before .if1 .left) (c .quiet .ensures)
+    rw (replyMove, sym (k .matches .ensures (k .before .args .servers) []) ∙ c .before .if1 .left) (c .quiet .ensures)
 
 pub reply-move-spec : {M : Type 1} → statement M
 reply-move-spec =

@@ -7,11 +7,11 @@ use Rattle.moves.proofs.replies.waiting_move.Tie as tie
 fails-requires : tie.Need-fails-requires
 fails-requires c κs = search needs
 
-timed-out-move-requires : tie.Need-timed-out-move-requires
-timed-out-move-requires c κs = search needs
+ceased-move-requires : tie.Need-ceased-move-requires
+ceased-move-requires c κs = search needs
 
 returns : tie.Need-returns
-returns c = rw (sym (c .before .before .fails .ensures) ∙ c .before .if1 .taken) (c .timed-out-move .ensures)
+returns c = rw (sym (c .before .before .fails .ensures) ∙ c .before .if1 .taken) (c .ceased-move .ensures)
 
 with-round-requires : tie.Need-with-round-requires
 with-round-requires c κs = search needs
@@ -32,7 +32,7 @@ waiting-move-spec =
     tie.close
     (tie.spec
     fails-requires
-    timed-out-move-requires
+    ceased-move-requires
     returns
     with-round-requires
     quiet-requires

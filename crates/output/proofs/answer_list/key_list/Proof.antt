@@ -32,9 +32,13 @@ key-of-requires-4 c κs = search needs
 
 returns : tie.Need-returns
 returns c =
-    let t = c .before .before .before .before .before .before .before .before .before .args .t in
-    let l : length (t .slots) ≡ 4 = simp length-map at (c .before .before .before .before .before .before .before .before .before .good .0 .1 .1 .1 .0 .1 .0 .1) in
-    keys-of t _ _ _ _ l (c .before .before .before .before .before .before .key-of .ensures) (c .before .before .before .before .key-of2 .ensures) (c .before .before .key-of3 .ensures) (c .key-of4 .ensures)
+    let good = c .before .before .before .before .before .before .before .before .before .good in
+    let args = c .before .before .before .before .before .before .before .before .before .args in
+    let key-of = c .before .before .before .before .before .before .key-of in
+    let key-of2 = c .before .before .before .before .key-of2 in
+    let t = args .table in
+    let l : length (t .slots) ≡ 4 = simp length-map at (good .0 .1 .1 .1 .0 .1 .0 .1) in
+    keys-of t _ _ _ _ l (key-of .ensures) (key-of2 .ensures) (c .before .before .key-of3 .ensures) (c .key-of4 .ensures)
 
 pub key-list-spec : {M : Type 1} → statement M
 key-list-spec =

@@ -10,7 +10,7 @@ use Rattle.output.proofs.answer_list.key_of.Tie as tie
 returns : tie.Need-returns
 unfolding keyBytes
 returns c =
-    let k = c .before .args .s .key in
+    let k = c .before .args .entry .key in
     let l : length (k .bytes) ≡ 8 = search needs in
     record { is = refl; short = omega (arith, length-take (k .len) (k .bytes)) }
 

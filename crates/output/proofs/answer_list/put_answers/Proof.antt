@@ -20,7 +20,9 @@ load-answer-requires : tie.Need-load-answer-requires Inv-loop μ-loop
 load-answer-requires c κs = omega (arith, c .before .loop .inv .few, c .loop-test .taken)
 
 put-one-requires : tie.Need-put-one-requires Inv-loop μ-loop
-put-one-requires c κs = answering-fits (c .before .before .before .loop .inv) (c .before .before .loop-test .taken)
+put-one-requires c κs =
+    let loop = c .before .before .before .loop in
+    answering-fits (loop .inv) (c .before .before .loop-test .taken)
 
 add-i : tie.Need-add-i Inv-loop μ-loop
 add-i c = search needs
@@ -29,7 +31,11 @@ loop-less : tie.Need-loop-less Inv-loop μ-loop
 loop-less c = search needs
 
 loop-again : tie.Need-loop-again Inv-loop μ-loop
-loop-again c = answering-goes-on (c .before .before .before .before .before .before .loop .inv) (c .before .before .before .before .before .loop-test .taken) (rw (c .before .before .before .before .load-answer .ensures) at (c .before .before .put-one .ensures .0)) (c .before .before .put-one .ensures .1)
+loop-again c =
+    let loop = c .before .before .before .before .before .before .loop in
+    let loop-test = c .before .before .before .before .before .loop-test in
+    let load-answer = c .before .before .before .before .load-answer in
+    answering-goes-on (loop .inv) (loop-test .taken) (rw (load-answer .ensures) at (c .before .before .put-one .ensures .0)) (c .before .before .put-one .ensures .1)
 
 same-length : tie.Need-same-length Inv-loop μ-loop
 same-length c = c .before .loop .inv .size

@@ -25,16 +25,25 @@ digit-requires c κs = search needs
 
 returns : tie.Need-returns Inv-loop μ-loop
 unfolding numberIn
-returns c = reading-fails (c .before .before .before .before .loop .inv) (c .before .before .before .loop-test .taken) (c .if1 .taken) (c .before .digit .ensures)
+returns c =
+    let loop = c .before .before .before .before .loop in
+    let loop-test = c .before .before .before .loop-test in
+    reading-fails (loop .inv) (loop-test .taken) (c .if1 .taken) (c .before .digit .ensures)
 
-mul-n : tie.Need-mul-n Inv-loop μ-loop
-mul-n c = omega (arith, reading-small (c .before .before .before .before .loop .inv) (c .before .before .before .loop-test .taken))
+mul-so-far : tie.Need-mul-so-far Inv-loop μ-loop
+mul-so-far c =
+    let loop = c .before .before .before .before .loop in
+    let loop-test = c .before .before .before .loop-test in
+    omega (arith, reading-small (loop .inv) (loop-test .taken))
 
 widened-requires : tie.Need-widened-requires Inv-loop μ-loop
 widened-requires c κs = search needs
 
-add-n : tie.Need-add-n Inv-loop μ-loop
-add-n c = omega (arith, reading-small (c .before .before .before .before .before .loop .inv) (c .before .before .before .before .loop-test .taken))
+add-so-far : tie.Need-add-so-far Inv-loop μ-loop
+add-so-far c =
+    let loop = c .before .before .before .before .before .loop in
+    let loop-test = c .before .before .before .before .loop-test in
+    omega (arith, reading-small (loop .inv) (loop-test .taken))
 
 add-i : tie.Need-add-i Inv-loop μ-loop
 add-i c = search needs
@@ -43,7 +52,10 @@ loop-less : tie.Need-loop-less Inv-loop μ-loop
 loop-less c = search needs
 
 loop-again : tie.Need-loop-again Inv-loop μ-loop
-loop-again c = rw (← c .widened .ensures) at (reading-goes-on (c .before .before .before .before .before .loop .inv) (c .before .before .before .before .loop-test .taken) (c .before .if1 .left) (c .before .before .digit .ensures))
+loop-again c =
+    let loop = c .before .before .before .before .before .loop in
+    let loop-test = c .before .before .before .before .loop-test in
+    rw (← c .widened .ensures) at (reading-goes-on (loop .inv) (loop-test .taken) (c .before .if1 .left) (c .before .before .digit .ensures))
 
 returns-2 : tie.Need-returns-2 Inv-loop μ-loop
 unfolding numberIn
@@ -59,9 +71,9 @@ digits-spec =
     shared-slice-read-digit
     digit-requires
     returns
-    mul-n
+    mul-so-far
     widened-requires
-    add-n
+    add-so-far
     add-i
     loop-less
     loop-again

@@ -18,14 +18,18 @@ same-word-requires c κs = search needs
 
 returns-2 : tie.Need-returns-2
 unfolding bytes
-returns-2 c = sym (hexadecimal-dash _ (c .before .before .before .if1 .left) (sym (c .before .same-word .ensures) ∙ c .if2 .taken))
+returns-2 c =
+    let if1 = c .before .before .before .if1 in
+    sym (hexadecimal-dash _ (if1 .left) (sym (c .before .same-word .ensures) ∙ c .if2 .taken))
 
 is-pairs-requires : tie.Need-is-pairs-requires
 is-pairs-requires c κs = search needs
 
 returns-3 : tie.Need-returns-3
 unfolding bytes
-returns-3 c = c .is-pairs .ensures ∙ ap present (sym (hexadecimal-pairs _ (c .before .before .before .before .if1 .left) (sym (c .before .before .same-word .ensures) ∙ c .before .if2 .left)))
+returns-3 c =
+    let if1 = c .before .before .before .before .if1 in
+    c .is-pairs .ensures ∙ ap present (sym (hexadecimal-pairs _ (if1 .left) (sym (c .before .before .same-word .ensures) ∙ c .before .if2 .left)))
 
 pub is-hexadecimal-spec : {M : Type 1} → statement M
 is-hexadecimal-spec =

@@ -26,7 +26,10 @@ hex-digit-requires : tie.Need-hex-digit-requires Inv-loop μ-loop
 hex-digit-requires c κs = search needs
 
 returns : tie.Need-returns Inv-loop μ-loop
-returns c = sym (checking-first-bad (c .before .before .before .before .loop .inv) (c .before .before .before .loop-test .taken) (c .if1 .taken) (c .before .hex-digit .ensures))
+returns c =
+    let loop = c .before .before .before .before .loop in
+    let loop-test = c .before .before .before .loop-test in
+    sym (checking-first-bad (loop .inv) (loop-test .taken) (c .if1 .taken) (c .before .hex-digit .ensures))
 
 add-hex-digit : tie.Need-add-hex-digit Inv-loop μ-loop
 add-hex-digit c = search needs
@@ -38,7 +41,10 @@ hex-digit-requires-2 : tie.Need-hex-digit-requires-2 Inv-loop μ-loop
 hex-digit-requires-2 c κs = search needs
 
 returns-2 : tie.Need-returns-2 Inv-loop μ-loop
-returns-2 c = sym (checking-second-bad (c .before .before .before .before .before .before .before .loop .inv) (c .before .before .before .before .before .before .loop-test .taken) (c .if2 .taken) (c .before .hex-digit2 .ensures))
+returns-2 c =
+    let loop = c .before .before .before .before .before .before .before .loop in
+    let loop-test = c .before .before .before .before .before .before .loop-test in
+    sym (checking-second-bad (loop .inv) (loop-test .taken) (c .if2 .taken) (c .before .hex-digit2 .ensures))
 
 add-i : tie.Need-add-i Inv-loop μ-loop
 add-i c = search needs
@@ -47,7 +53,12 @@ loop-less : tie.Need-loop-less Inv-loop μ-loop
 loop-less c = search needs
 
 loop-again : tie.Need-loop-again Inv-loop μ-loop
-loop-again c = checking-goes-on (c .before .before .before .before .before .before .before .loop .inv) (c .before .before .before .before .before .before .loop-test .taken) (c .before .before .before .if1 .left) (c .if2 .left) (c .before .before .before .before .hex-digit .ensures) (c .before .hex-digit2 .ensures)
+loop-again c =
+    let loop = c .before .before .before .before .before .before .before .loop in
+    let loop-test = c .before .before .before .before .before .before .loop-test in
+    let hex-digit = c .before .before .before .before .hex-digit in
+    let if1 = c .before .before .before .if1 in
+    checking-goes-on (loop .inv) (loop-test .taken) (if1 .left) (c .if2 .left) (hex-digit .ensures) (c .before .hex-digit2 .ensures)
 
 returns-3 : tie.Need-returns-3 Inv-loop μ-loop
 returns-3 c = sym (checking-odd (c .before .before .loop .inv) (c .before .loop-test .left) (c .if3 .taken))

@@ -17,11 +17,15 @@ same-word-requires c κs = search needs
 
 returns : tie.Need-returns
 unfolding bytes
-returns c = item-absent _ _ (sym (c .before .same-word .ensures) ∙ c .if1 .taken) (c .before .before .before .value-in .ensures)
+returns c =
+    let value-in = c .before .before .before .value-in in
+    item-absent _ _ (sym (c .before .same-word .ensures) ∙ c .if1 .taken) (value-in .ensures)
 
 returns-2 : tie.Need-returns-2
 unfolding bytes
-returns-2 c = item-there _ _ (sym (c .before .same-word .ensures) ∙ c .if1 .left) (c .before .before .before .value-in .ensures)
+returns-2 c =
+    let value-in = c .before .before .before .value-in in
+    item-there _ _ (sym (c .before .same-word .ensures) ∙ c .if1 .left) (value-in .ensures)
 
 pub item-in-spec : {M : Type 1} → statement M
 item-in-spec =

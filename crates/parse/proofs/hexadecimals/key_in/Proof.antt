@@ -24,7 +24,9 @@ unfolding padded
 loop-holds c = padding-starts 8 (pairBytes (c .before .before .args .word .now)) _ _ (rw (length-pairs (c .before .before .args .word .now)) (c .at-most .ensures)) (search needs)
 
 pair-at-requires : tie.Need-pair-at-requires Inv-loop μ-loop
-pair-at-requires c κs = omega (arith, c .before .loop .inv .count, length-pairs (c .before .before .before .before .args .word .now))
+pair-at-requires c κs =
+    let args = c .before .before .before .before .args in
+    omega (arith, c .before .loop .inv .count, length-pairs (args .word .now))
 
 array-write-bytes : tie.Need-array-write-bytes Inv-loop μ-loop
 array-write-bytes c = search needs
@@ -39,7 +41,9 @@ loop-again : tie.Need-loop-again Inv-loop μ-loop
 loop-again c = rw (← c .pair-at .ensures) at (padding-goes-on (c .before .before .loop .inv) (c .before .loop-test .taken))
 
 returns : tie.Need-returns Inv-loop μ-loop
-returns c = key-padded (pairBytes (c .before .before .before .before .args .word .now)) (c .before .loop .inv) (c .loop-test .left) (sym (length-pairs (c .before .before .before .before .args .word .now)))
+returns c =
+    let args = c .before .before .before .before .args in
+    key-padded (pairBytes (args .word .now)) (c .before .loop .inv) (c .loop-test .left) (sym (length-pairs (args .word .now)))
 
 pub key-in-spec : {M : Type 1} → statement M
 key-in-spec =

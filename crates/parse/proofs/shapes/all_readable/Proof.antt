@@ -16,11 +16,16 @@ is-item-requires-2 c κs = search needs
 
 returns : tie.Need-returns
 unfolding allThree
-returns c = c .is-item2 .ensures ∙ rw (allThree, ← c .before .before .before .before .is-hexadecimal .ensures, c .before .before .before .if1 .taken, ← c .before .before .is-item .ensures, c .before .if2 .taken)
+returns c =
+    let is-hexadecimal = c .before .before .before .before .is-hexadecimal in
+    let if1 = c .before .before .before .if1 in
+    c .is-item2 .ensures ∙ rw (allThree, ← is-hexadecimal .ensures, if1 .taken, ← c .before .before .is-item .ensures, c .before .if2 .taken)
 
 returns-2 : tie.Need-returns-2
 unfolding allThree
-returns-2 c = rw (allThree, ← c .before .before .before .is-hexadecimal .ensures, c .before .before .if1 .taken, ← c .before .is-item .ensures, c .if2 .left)
+returns-2 c =
+    let is-hexadecimal = c .before .before .before .is-hexadecimal in
+    rw (allThree, ← is-hexadecimal .ensures, c .before .before .if1 .taken, ← c .before .is-item .ensures, c .if2 .left)
 
 returns-3 : tie.Need-returns-3
 unfolding allThree

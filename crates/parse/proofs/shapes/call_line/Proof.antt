@@ -16,8 +16,8 @@ enum-told c = search needs
 malformed-requires : tie.Need-malformed-requires
 malformed-requires c κs = search needs
 
-enum-known-n : tie.Need-enum-known-n
-enum-known-n c = search needs
+enum-known-reading : tie.Need-enum-known-reading
+enum-known-reading c = search needs
 
 all-readable-requires : tie.Need-all-readable-requires
 all-readable-requires c κs = search needs
@@ -37,16 +37,23 @@ of-words-requires c κs = search needs
 returns : tie.Need-returns
 unfolding numberIn
 returns c =
+    let number = c .before .before .before .before .before .before .before .before .before .number in
+    let reading = c .before .before .before .before .before .before .before .reading in
+    let all-readable = c .before .before .before .before .before .all-readable in
+    let if1 = c .before .before .before .before .if1 in
+    let key-in = c .before .before .before .key-in in
     c .of-words .ensures
-    ∙ rw (c .before .before .before .key-in .ensures, c .before .before .item-in .ensures, c .before .item-in2 .ensures)
-    (call-reads _ _ _ _ (sym (ap numberIn (c .before .before .before .before .before .before .before .n .given .1)) ∙ c .before .before .before .before .before .before .before .before .before .number .ensures) (sym (c .before .before .before .before .before .all-readable .ensures) ∙ c .before .before .before .before .if1 .taken))
+    ∙ rw (key-in .ensures, c .before .before .item-in .ensures, c .before .item-in2 .ensures)
+    (call-reads _ _ _ _ (sym (ap numberIn (reading .given .1)) ∙ number .ensures) (sym (all-readable .ensures) ∙ if1 .taken))
 
 malformed-requires-2 : tie.Need-malformed-requires-2
 malformed-requires-2 c κs = search needs
 
 returns-2 : tie.Need-returns-2
 unfolding numberIn callFor
-returns-2 c = c .malformed .ensures ∙ rw (← c .before .before .before .number .ensures, c .before .enum-told .given .1)
+returns-2 c =
+    let number = c .before .before .before .number in
+    c .malformed .ensures ∙ rw (← number .ensures, c .before .enum-told .given .1)
 
 returns-3 : tie.Need-returns-3
 returns-3 c = c .malformed2 .ensures ∙ call-fails _ _ _ _ _ (sym (c .before .before .all-readable .ensures) ∙ c .before .if1 .left)
@@ -58,7 +65,7 @@ call-line-spec =
     number-requires
     enum-told
     malformed-requires
-    enum-known-n
+    enum-known-reading
     all-readable-requires
     key-in-requires
     item-in-requires

@@ -32,7 +32,10 @@ key-line-requires c κs = search needs
 
 returns-2 : tie.Need-returns-2
 unfolding lineOf2 bytes
-returns-2 c = c .key-line .ensures ∙ get-line _ _ ∙ rw (lineOf2, sym (c .before .before .before .before .before .same-word .ensures) ∙ c .before .before .before .before .if1 .left, sym (c .before .before .same-word2 .ensures) ∙ c .before .if2 .taken)
+returns-2 c =
+    let same-word = c .before .before .before .before .before .same-word in
+    let if1 = c .before .before .before .before .if1 in
+    c .key-line .ensures ∙ get-line _ _ ∙ rw (lineOf2, sym (same-word .ensures) ∙ if1 .left, sym (c .before .before .same-word2 .ensures) ∙ c .before .if2 .taken)
 
 slice-aggregate-same-word-3 : tie.Need-slice-aggregate-same-word-3
 slice-aggregate-same-word-3 c = search needs
@@ -45,14 +48,24 @@ key-line-requires-2 c κs = search needs
 
 returns-3 : tie.Need-returns-3
 unfolding lineOf2 bytes
-returns-3 c = c .key-line2 .ensures ∙ del-line _ _ ∙ rw (lineOf2, sym (c .before .before .before .before .before .before .before .before .same-word .ensures) ∙ c .before .before .before .before .before .before .before .if1 .left, sym (c .before .before .before .before .before .same-word2 .ensures) ∙ c .before .before .before .before .if2 .left, sym (c .before .before .same-word3 .ensures) ∙ c .before .if3 .taken)
+returns-3 c =
+    let same-word = c .before .before .before .before .before .before .before .before .same-word in
+    let if1 = c .before .before .before .before .before .before .before .if1 in
+    let same-word2 = c .before .before .before .before .before .same-word2 in
+    let if2 = c .before .before .before .before .if2 in
+    c .key-line2 .ensures ∙ del-line _ _ ∙ rw (lineOf2, sym (same-word .ensures) ∙ if1 .left, sym (same-word2 .ensures) ∙ if2 .left, sym (c .before .before .same-word3 .ensures) ∙ c .before .if3 .taken)
 
 two-numbers-line-requires : tie.Need-two-numbers-line-requires
 two-numbers-line-requires c κs = search needs
 
 returns-4 : tie.Need-returns-4
 unfolding twoNumbersLine lineOf2 bytes
-returns-4 c = c .two-numbers-line .ensures ∙ rw (lineOf2, sym (c .before .before .before .before .before .before .before .before .same-word .ensures) ∙ c .before .before .before .before .before .before .before .if1 .left, sym (c .before .before .before .before .before .same-word2 .ensures) ∙ c .before .before .before .before .if2 .left, sym (c .before .before .same-word3 .ensures) ∙ c .before .if3 .left)
+returns-4 c =
+    let same-word = c .before .before .before .before .before .before .before .before .same-word in
+    let if1 = c .before .before .before .before .before .before .before .if1 in
+    let same-word2 = c .before .before .before .before .before .same-word2 in
+    let if2 = c .before .before .before .before .if2 in
+    c .two-numbers-line .ensures ∙ rw (lineOf2, sym (same-word .ensures) ∙ if1 .left, sym (same-word2 .ensures) ∙ if2 .left, sym (c .before .before .same-word3 .ensures) ∙ c .before .if3 .left)
 
 pub line-of-2-spec : {M : Type 1} → statement M
 line-of-2-spec =

@@ -22,7 +22,9 @@ call-line-requires c κs = search needs
 
 returns : tie.Need-returns
 unfolding lineOf3 bytes
-returns c = c .call-line .ensures ∙ set-line _ _ _ ∙ rw (lineOf3, sym (c .before .before .before .same-word .ensures) ∙ c .before .before .if1 .taken)
+returns c =
+    let same-word = c .before .before .before .same-word in
+    c .call-line .ensures ∙ set-line _ _ _ ∙ rw (lineOf3, sym (same-word .ensures) ∙ c .before .before .if1 .taken)
 
 malformed-requires : tie.Need-malformed-requires
 malformed-requires c κs = search needs

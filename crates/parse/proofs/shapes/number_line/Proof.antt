@@ -15,19 +15,23 @@ enum-told c = search needs
 malformed-requires : tie.Need-malformed-requires
 malformed-requires c κs = search needs
 
-enum-known-n : tie.Need-enum-known-n
-enum-known-n c = search needs
+enum-known-reading : tie.Need-enum-known-reading
+enum-known-reading c = search needs
 
 of-numbers-requires : tie.Need-of-numbers-requires
 of-numbers-requires c κs = search needs
 
 returns : tie.Need-returns
 unfolding numberFor numberIn
-returns c = c .malformed .ensures ∙ rw (← c .before .before .before .number .ensures, c .before .enum-told .given .1)
+returns c =
+    let number = c .before .before .before .number in
+    c .malformed .ensures ∙ rw (← number .ensures, c .before .enum-told .given .1)
 
 returns-2 : tie.Need-returns-2
 unfolding numberFor numberIn
-returns-2 c = c .of-numbers .ensures ∙ rw (← c .before .before .before .before .number .ensures, c .before .before .n .given .1)
+returns-2 c =
+    let number = c .before .before .before .before .number in
+    c .of-numbers .ensures ∙ rw (← number .ensures, c .before .before .reading .given .1)
 
 pub number-line-spec : {M : Type 1} → statement M
 number-line-spec =
@@ -36,7 +40,7 @@ number-line-spec =
     number-requires
     enum-told
     malformed-requires
-    enum-known-n
+    enum-known-reading
     of-numbers-requires
     returns
     returns-2)

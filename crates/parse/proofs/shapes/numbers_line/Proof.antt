@@ -15,8 +15,8 @@ enum-told c = search needs
 malformed-requires : tie.Need-malformed-requires
 malformed-requires c κs = search needs
 
-enum-known-n : tie.Need-enum-known-n
-enum-known-n c = search needs
+enum-known-reading : tie.Need-enum-known-reading
+enum-known-reading c = search needs
 
 number-requires-2 : tie.Need-number-requires-2
 number-requires-2 c κs = search needs
@@ -27,23 +27,33 @@ enum-told-2 c = search needs
 malformed-requires-2 : tie.Need-malformed-requires-2
 malformed-requires-2 c κs = search needs
 
-enum-known-m : tie.Need-enum-known-m
-enum-known-m c = search needs
+enum-known-second-reading : tie.Need-enum-known-second-reading
+enum-known-second-reading c = search needs
 
 of-numbers-requires : tie.Need-of-numbers-requires
 of-numbers-requires c κs = search needs
 
 returns : tie.Need-returns
 unfolding numbersFor numberIn
-returns c = c .malformed .ensures ∙ rw (← c .before .before .before .number .ensures, c .before .enum-told .given .1)
+returns c =
+    let number = c .before .before .before .number in
+    c .malformed .ensures ∙ rw (← number .ensures, c .before .enum-told .given .1)
 
 returns-2 : tie.Need-returns-2
 unfolding numbersFor numberIn
-returns-2 c = c .malformed2 .ensures ∙ rw (← c .before .before .before .before .before .before .before .number .ensures, c .before .before .before .before .before .n .given .1, ← c .before .before .before .number2 .ensures, c .before .enum-told2 .given .1)
+returns-2 c =
+    let number = c .before .before .before .before .before .before .before .number in
+    let reading = c .before .before .before .before .before .reading in
+    let number2 = c .before .before .before .number2 in
+    c .malformed2 .ensures ∙ rw (← number .ensures, reading .given .1, ← number2 .ensures, c .before .enum-told2 .given .1)
 
 returns-3 : tie.Need-returns-3
 unfolding numbersFor numberIn
-returns-3 c = c .of-numbers .ensures ∙ rw (← c .before .before .before .before .before .before .before .before .number .ensures, c .before .before .before .before .before .before .n .given .1, ← c .before .before .before .before .number2 .ensures, c .before .before .m .given .1)
+returns-3 c =
+    let number = c .before .before .before .before .before .before .before .before .number in
+    let reading = c .before .before .before .before .before .before .reading in
+    let number2 = c .before .before .before .before .number2 in
+    c .of-numbers .ensures ∙ rw (← number .ensures, reading .given .1, ← number2 .ensures, c .before .before .second-reading .given .1)
 
 pub numbers-line-spec : {M : Type 1} → statement M
 numbers-line-spec =
@@ -52,11 +62,11 @@ numbers-line-spec =
     number-requires
     enum-told
     malformed-requires
-    enum-known-n
+    enum-known-reading
     number-requires-2
     enum-told-2
     malformed-requires-2
-    enum-known-m
+    enum-known-second-reading
     of-numbers-requires
     returns
     returns-2

@@ -1,12 +1,12 @@
 -- `shapes::of_numbers` meets its contract.
 use borrow.Author.Needs.{needs}
 use mathlib.Core.Path.{_∙_}
-use Rattle.parse.specs.Kept.{itemFor}
+use Rattle.parse.specs.Kept.{padded, keyFor, itemFor}
 use Rattle.parse.proofs.shapes.of_numbers.Statement.{statement}
 use Rattle.parse.proofs.shapes.of_numbers.Tie as tie
 
-blank-key-requires : tie.Need-blank-key-requires
-blank-key-requires c κs = search needs
+no-key-requires : tie.Need-no-key-requires
+no-key-requires c κs = search needs
 
 absent-requires : tie.Need-absent-requires
 absent-requires c κs = search needs
@@ -18,14 +18,16 @@ of-words-requires : tie.Need-of-words-requires
 of-words-requires c κs = search needs
 
 returns : tie.Need-returns
-unfolding itemFor
-returns c = c .of-words .ensures ∙ rw (c .before .before .before .blank-key .ensures, c .before .before .absent .ensures, c .before .absent2 .ensures)
+unfolding padded keyFor itemFor
+returns c =
+    let no-key = c .before .before .before .no-key in
+    c .of-words .ensures ∙ rw (no-key .ensures, c .before .before .absent .ensures, c .before .absent2 .ensures)
 
 pub of-numbers-spec : {M : Type 1} → statement M
 of-numbers-spec =
     tie.close
     (tie.spec
-    blank-key-requires
+    no-key-requires
     absent-requires
     absent-requires-2
     of-words-requires

@@ -31,7 +31,10 @@ numbers-line-requires-2 c κs = search needs
 
 returns-2 : tie.Need-returns-2
 unfolding twoNumbersLine bytes
-returns-2 c = c .numbers-line2 .ensures ∙ timeout-line _ _ ∙ rw (twoNumbersLine, sym (c .before .before .before .before .before .same-word .ensures) ∙ c .before .before .before .before .if1 .left, sym (c .before .before .same-word2 .ensures) ∙ c .before .if2 .taken)
+returns-2 c =
+    let same-word = c .before .before .before .before .before .same-word in
+    let if1 = c .before .before .before .before .if1 in
+    c .numbers-line2 .ensures ∙ timeout-line _ _ ∙ rw (twoNumbersLine, sym (same-word .ensures) ∙ if1 .left, sym (c .before .before .same-word2 .ensures) ∙ c .before .if2 .taken)
 
 slice-aggregate-same-word-3 : tie.Need-slice-aggregate-same-word-3
 slice-aggregate-same-word-3 c = search needs
@@ -44,14 +47,24 @@ numbers-line-requires-3 c κs = search needs
 
 returns-3 : tie.Need-returns-3
 unfolding twoNumbersLine bytes
-returns-3 c = c .numbers-line3 .ensures ∙ cut-line _ _ ∙ rw (twoNumbersLine, sym (c .before .before .before .before .before .before .before .before .same-word .ensures) ∙ c .before .before .before .before .before .before .before .if1 .left, sym (c .before .before .before .before .before .same-word2 .ensures) ∙ c .before .before .before .before .if2 .left, sym (c .before .before .same-word3 .ensures) ∙ c .before .if3 .taken)
+returns-3 c =
+    let same-word = c .before .before .before .before .before .before .before .before .same-word in
+    let if1 = c .before .before .before .before .before .before .before .if1 in
+    let same-word2 = c .before .before .before .before .before .same-word2 in
+    let if2 = c .before .before .before .before .if2 in
+    c .numbers-line3 .ensures ∙ cut-line _ _ ∙ rw (twoNumbersLine, sym (same-word .ensures) ∙ if1 .left, sym (same-word2 .ensures) ∙ if2 .left, sym (c .before .before .same-word3 .ensures) ∙ c .before .if3 .taken)
 
 malformed-requires : tie.Need-malformed-requires
 malformed-requires c κs = search needs
 
 returns-4 : tie.Need-returns-4
 unfolding twoNumbersLine bytes
-returns-4 c = c .malformed .ensures ∙ sym (ap parsed (rw (twoNumbersLine, sym (c .before .before .before .before .before .before .before .before .same-word .ensures) ∙ c .before .before .before .before .before .before .before .if1 .left, sym (c .before .before .before .before .before .same-word2 .ensures) ∙ c .before .before .before .before .if2 .left, sym (c .before .before .same-word3 .ensures) ∙ c .before .if3 .left)))
+returns-4 c =
+    let same-word = c .before .before .before .before .before .before .before .before .same-word in
+    let if1 = c .before .before .before .before .before .before .before .if1 in
+    let same-word2 = c .before .before .before .before .before .same-word2 in
+    let if2 = c .before .before .before .before .if2 in
+    c .malformed .ensures ∙ sym (ap parsed (rw (twoNumbersLine, sym (same-word .ensures) ∙ if1 .left, sym (same-word2 .ensures) ∙ if2 .left, sym (c .before .before .same-word3 .ensures) ∙ c .before .if3 .left)))
 
 pub two-numbers-line-spec : {M : Type 1} → statement M
 two-numbers-line-spec =

@@ -29,7 +29,10 @@ with-four-requires : tie.Need-with-four-requires
 with-four-requires c κs = search needs
 
 returns : tie.Need-returns
-returns c = rw (words-cut _ (c .before .before .before .before .word-end .ensures) (c .before .before .before .if1 .taken)) at (c .with-four .ensures)
+returns c =
+    let word-end = c .before .before .before .before .word-end in
+    let if1 = c .before .before .before .if1 in
+    rw (words-cut _ (word-end .ensures) (if1 .taken)) at (c .with-four .ensures)
 
 line-of-3-requires : tie.Need-line-of-3-requires
 line-of-3-requires c κs = search needs

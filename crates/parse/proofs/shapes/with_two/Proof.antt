@@ -29,7 +29,10 @@ with-three-requires : tie.Need-with-three-requires
 with-three-requires c κs = search needs
 
 returns : tie.Need-returns
-returns c = rw (words-cut _ (c .before .before .before .before .word-end .ensures) (c .before .before .before .if1 .taken)) at (c .with-three .ensures)
+returns c =
+    let word-end = c .before .before .before .before .word-end in
+    let if1 = c .before .before .before .if1 in
+    rw (words-cut _ (word-end .ensures) (if1 .taken)) at (c .with-three .ensures)
 
 line-of-2-requires : tie.Need-line-of-2-requires
 line-of-2-requires c κs = search needs

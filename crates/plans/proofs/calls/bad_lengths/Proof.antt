@@ -22,7 +22,10 @@ bad-item-requires c κs = search needs
 
 returns-3 : tie.Need-returns-3
 unfolding badLengths
-returns-3 c = rw (badLengths, ne-eqb _ _ (c .before .before .before .before .if1 .left), sym (c .before .before .before .bad-key .ensures) ∙ c .before .before .if2 .left, sym (c .before .bad-item .ensures) ∙ c .if3 .taken)
+returns-3 c =
+    let if1 = c .before .before .before .before .if1 in
+    let bad-key = c .before .before .before .bad-key in
+    rw (badLengths, ne-eqb _ _ (if1 .left), sym (bad-key .ensures) ∙ c .before .before .if2 .left, sym (c .before .bad-item .ensures) ∙ c .if3 .taken)
 
 bad-item-requires-2 : tie.Need-bad-item-requires-2
 bad-item-requires-2 c κs = search needs
@@ -30,8 +33,11 @@ bad-item-requires-2 c κs = search needs
 returns-4 : tie.Need-returns-4
 unfolding badLengths
 returns-4 c =
+    let if1 = c .before .before .before .before .before .if1 in
+    let bad-key = c .before .before .before .before .bad-key in
+    let if2 = c .before .before .before .if2 in
     c .bad-item2 .ensures
-    ∙ rw (badLengths, ne-eqb _ _ (c .before .before .before .before .before .if1 .left), sym (c .before .before .before .before .bad-key .ensures) ∙ c .before .before .before .if2 .left, sym (c .before .before .bad-item .ensures) ∙ c .before .if3 .left)
+    ∙ rw (badLengths, ne-eqb _ _ (if1 .left), sym (bad-key .ensures) ∙ if2 .left, sym (c .before .before .bad-item .ensures) ∙ c .before .if3 .left)
 
 pub bad-lengths-spec : {M : Type 1} → statement M
 bad-lengths-spec =

@@ -18,14 +18,17 @@ begun-move-requires c κs = search needs
 take-plan-requires : tie.Need-take-plan-requires
 take-plan-requires c κs = search needs
 
-roomy-requires : tie.Need-roomy-requires
-roomy-requires c κs = search needs
+if-places-left-requires : tie.Need-if-places-left-requires
+if-places-left-requires c κs = search needs
 
 returns : tie.Need-returns
 unfolding callPlan
 returns c =
-    rw (c .roomy .ensures, c .before .take-plan .ensures, c .before .before .begun-move .ensures, c .before .before .before .call-step .ensures)
-    (sym (unless-none _ _ _ (sym (c .before .before .before .before .before .call-refusal .ensures) ∙ c .before .before .before .before .if1 .taken)))
+    let call-refusal = c .before .before .before .before .before .call-refusal in
+    let if1 = c .before .before .before .before .if1 in
+    let call-step = c .before .before .before .call-step in
+    rw (c .if-places-left .ensures, c .before .take-plan .ensures, c .before .before .begun-move .ensures, call-step .ensures)
+    (sym (unless-none _ _ _ (sym (call-refusal .ensures) ∙ if1 .taken)))
 
 refused-plan-requires : tie.Need-refused-plan-requires
 refused-plan-requires c κs = search needs
@@ -42,7 +45,7 @@ call-plan-spec =
     call-step-requires
     begun-move-requires
     take-plan-requires
-    roomy-requires
+    if-places-left-requires
     returns
     refused-plan-requires
     returns-2)

@@ -32,8 +32,9 @@ effect-requires c κs = search needs
 
 returns : tie.Need-returns
 returns c =
-    let a = c .before .before .before .before .args in
-    c .effect .ensures ∙ ap (effect (wordsIn (a .w))) (c .before .decode .ensures .table ∙ content-is (a .copies .now) (a .k) (a .k * 128 + 113 - a .k * 128) (omega arith))
+    let args = c .before .before .before .before .args in
+    let a = args in
+    c .effect .ensures ∙ ap (effect (wordsIn (a .words))) (c .before .decode .ensures .table ∙ content-is (a .copies .now) (a .slot) (a .slot * 128 + 113 - a .slot * 128) (omega arith))
 
 pub effect-on-spec : {M : Type 1} → statement M
 effect-on-spec =

@@ -4,11 +4,8 @@ use borrow.Author.Needs.{needs}
 use Rattle.plans.proofs.calls.plan_at.Statement.{statement}
 use Rattle.plans.proofs.calls.plan_at.Tie as tie
 
-mul-k : tie.Need-mul-k
-mul-k c = search needs
-
-add-k : tie.Need-add-k
-add-k c = search needs
+slot-of-requires : tie.Need-slot-of-requires
+slot-of-requires c κs = search needs
 
 load-local-requires : tie.Need-load-local-requires
 load-local-requires c κs = search needs
@@ -20,9 +17,11 @@ call-plan-requires : tie.Need-call-plan-requires
 call-plan-requires c κs = search needs
 
 returns : tie.Need-returns
-returns c = called _ _ _ _ _ _ _ _ _ _ (c .before .before .load-local .ensures) (c .before .call-effect .ensures) (c .call-plan .ensures)
+returns c =
+    let slot-of = c .before .before .before .slot-of in
+    called _ _ _ _ _ _ _ _ _ _ _ (slot-of .ensures) (c .before .before .load-local .ensures) (c .before .call-effect .ensures) (c .call-plan .ensures)
 
 pub plan-at-spec : {M : Type 1} → statement M
 plan-at-spec =
     tie.close
-    (tie.spec mul-k add-k load-local-requires call-effect-requires call-plan-requires returns)
+    (tie.spec slot-of-requires load-local-requires call-effect-requires call-plan-requires returns)

@@ -21,13 +21,25 @@ refused-plan-requires : tie.Need-refused-plan-requires
 refused-plan-requires c κs = search needs
 
 returns : tie.Need-returns
-returns c = call-unfit _ _ _ _ _ _ _ _ _ (c .before .before .before .before .before .before .call-bucket .ensures) (sym (c .before .before .before .before .before .inside .ensures) ∙ c .before .before .before .before .if1 .taken) (sym (c .before .before .before .bad-lengths .ensures) ∙ c .before .before .if2 .taken) (c .refused-plan .ensures)
+returns c =
+    let call-bucket = c .before .before .before .before .before .before .call-bucket in
+    let inside = c .before .before .before .before .before .inside in
+    let if1 = c .before .before .before .before .if1 in
+    let bad-lengths = c .before .before .before .bad-lengths in
+    call-unfit _ _ _ _ _ _ _ _ _ (call-bucket .ensures) (sym (inside .ensures) ∙ if1 .taken) (sym (bad-lengths .ensures) ∙ c .before .before .if2 .taken) (c .refused-plan .ensures)
 
 plan-at-requires : tie.Need-plan-at-requires
-plan-at-requires c κs = (c .before .before .before .before .before .pre, inside-room _ _ _ (c .before .before .before .before .before .pre) (sym (c .before .before .before .inside .ensures) ∙ c .before .before .if1 .taken))
+plan-at-requires c κs =
+    let pre = c .before .before .before .before .before .pre in
+    let inside = c .before .before .before .inside in
+    (pre, inside-room _ _ _ (pre) (sym (inside .ensures) ∙ c .before .before .if1 .taken))
 
 returns-2 : tie.Need-returns-2
-returns-2 c = call-fit _ _ _ _ _ _ _ _ (c .before .before .before .before .before .call-bucket .ensures) (sym (c .before .before .before .before .inside .ensures) ∙ c .before .before .before .if1 .taken) (sym (c .before .before .bad-lengths .ensures) ∙ c .before .if2 .left) (c .plan-at .ensures)
+returns-2 c =
+    let call-bucket = c .before .before .before .before .before .call-bucket in
+    let inside = c .before .before .before .before .inside in
+    let if1 = c .before .before .before .if1 in
+    call-fit _ _ _ _ _ _ _ _ (call-bucket .ensures) (sym (inside .ensures) ∙ if1 .taken) (sym (c .before .before .bad-lengths .ensures) ∙ c .before .if2 .left) (c .plan-at .ensures)
 
 no-effect-requires-2 : tie.Need-no-effect-requires-2
 no-effect-requires-2 c κs = search needs
@@ -36,7 +48,10 @@ refused-plan-requires-2 : tie.Need-refused-plan-requires-2
 refused-plan-requires-2 c κs = search needs
 
 returns-3 : tie.Need-returns-3
-returns-3 c = call-nowhere _ _ _ _ _ _ _ _ _ (c .before .before .before .before .call-bucket .ensures) (sym (c .before .before .before .inside .ensures) ∙ c .before .before .if1 .left) (c .refused-plan2 .ensures)
+returns-3 c =
+    let call-bucket = c .before .before .before .before .call-bucket in
+    let inside = c .before .before .before .inside in
+    call-nowhere _ _ _ _ _ _ _ _ _ (call-bucket .ensures) (sym (inside .ensures) ∙ c .before .before .if1 .left) (c .refused-plan2 .ensures)
 
 pub plan-call-spec : {M : Type 1} → statement M
 plan-call-spec =

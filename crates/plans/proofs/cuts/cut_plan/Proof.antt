@@ -24,19 +24,27 @@ cut-move-requires c κs = search needs
 move-plan-requires : tie.Need-move-plan-requires
 move-plan-requires c κs = search needs
 
-roomy-requires : tie.Need-roomy-requires
-roomy-requires c κs = search needs
+if-places-left-requires : tie.Need-if-places-left-requires
+if-places-left-requires c κs = search needs
 
 returns-2 : tie.Need-returns-2
 unfolding cutPlan
-returns-2 c = rw (cutPlan, sym (c .before .before .before .before .before .before .is-gone .ensures) ∙ c .before .before .before .before .before .if1 .left, sym (c .before .before .before .before .can-cut .ensures) ∙ c .before .before .before .if2 .taken, c .roomy .ensures, c .before .move-plan .ensures, c .before .before .cut-move .ensures)
+returns-2 c =
+    let is-gone = c .before .before .before .before .before .before .is-gone in
+    let if1 = c .before .before .before .before .before .if1 in
+    let can-cut = c .before .before .before .before .can-cut in
+    let if2 = c .before .before .before .if2 in
+    rw (cutPlan, sym (is-gone .ensures) ∙ if1 .left, sym (can-cut .ensures) ∙ if2 .taken, c .if-places-left .ensures, c .before .move-plan .ensures, c .before .before .cut-move .ensures)
 
 refused-plan-requires-2 : tie.Need-refused-plan-requires-2
 refused-plan-requires-2 c κs = search needs
 
 returns-3 : tie.Need-returns-3
 unfolding cutPlan
-returns-3 c = rw (cutPlan, sym (c .before .before .before .before .is-gone .ensures) ∙ c .before .before .before .if1 .left, sym (c .before .before .can-cut .ensures) ∙ c .before .if2 .left) (c .refused-plan2 .ensures)
+returns-3 c =
+    let is-gone = c .before .before .before .before .is-gone in
+    let if1 = c .before .before .before .if1 in
+    rw (cutPlan, sym (is-gone .ensures) ∙ if1 .left, sym (c .before .before .can-cut .ensures) ∙ c .before .if2 .left) (c .refused-plan2 .ensures)
 
 pub cut-plan-spec : {M : Type 1} → statement M
 cut-plan-spec =
@@ -48,7 +56,7 @@ cut-plan-spec =
     can-cut-requires
     cut-move-requires
     move-plan-requires
-    roomy-requires
+    if-places-left-requires
     returns-2
     refused-plan-requires-2
     returns-3)

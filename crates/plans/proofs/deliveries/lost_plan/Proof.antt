@@ -16,7 +16,9 @@ no-move-requires : tie.Need-no-move-requires
 no-move-requires c κs = search needs
 
 returns : tie.Need-returns
-returns c = rw (c .no-move .ensures, c .before .no-words .ensures, c .before .before .chosen .ensures, c .before .before .before .no-message .ensures)
+returns c =
+    let no-message = c .before .before .before .no-message in
+    rw (c .no-move .ensures, c .before .no-words .ensures, c .before .before .chosen .ensures, no-message .ensures)
 
 pub lost-plan-spec : {M : Type 1} → statement M
 lost-plan-spec =

@@ -20,8 +20,10 @@ unless-requires c κs = search needs
 returns : tie.Need-returns
 unfolding loseAt
 returns c =
-    let a = c .before .before .before .before .args in
-    told (loseAt (a .c) (a .i)) (c .before .before .before .no-effect .result) _ (lose-at-keeps (a .c) (a .i)) (rw (c .unless .ensures, c .before .lost-plan .ensures, c .before .before .message-refusal .ensures))
+    let args = c .before .before .before .before .args in
+    let no-effect = c .before .before .before .no-effect in
+    let a = args in
+    told (loseAt (a .cluster) (a .place)) (no-effect .result) _ (lose-at-keeps (a .cluster) (a .place)) (rw (c .unless .ensures, c .before .lost-plan .ensures, c .before .before .message-refusal .ensures))
 
 pub plan-lose-spec : {M : Type 1} → statement M
 plan-lose-spec =

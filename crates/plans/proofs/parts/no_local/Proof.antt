@@ -16,7 +16,9 @@ no-call-requires : tie.Need-no-call-requires
 no-call-requires c κs = search needs
 
 returns : tie.Need-returns
-returns c = rw (c .no-call .ensures, c .before .no-round .ensures, c .before .before .no-version .ensures, c .before .before .before .no-head .ensures)
+returns c =
+    let no-head = c .before .before .before .no-head in
+    rw (c .no-call .ensures, c .before .no-round .ensures, c .before .before .no-version .ensures, no-head .ensures)
 
 pub no-local-spec : {M : Type 1} → statement M
 no-local-spec =

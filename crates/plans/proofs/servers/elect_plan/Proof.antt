@@ -18,7 +18,9 @@ refused-plan-requires c κs = search needs
 returns : tie.Need-returns
 unfolding electPlan
 returns c =
-    rw (electPlan, unless-none _ _ _ (sym (c .before .before .before .before .server-refusal .ensures) ∙ c .before .before .before .if1 .taken), sym (c .before .before .last-number .ensures) ∙ c .before .if2 .taken) (c .refused-plan .ensures)
+    let server-refusal = c .before .before .before .before .server-refusal in
+    let if1 = c .before .before .before .if1 in
+    rw (electPlan, unless-none _ _ _ (sym (server-refusal .ensures) ∙ if1 .taken), sym (c .before .before .last-number .ensures) ∙ c .before .if2 .taken) (c .refused-plan .ensures)
 
 line-step-requires : tie.Need-line-step-requires
 line-step-requires c κs = search needs
@@ -29,13 +31,18 @@ elected-move-requires c κs = search needs
 move-plan-requires : tie.Need-move-plan-requires
 move-plan-requires c κs = search needs
 
-roomy-requires : tie.Need-roomy-requires
-roomy-requires c κs = search needs
+if-places-left-requires : tie.Need-if-places-left-requires
+if-places-left-requires c κs = search needs
 
 returns-2 : tie.Need-returns-2
 unfolding electPlan
 returns-2 c =
-    rw (electPlan, unless-none _ _ _ (sym (c .before .before .before .before .before .before .before .server-refusal .ensures) ∙ c .before .before .before .before .before .before .if1 .taken), sym (c .before .before .before .before .before .last-number .ensures) ∙ c .before .before .before .before .if2 .left, c .roomy .ensures, c .before .move-plan .ensures, c .before .before .elected-move .ensures, c .before .before .before .line-step .ensures)
+    let server-refusal = c .before .before .before .before .before .before .before .server-refusal in
+    let if1 = c .before .before .before .before .before .before .if1 in
+    let last-number = c .before .before .before .before .before .last-number in
+    let if2 = c .before .before .before .before .if2 in
+    let line-step = c .before .before .before .line-step in
+    rw (electPlan, unless-none _ _ _ (sym (server-refusal .ensures) ∙ if1 .taken), sym (last-number .ensures) ∙ if2 .left, c .if-places-left .ensures, c .before .move-plan .ensures, c .before .before .elected-move .ensures, line-step .ensures)
 
 refused-plan-requires-2 : tie.Need-refused-plan-requires-2
 refused-plan-requires-2 c κs = search needs
@@ -55,7 +62,7 @@ elect-plan-spec =
     line-step-requires
     elected-move-requires
     move-plan-requires
-    roomy-requires
+    if-places-left-requires
     returns-2
     refused-plan-requires-2
     returns-3)

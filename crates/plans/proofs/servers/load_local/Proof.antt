@@ -16,7 +16,9 @@ load-call-requires : tie.Need-load-call-requires
 load-call-requires c κs = search needs
 
 returns : tie.Need-returns
-returns c = rw (c .load-call .ensures, c .before .load-round .ensures, c .before .before .load-version .ensures, c .before .before .before .load-head .ensures)
+returns c =
+    let load-head = c .before .before .before .load-head in
+    rw (c .load-call .ensures, c .before .load-round .ensures, c .before .before .load-version .ensures, load-head .ensures)
 
 pub load-local-spec : {M : Type 1} → statement M
 load-local-spec =

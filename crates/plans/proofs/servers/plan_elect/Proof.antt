@@ -1,10 +1,9 @@
 -- `servers::plan_elect` meets its contract: refused with 3, or judged further.
 use mathlib.Core.Path.{sym, _∙_}
-use native.Mathlib.Nat.{add-zero}
-use Prim.Native.Nat.{_*_}
+use native.Mathlib.Omega.{arith}
 use Rattle.plans.specs.Arrays.{servers}
 use Rattle.plans.specs.Plans.{electAt}
-use Rattle.plans.proofs.Judging.{told, inside-first, elect-at-keeps}
+use Rattle.plans.proofs.Judging.{told, inside-room, elect-at-keeps}
 use borrow.Author.Needs.{needs}
 use Rattle.plans.proofs.servers.plan_elect.Statement.{statement}
 use Rattle.plans.proofs.servers.plan_elect.Tie as tie
@@ -15,11 +14,16 @@ no-effect-requires c κs = search needs
 inside-requires : tie.Need-inside-requires
 inside-requires c κs = search needs
 
-mul-load-local : tie.Need-mul-load-local
-mul-load-local c = search needs
+slot-of-requires : tie.Need-slot-of-requires
+slot-of-requires c κs =
+    let pre = c .before .before .before .pre in
+    inside-room _ _ _ (pre) (sym (c .before .inside .ensures) ∙ c .if1 .taken)
 
 load-local-requires : tie.Need-load-local-requires
-load-local-requires c κs = inside-first _ _ (c .before .before .before .pre) (sym (c .before .inside .ensures) ∙ c .if1 .taken)
+load-local-requires c κs =
+    let pre = c .before .before .before .before .pre in
+    let h = inside-room _ _ _ (pre) (sym (c .before .before .inside .ensures) ∙ c .before .if1 .taken) in
+    (h .0, omega (arith, h .0, h .1))
 
 elect-plan-requires : tie.Need-elect-plan-requires
 elect-plan-requires c κs = search needs
@@ -27,10 +31,14 @@ elect-plan-requires c κs = search needs
 returns : tie.Need-returns
 unfolding electAt
 returns c =
-    let a = c .before .before .before .before .before .args in
+    let args = c .before .before .before .before .before .before .args in
+    let no-effect = c .before .before .before .before .before .no-effect in
+    let inside = c .before .before .before .before .inside in
+    let if1 = c .before .before .before .if1 in
+    let a = args in
     let m = servers (a .heads .now) (a .slots .now) in
-    told (electAt m (a .c) (a .s)) (c .before .before .before .before .no-effect .result) _ (elect-at-keeps m (a .c) (a .s))
-    (rw (electAt, sym (c .before .before .before .inside .ensures) ∙ c .before .before .if1 .taken, c .elect-plan .ensures, c .before .load-local .ensures, add-zero (a .s * 8)))
+    told (electAt m (a .cluster) (a .server)) (no-effect .result) _ (elect-at-keeps m (a .cluster) (a .server))
+    (rw (electAt, sym (inside .ensures) ∙ if1 .taken, c .elect-plan .ensures, c .before .load-local .ensures, c .before .before .slot-of .ensures))
 
 refused-plan-requires : tie.Need-refused-plan-requires
 refused-plan-requires c κs = search needs
@@ -38,9 +46,11 @@ refused-plan-requires c κs = search needs
 returns-2 : tie.Need-returns-2
 unfolding electAt
 returns-2 c =
-    let a = c .before .before .before .before .args in
+    let args = c .before .before .before .before .args in
+    let no-effect = c .before .before .before .no-effect in
+    let a = args in
     let m = servers (a .heads .now) (a .slots .now) in
-    told (electAt m (a .c) (a .s)) (c .before .before .before .no-effect .result) _ (elect-at-keeps m (a .c) (a .s)) (rw (electAt, sym (c .before .before .inside .ensures) ∙ c .before .if1 .left) (c .refused-plan .ensures))
+    told (electAt m (a .cluster) (a .server)) (no-effect .result) _ (elect-at-keeps m (a .cluster) (a .server)) (rw (electAt, sym (c .before .before .inside .ensures) ∙ c .before .if1 .left) (c .refused-plan .ensures))
 
 pub plan-elect-spec : {M : Type 1} → statement M
 plan-elect-spec =
@@ -48,7 +58,7 @@ plan-elect-spec =
     (tie.spec
     no-effect-requires
     inside-requires
-    mul-load-local
+    slot-of-requires
     load-local-requires
     elect-plan-requires
     returns

@@ -16,15 +16,19 @@ restarted-move-requires c κs = search needs
 move-plan-requires : tie.Need-move-plan-requires
 move-plan-requires c κs = search needs
 
-roomy-requires : tie.Need-roomy-requires
-roomy-requires c κs = search needs
+if-places-left-requires : tie.Need-if-places-left-requires
+if-places-left-requires c κs = search needs
 
 unless-requires : tie.Need-unless-requires
 unless-requires c κs = search needs
 
 returns : tie.Need-returns
 unfolding startPlan
-returns c = rw (c .unless .ensures, c .before .roomy .ensures, c .before .before .move-plan .ensures, c .before .before .before .restarted-move .ensures, c .before .before .before .before .line-step .ensures, c .before .before .before .before .before .start-refusal .ensures)
+returns c =
+    let start-refusal = c .before .before .before .before .before .start-refusal in
+    let line-step = c .before .before .before .before .line-step in
+    let restarted-move = c .before .before .before .restarted-move in
+    rw (c .unless .ensures, c .before .if-places-left .ensures, c .before .before .move-plan .ensures, restarted-move .ensures, line-step .ensures, start-refusal .ensures)
 
 pub start-plan-spec : {M : Type 1} → statement M
 start-plan-spec =
@@ -34,6 +38,6 @@ start-plan-spec =
     line-step-requires
     restarted-move-requires
     move-plan-requires
-    roomy-requires
+    if-places-left-requires
     unless-requires
     returns)

@@ -16,15 +16,19 @@ stopped-move-requires c κs = search needs
 move-plan-requires : tie.Need-move-plan-requires
 move-plan-requires c κs = search needs
 
-roomy-requires : tie.Need-roomy-requires
-roomy-requires c κs = search needs
+if-places-left-requires : tie.Need-if-places-left-requires
+if-places-left-requires c κs = search needs
 
 unless-requires : tie.Need-unless-requires
 unless-requires c κs = search needs
 
 returns : tie.Need-returns
 unfolding stopPlan
-returns c = rw (c .unless .ensures, c .before .roomy .ensures, c .before .before .move-plan .ensures, c .before .before .before .stopped-move .ensures, c .before .before .before .before .line-step .ensures, c .before .before .before .before .before .server-refusal .ensures)
+returns c =
+    let server-refusal = c .before .before .before .before .before .server-refusal in
+    let line-step = c .before .before .before .before .line-step in
+    let stopped-move = c .before .before .before .stopped-move in
+    rw (c .unless .ensures, c .before .if-places-left .ensures, c .before .before .move-plan .ensures, stopped-move .ensures, line-step .ensures, server-refusal .ensures)
 
 pub stop-plan-spec : {M : Type 1} → statement M
 stop-plan-spec =
@@ -34,6 +38,6 @@ stop-plan-spec =
     line-step-requires
     stopped-move-requires
     move-plan-requires
-    roomy-requires
+    if-places-left-requires
     unless-requires
     returns)

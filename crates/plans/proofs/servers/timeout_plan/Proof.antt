@@ -15,19 +15,24 @@ is-open-requires c κs = search needs
 line-step-requires : tie.Need-line-step-requires
 line-step-requires c κs = search needs
 
-timed-out-move-requires : tie.Need-timed-out-move-requires
-timed-out-move-requires c κs = search needs
+ceased-move-requires : tie.Need-ceased-move-requires
+ceased-move-requires c κs = search needs
 
 move-plan-requires : tie.Need-move-plan-requires
 move-plan-requires c κs = search needs
 
-roomy-requires : tie.Need-roomy-requires
-roomy-requires c κs = search needs
+if-places-left-requires : tie.Need-if-places-left-requires
+if-places-left-requires c κs = search needs
 
 returns : tie.Need-returns
 unfolding timeoutPlan
 returns c =
-    rw (timeoutPlan, unless-none _ _ _ (sym (c .before .before .before .before .before .before .before .server-refusal .ensures) ∙ c .before .before .before .before .before .before .if1 .taken), sym (c .before .before .before .before .before .is-open .ensures) ∙ c .before .before .before .before .if2 .taken, c .roomy .ensures, c .before .move-plan .ensures, c .before .before .timed-out-move .ensures, c .before .before .before .line-step .ensures)
+    let server-refusal = c .before .before .before .before .before .before .before .server-refusal in
+    let if1 = c .before .before .before .before .before .before .if1 in
+    let is-open = c .before .before .before .before .before .is-open in
+    let if2 = c .before .before .before .before .if2 in
+    let line-step = c .before .before .before .line-step in
+    rw (timeoutPlan, unless-none _ _ _ (sym (server-refusal .ensures) ∙ if1 .taken), sym (is-open .ensures) ∙ if2 .taken, c .if-places-left .ensures, c .before .move-plan .ensures, c .before .before .ceased-move .ensures, line-step .ensures)
 
 refused-plan-requires : tie.Need-refused-plan-requires
 refused-plan-requires c κs = search needs
@@ -35,7 +40,9 @@ refused-plan-requires c κs = search needs
 returns-2 : tie.Need-returns-2
 unfolding timeoutPlan
 returns-2 c =
-    rw (timeoutPlan, unless-none _ _ _ (sym (c .before .before .before .before .server-refusal .ensures) ∙ c .before .before .before .if1 .taken), sym (c .before .before .is-open .ensures) ∙ c .before .if2 .left) (c .refused-plan .ensures)
+    let server-refusal = c .before .before .before .before .server-refusal in
+    let if1 = c .before .before .before .if1 in
+    rw (timeoutPlan, unless-none _ _ _ (sym (server-refusal .ensures) ∙ if1 .taken), sym (c .before .before .is-open .ensures) ∙ c .before .if2 .left) (c .refused-plan .ensures)
 
 refused-plan-requires-2 : tie.Need-refused-plan-requires-2
 refused-plan-requires-2 c κs = search needs
@@ -51,9 +58,9 @@ timeout-plan-spec =
     server-refusal-requires
     is-open-requires
     line-step-requires
-    timed-out-move-requires
+    ceased-move-requires
     move-plan-requires
-    roomy-requires
+    if-places-left-requires
     returns
     refused-plan-requires
     returns-2

@@ -14,25 +14,39 @@ use Rattle.print.proofs.answer_text.put_answer.Tie as tie
 
 put-head-requires : tie.Need-put-head-requires
 unfolding bytes
-put-head-requires c κs = omega (arith, (rw (answer-text (c .before .before .args .a)) at (c .before .before .pre)), length-append (decimal (c .before .before .args .a .call) ++ ((bytes " " ++ (wordFor (c .before .before .args .a .outcome) ++ bytes " ")) ++ decimal (c .before .before .args .a .rounds))) ((dataOf (answerIn (c .before .before .args .a) .result)) ++ (bytes "\n")))
+put-head-requires c κs = omega (arith, (rw (answer-text (c .before .before .args .answer)) at (c .before .before .pre)), length-append (decimal (c .before .before .args .answer .call) ++ ((bytes " " ++ (wordFor (c .before .before .args .answer .word) ++ bytes " ")) ++ decimal (c .before .before .args .answer .rounds))) ((dataOf (answerIn (c .before .before .args .answer) .result)) ++ (bytes "\n")))
 
 put-data-requires : tie.Need-put-data-requires
 unfolding bytes
-put-data-requires c κs = omega (arith, fits-second (decimal (c .before .before .before .before .before .before .args .a .call) ++ ((bytes " " ++ (wordFor (c .before .before .before .before .before .before .args .a .outcome) ++ bytes " ")) ++ decimal (c .before .before .before .before .before .before .args .a .rounds))) ((dataOf (answerIn (c .before .before .before .before .before .before .args .a) .result)) ++ (bytes "\n")) ((rw (answer-text (c .before .before .before .before .before .before .args .a)) at (c .before .before .before .before .before .before .pre))) (c .before .before .before .put-head .ensures), length-append (dataOf (answerIn (c .before .before .before .before .before .before .args .a) .result)) (bytes "\n"))
+put-data-requires c κs =
+    let pre = c .before .before .before .before .before .before .pre in
+    let args = c .before .before .before .before .before .before .args in
+    let put-head = c .before .before .before .put-head in
+    omega (arith, fits-second (decimal (args .answer .call) ++ ((bytes " " ++ (wordFor (args .answer .word) ++ bytes " ")) ++ decimal (args .answer .rounds))) ((dataOf (answerIn (args .answer) .result)) ++ (bytes "\n")) ((rw (answer-text (args .answer)) at (pre))) (put-head .ensures), length-append (dataOf (answerIn (args .answer) .result)) (bytes "\n"))
 
 slice-aggregate-put-bytes : tie.Need-slice-aggregate-put-bytes
 slice-aggregate-put-bytes c = search needs
 
 put-bytes-requires : tie.Need-put-bytes-requires
 unfolding bytes
-put-bytes-requires c κs = fits-second (dataOf (answerIn (c .before .before .before .before .before .before .before .before .before .before .before .args .a) .result)) (bytes "\n") (fits-second (decimal (c .before .before .before .before .before .before .before .before .before .before .before .args .a .call) ++ ((bytes " " ++ (wordFor (c .before .before .before .before .before .before .before .before .before .before .before .args .a .outcome) ++ bytes " ")) ++ decimal (c .before .before .before .before .before .before .before .before .before .before .before .args .a .rounds))) ((dataOf (answerIn (c .before .before .before .before .before .before .before .before .before .before .before .args .a) .result)) ++ (bytes "\n")) ((rw (answer-text (c .before .before .before .before .before .before .before .before .before .before .before .args .a)) at (c .before .before .before .before .before .before .before .before .before .before .before .pre))) (c .before .before .before .before .before .before .before .before .put-head .ensures)) (c .before .before .before .before .put-data .ensures)
+put-bytes-requires c κs =
+    let pre = c .before .before .before .before .before .before .before .before .before .before .before .pre in
+    let args = c .before .before .before .before .before .before .before .before .before .before .before .args in
+    let put-head = c .before .before .before .before .before .before .before .before .put-head in
+    let put-data = c .before .before .before .before .put-data in
+    fits-second (dataOf (answerIn (args .answer) .result)) (bytes "\n") (fits-second (decimal (args .answer .call) ++ ((bytes " " ++ (wordFor (args .answer .word) ++ bytes " ")) ++ decimal (args .answer .rounds))) ((dataOf (answerIn (args .answer) .result)) ++ (bytes "\n")) ((rw (answer-text (args .answer)) at (pre))) (put-head .ensures)) (put-data .ensures)
 
 same-length : tie.Need-same-length
 same-length c = search needs
 
 returns : tie.Need-returns
 unfolding bytes
-returns c = rw (answer-text (c .before .before .before .before .before .before .before .before .before .before .before .before .before .before .args .a)) (both (decimal (c .before .before .before .before .before .before .before .before .before .before .before .before .before .before .args .a .call) ++ ((bytes " " ++ (wordFor (c .before .before .before .before .before .before .before .before .before .before .before .before .before .before .args .a .outcome) ++ bytes " ")) ++ decimal (c .before .before .before .before .before .before .before .before .before .before .before .before .before .before .args .a .rounds))) ((dataOf (answerIn (c .before .before .before .before .before .before .before .before .before .before .before .before .before .before .args .a) .result)) ++ (bytes "\n")) ((rw (answer-text (c .before .before .before .before .before .before .before .before .before .before .before .before .before .before .args .a)) at (c .before .before .before .before .before .before .before .before .before .before .before .before .before .before .pre))) (c .before .before .before .before .before .before .before .before .before .before .before .put-head .ensures) (both (dataOf (answerIn (c .before .before .before .before .before .before .before .before .before .before .before .before .before .before .args .a) .result)) (bytes "\n") (fits-second (decimal (c .before .before .before .before .before .before .before .before .before .before .before .before .before .before .args .a .call) ++ ((bytes " " ++ (wordFor (c .before .before .before .before .before .before .before .before .before .before .before .before .before .before .args .a .outcome) ++ bytes " ")) ++ decimal (c .before .before .before .before .before .before .before .before .before .before .before .before .before .before .args .a .rounds))) ((dataOf (answerIn (c .before .before .before .before .before .before .before .before .before .before .before .before .before .before .args .a) .result)) ++ (bytes "\n")) ((rw (answer-text (c .before .before .before .before .before .before .before .before .before .before .before .before .before .before .args .a)) at (c .before .before .before .before .before .before .before .before .before .before .before .before .before .before .pre))) (c .before .before .before .before .before .before .before .before .before .before .before .put-head .ensures)) (c .before .before .before .before .before .before .before .put-data .ensures) (c .before .before .put-bytes .ensures)))
+returns c =
+    let pre = c .before .before .before .before .before .before .before .before .before .before .before .before .before .before .pre in
+    let args = c .before .before .before .before .before .before .before .before .before .before .before .before .before .before .args in
+    let put-head = c .before .before .before .before .before .before .before .before .before .before .before .put-head in
+    let put-data = c .before .before .before .before .before .before .before .put-data in
+    rw (answer-text (args .answer)) (both (decimal (args .answer .call) ++ ((bytes " " ++ (wordFor (args .answer .word) ++ bytes " ")) ++ decimal (args .answer .rounds))) ((dataOf (answerIn (args .answer) .result)) ++ (bytes "\n")) ((rw (answer-text (args .answer)) at (pre))) (put-head .ensures) (both (dataOf (answerIn (args .answer) .result)) (bytes "\n") (fits-second (decimal (args .answer .call) ++ ((bytes " " ++ (wordFor (args .answer .word) ++ bytes " ")) ++ decimal (args .answer .rounds))) ((dataOf (answerIn (args .answer) .result)) ++ (bytes "\n")) ((rw (answer-text (args .answer)) at (pre))) (put-head .ensures)) (put-data .ensures) (c .before .before .put-bytes .ensures)))
 
 pub put-answer-spec : {M : Type 1} → statement M
 put-answer-spec =

@@ -12,13 +12,19 @@ enum-told : tie.Need-enum-told
 enum-told c = search needs
 
 put-value-requires : tie.Need-put-value-requires
-put-value-requires c κs = rw (data-value (c .before .before .before .before .before .args .a) (c .before .before .enum-told .given .1)) at (c .before .before .before .before .before .pre)
+put-value-requires c κs =
+    let pre = c .before .before .before .before .before .pre in
+    let args = c .before .before .before .before .before .args in
+    rw (data-value (args .answer) (c .before .before .enum-told .given .1)) at (pre)
 
 enum-told-2 : tie.Need-enum-told-2
 enum-told-2 c = search needs
 
 put-keys-requires : tie.Need-put-keys-requires
-put-keys-requires c κs = rw (data-keys (c .before .before .before .before .before .args .a) (c .before .before .enum-told2 .given .1)) at (c .before .before .before .before .before .pre)
+put-keys-requires c κs =
+    let pre = c .before .before .before .before .before .pre in
+    let args = c .before .before .before .before .before .args in
+    rw (data-keys (args .answer) (c .before .before .enum-told2 .given .1)) at (pre)
 
 enum-told-3 : tie.Need-enum-told-3
 enum-told-3 c = search needs
@@ -43,19 +49,28 @@ slice-aggregate-put-bytes c = search needs
 
 put-bytes-requires : tie.Need-put-bytes-requires
 unfolding bytes
-put-bytes-requires c κs = rw (data-absent (c .before .before .before .before .before .args .a) (c .before .before .enum-told8 .given .1)) at (c .before .before .before .before .before .pre)
+put-bytes-requires c κs =
+    let pre = c .before .before .before .before .before .pre in
+    let args = c .before .before .before .before .before .args in
+    rw (data-absent (args .answer) (c .before .before .enum-told8 .given .1)) at (pre)
 
 same-length : tie.Need-same-length
 same-length c = search needs
 
 returns : tie.Need-returns
-returns c = rw (data-value (c .before .before .before .before .before .before .before .before .args .a) (c .before .before .before .before .before .enum-told .given .1)) (c .before .before .put-value .ensures)
+returns c =
+    let args = c .before .before .before .before .before .before .before .before .args in
+    let enum-told = c .before .before .before .before .before .enum-told in
+    rw (data-value (args .answer) (enum-told .given .1)) (c .before .before .put-value .ensures)
 
 same-length-2 : tie.Need-same-length-2
 same-length-2 c = search needs
 
 returns-2 : tie.Need-returns-2
-returns-2 c = rw (data-keys (c .before .before .before .before .before .before .before .before .args .a) (c .before .before .before .before .before .enum-told2 .given .1)) (c .before .before .put-keys .ensures)
+returns-2 c =
+    let args = c .before .before .before .before .before .before .before .before .args in
+    let enum-told2 = c .before .before .before .before .before .enum-told2 in
+    rw (data-keys (args .answer) (enum-told2 .given .1)) (c .before .before .put-keys .ensures)
 
 returns-3 : tie.Need-returns-3
 unfolding answerIn resultFor dataOf
@@ -82,7 +97,10 @@ same-length-3 c = search needs
 
 returns-8 : tie.Need-returns-8
 unfolding bytes
-returns-8 c = rw (data-absent (c .before .before .before .before .before .before .before .before .args .a) (c .before .before .before .before .before .enum-told8 .given .1)) (c .before .before .put-bytes .ensures)
+returns-8 c =
+    let args = c .before .before .before .before .before .before .before .before .args in
+    let enum-told8 = c .before .before .before .before .before .enum-told8 in
+    rw (data-absent (args .answer) (enum-told8 .given .1)) (c .before .before .put-bytes .ensures)
 
 pub put-data-spec : {M : Type 1} → statement M
 put-data-spec =

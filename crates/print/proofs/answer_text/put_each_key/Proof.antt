@@ -17,16 +17,22 @@ key-count-requires : tie.Need-key-count-requires Inv-loop μ-loop
 key-count-requires c κs = search needs
 
 loop-holds : tie.Need-loop-holds Inv-loop μ-loop
-loop-holds c = each-starts keyList _ _ _ (rw (keys-whole (c .before .key-count .ensures)) (c .before .before .before .pre))
+loop-holds c =
+    let pre = c .before .before .before .pre in
+    each-starts keyList _ _ _ (rw (keys-whole (c .before .key-count .ensures)) (pre))
 
-mul-k : tie.Need-mul-k Inv-loop μ-loop
-mul-k c = search needs
+mul-key : tie.Need-mul-key Inv-loop μ-loop
+mul-key c = search needs
 
-array-copy-out-k : tie.Need-array-copy-out-k Inv-loop μ-loop
-array-copy-out-k c = search needs
+array-copy-out-key : tie.Need-array-copy-out-key Inv-loop μ-loop
+array-copy-out-key c = search needs
 
 put-key-requires : tie.Need-put-key-requires Inv-loop μ-loop
-put-key-requires c κs = each-fits (c .before .before .before .loop .inv) (next-key _ (c .before .before .before .before .before .before .before .args .list .keys) _ (c .before .before .loop-test .taken) (within (c .before .before .before .before .before .key-count .ensures)))
+put-key-requires c κs =
+    let args = c .before .before .before .before .before .before .before .args in
+    let key-count = c .before .before .before .before .before .key-count in
+    let loop = c .before .before .before .loop in
+    each-fits (loop .inv) (next-key _ (args .list .keys) _ (c .before .before .loop-test .taken) (within (key-count .ensures)))
 
 add-i : tie.Need-add-i Inv-loop μ-loop
 add-i c = search needs
@@ -35,13 +41,20 @@ loop-less : tie.Need-loop-less Inv-loop μ-loop
 loop-less c = search needs
 
 loop-again : tie.Need-loop-again Inv-loop μ-loop
-loop-again c = each-goes-on (c .before .before .before .before .before .before .loop .inv) (rw (length-keys _ _ (within (c .before .before .before .before .before .before .before .before .key-count .ensures))) (c .before .before .before .before .before .loop-test .taken)) (next-key _ (c .before .before .before .before .before .before .before .before .before .before .args .list .keys) _ (c .before .before .before .before .before .loop-test .taken) (within (c .before .before .before .before .before .before .before .before .key-count .ensures))) (c .before .before .put-key .ensures)
+loop-again c =
+    let args = c .before .before .before .before .before .before .before .before .before .before .args in
+    let key-count = c .before .before .before .before .before .before .before .before .key-count in
+    let loop = c .before .before .before .before .before .before .loop in
+    let loop-test = c .before .before .before .before .before .loop-test in
+    each-goes-on (loop .inv) (rw (length-keys _ _ (within (key-count .ensures))) (loop-test .taken)) (next-key _ (args .list .keys) _ (loop-test .taken) (within (key-count .ensures))) (c .before .before .put-key .ensures)
 
 same-length : tie.Need-same-length Inv-loop μ-loop
 same-length c = each-size (c .before .loop .inv)
 
 returns : tie.Need-returns Inv-loop μ-loop
-returns c = rw (keys-whole (c .before .before .before .key-count .ensures)) at (each-ends (c .before .loop .inv) keys-end (rw (length-keys _ _ (within (c .before .before .before .key-count .ensures))) (c .loop-test .left)))
+returns c =
+    let key-count = c .before .before .before .key-count in
+    rw (keys-whole (key-count .ensures)) at (each-ends (c .before .loop .inv) keys-end (rw (length-keys _ _ (within (key-count .ensures))) (c .loop-test .left)))
 
 pub put-each-key-spec : {M : Type 1} → statement M
 put-each-key-spec =
@@ -51,8 +64,8 @@ put-each-key-spec =
     μ-loop
     key-count-requires
     loop-holds
-    mul-k
-    array-copy-out-k
+    mul-key
+    array-copy-out-key
     put-key-requires
     add-i
     loop-less

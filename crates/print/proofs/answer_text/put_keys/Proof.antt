@@ -14,23 +14,34 @@ slice-aggregate-put-bytes c = search needs
 
 put-bytes-requires : tie.Need-put-bytes-requires
 unfolding bytes
-put-bytes-requires c κs = rw (keys-none _ (sym (c .before .before .before .key-count .ensures .is) ∙ c .before .before .if1 .taken)) at (c .before .before .before .before .before .pre)
+put-bytes-requires c κs =
+    let pre = c .before .before .before .before .before .pre in
+    let key-count = c .before .before .before .key-count in
+    rw (keys-none _ (sym (key-count .ensures .is) ∙ c .before .before .if1 .taken)) at (pre)
 
 same-length : tie.Need-same-length
 same-length c = search needs
 
 returns : tie.Need-returns
 unfolding bytes
-returns c = rw (keys-none _ (sym (c .before .before .before .before .before .before .key-count .ensures .is) ∙ c .before .before .before .before .before .if1 .taken)) (c .before .before .put-bytes .ensures)
+returns c =
+    let key-count = c .before .before .before .before .before .before .key-count in
+    let if1 = c .before .before .before .before .before .if1 in
+    rw (keys-none _ (sym (key-count .ensures .is) ∙ if1 .taken)) (c .before .before .put-bytes .ensures)
 
 put-each-key-requires : tie.Need-put-each-key-requires
-put-each-key-requires c κs = rw (keys-some _ (λ e. c .before .if1 .left (c .before .before .key-count .ensures .is ∙ e))) at (c .before .before .before .before .pre)
+put-each-key-requires c κs =
+    let pre = c .before .before .before .before .pre in
+    rw (keys-some _ (λ e. c .before .if1 .left (c .before .before .key-count .ensures .is ∙ e))) at (pre)
 
 same-length-2 : tie.Need-same-length-2
 same-length-2 c = search needs
 
 returns-2 : tie.Need-returns-2
-returns-2 c = rw (keys-some _ (λ e. c .before .before .before .before .if1 .left (c .before .before .before .before .before .key-count .ensures .is ∙ e))) (c .before .before .put-each-key .ensures)
+returns-2 c =
+    let key-count = c .before .before .before .before .before .key-count in
+    let if1 = c .before .before .before .before .if1 in
+    rw (keys-some _ (λ e. if1 .left (key-count .ensures .is ∙ e))) (c .before .before .put-each-key .ensures)
 
 pub put-keys-spec : {M : Type 1} → statement M
 put-keys-spec =

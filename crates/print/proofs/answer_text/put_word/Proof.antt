@@ -14,7 +14,9 @@ slice-aggregate-put-bytes c = search needs
 
 put-bytes-requires : tie.Need-put-bytes-requires
 unfolding bytes wordOf resultFor wordFor
-put-bytes-requires c κs = rw (c .before .before .enum-told .given .1) at (c .before .before .before .before .before .pre)
+put-bytes-requires c κs =
+    let pre = c .before .before .before .before .before .pre in
+    rw (c .before .before .enum-told .given .1) at (pre)
 
 enum-told-2 : tie.Need-enum-told-2
 enum-told-2 c = search needs
@@ -24,7 +26,9 @@ slice-aggregate-put-bytes-2 c = search needs
 
 put-bytes-requires-2 : tie.Need-put-bytes-requires-2
 unfolding bytes wordOf resultFor wordFor
-put-bytes-requires-2 c κs = rw (c .before .before .enum-told2 .given .1) at (c .before .before .before .before .before .pre)
+put-bytes-requires-2 c κs =
+    let pre = c .before .before .before .before .before .pre in
+    rw (c .before .before .enum-told2 .given .1) at (pre)
 
 enum-told-3 : tie.Need-enum-told-3
 enum-told-3 c = search needs
@@ -34,7 +38,9 @@ slice-aggregate-put-bytes-3 c = search needs
 
 put-bytes-requires-3 : tie.Need-put-bytes-requires-3
 unfolding bytes wordOf resultFor wordFor
-put-bytes-requires-3 c κs = rw (c .before .before .enum-told3 .given .1) at (c .before .before .before .before .before .pre)
+put-bytes-requires-3 c κs =
+    let pre = c .before .before .before .before .before .pre in
+    rw (c .before .before .enum-told3 .given .1) at (pre)
 
 enum-told-4 : tie.Need-enum-told-4
 enum-told-4 c = search needs
@@ -44,7 +50,9 @@ slice-aggregate-put-bytes-4 c = search needs
 
 put-bytes-requires-4 : tie.Need-put-bytes-requires-4
 unfolding bytes wordOf resultFor wordFor
-put-bytes-requires-4 c κs = rw (c .before .before .enum-told4 .given .1) at (c .before .before .before .before .before .pre)
+put-bytes-requires-4 c κs =
+    let pre = c .before .before .before .before .before .pre in
+    rw (c .before .before .enum-told4 .given .1) at (pre)
 
 enum-told-5 : tie.Need-enum-told-5
 enum-told-5 c = search needs
@@ -54,7 +62,9 @@ slice-aggregate-put-bytes-5 c = search needs
 
 put-bytes-requires-5 : tie.Need-put-bytes-requires-5
 unfolding bytes wordOf resultFor wordFor
-put-bytes-requires-5 c κs = rw (c .before .before .enum-told5 .given .1) at (c .before .before .before .before .before .pre)
+put-bytes-requires-5 c κs =
+    let pre = c .before .before .before .before .before .pre in
+    rw (c .before .before .enum-told5 .given .1) at (pre)
 
 enum-told-6 : tie.Need-enum-told-6
 enum-told-6 c = search needs
@@ -64,7 +74,9 @@ slice-aggregate-put-bytes-6 c = search needs
 
 put-bytes-requires-6 : tie.Need-put-bytes-requires-6
 unfolding bytes wordOf resultFor wordFor
-put-bytes-requires-6 c κs = rw (c .before .before .enum-told6 .given .1) at (c .before .before .before .before .before .pre)
+put-bytes-requires-6 c κs =
+    let pre = c .before .before .before .before .before .pre in
+    rw (c .before .before .enum-told6 .given .1) at (pre)
 
 enum-told-7 : tie.Need-enum-told-7
 enum-told-7 c = search needs
@@ -74,7 +86,9 @@ slice-aggregate-put-bytes-7 c = search needs
 
 put-bytes-requires-7 : tie.Need-put-bytes-requires-7
 unfolding bytes wordOf resultFor wordFor
-put-bytes-requires-7 c κs = rw (c .before .before .enum-told7 .given .1) at (c .before .before .before .before .before .pre)
+put-bytes-requires-7 c κs =
+    let pre = c .before .before .before .before .before .pre in
+    rw (c .before .before .enum-told7 .given .1) at (pre)
 
 enum-told-8 : tie.Need-enum-told-8
 enum-told-8 c = search needs
@@ -84,63 +98,81 @@ slice-aggregate-put-bytes-8 c = search needs
 
 put-bytes-requires-8 : tie.Need-put-bytes-requires-8
 unfolding bytes wordOf resultFor wordFor
-put-bytes-requires-8 c κs = rw (c .before .before .enum-told8 .given .1) at (c .before .before .before .before .before .pre)
+put-bytes-requires-8 c κs =
+    let pre = c .before .before .before .before .before .pre in
+    rw (c .before .before .enum-told8 .given .1) at (pre)
 
 same-length : tie.Need-same-length
 same-length c = search needs
 
 returns : tie.Need-returns
 unfolding bytes wordOf resultFor wordFor
-returns c = rw (c .before .before .before .before .before .enum-told .given .1) (c .before .before .put-bytes .ensures)
+returns c =
+    let enum-told = c .before .before .before .before .before .enum-told in
+    rw (enum-told .given .1) (c .before .before .put-bytes .ensures)
 
 same-length-2 : tie.Need-same-length-2
 same-length-2 c = search needs
 
 returns-2 : tie.Need-returns-2
 unfolding bytes wordOf resultFor wordFor
-returns-2 c = rw (c .before .before .before .before .before .enum-told2 .given .1) (c .before .before .put-bytes2 .ensures)
+returns-2 c =
+    let enum-told2 = c .before .before .before .before .before .enum-told2 in
+    rw (enum-told2 .given .1) (c .before .before .put-bytes2 .ensures)
 
 same-length-3 : tie.Need-same-length-3
 same-length-3 c = search needs
 
 returns-3 : tie.Need-returns-3
 unfolding bytes wordOf resultFor wordFor
-returns-3 c = rw (c .before .before .before .before .before .enum-told3 .given .1) (c .before .before .put-bytes3 .ensures)
+returns-3 c =
+    let enum-told3 = c .before .before .before .before .before .enum-told3 in
+    rw (enum-told3 .given .1) (c .before .before .put-bytes3 .ensures)
 
 same-length-4 : tie.Need-same-length-4
 same-length-4 c = search needs
 
 returns-4 : tie.Need-returns-4
 unfolding bytes wordOf resultFor wordFor
-returns-4 c = rw (c .before .before .before .before .before .enum-told4 .given .1) (c .before .before .put-bytes4 .ensures)
+returns-4 c =
+    let enum-told4 = c .before .before .before .before .before .enum-told4 in
+    rw (enum-told4 .given .1) (c .before .before .put-bytes4 .ensures)
 
 same-length-5 : tie.Need-same-length-5
 same-length-5 c = search needs
 
 returns-5 : tie.Need-returns-5
 unfolding bytes wordOf resultFor wordFor
-returns-5 c = rw (c .before .before .before .before .before .enum-told5 .given .1) (c .before .before .put-bytes5 .ensures)
+returns-5 c =
+    let enum-told5 = c .before .before .before .before .before .enum-told5 in
+    rw (enum-told5 .given .1) (c .before .before .put-bytes5 .ensures)
 
 same-length-6 : tie.Need-same-length-6
 same-length-6 c = search needs
 
 returns-6 : tie.Need-returns-6
 unfolding bytes wordOf resultFor wordFor
-returns-6 c = rw (c .before .before .before .before .before .enum-told6 .given .1) (c .before .before .put-bytes6 .ensures)
+returns-6 c =
+    let enum-told6 = c .before .before .before .before .before .enum-told6 in
+    rw (enum-told6 .given .1) (c .before .before .put-bytes6 .ensures)
 
 same-length-7 : tie.Need-same-length-7
 same-length-7 c = search needs
 
 returns-7 : tie.Need-returns-7
 unfolding bytes wordOf resultFor wordFor
-returns-7 c = rw (c .before .before .before .before .before .enum-told7 .given .1) (c .before .before .put-bytes7 .ensures)
+returns-7 c =
+    let enum-told7 = c .before .before .before .before .before .enum-told7 in
+    rw (enum-told7 .given .1) (c .before .before .put-bytes7 .ensures)
 
 same-length-8 : tie.Need-same-length-8
 same-length-8 c = search needs
 
 returns-8 : tie.Need-returns-8
 unfolding bytes wordOf resultFor wordFor
-returns-8 c = rw (c .before .before .before .before .before .enum-told8 .given .1) (c .before .before .put-bytes8 .ensures)
+returns-8 c =
+    let enum-told8 = c .before .before .before .before .before .enum-told8 in
+    rw (enum-told8 .given .1) (c .before .before .put-bytes8 .ensures)
 
 pub put-word-spec : {M : Type 1} → statement M
 put-word-spec =

@@ -21,10 +21,14 @@ shared-slice-read-out : tie.Need-shared-slice-read-out Inv-loop μ-loop
 shared-slice-read-out c = search needs
 
 slice-write-out : tie.Need-slice-write-out Inv-loop μ-loop
-slice-write-out c = omega (arith, each-fits (c .before .before .loop .inv) (next-byte (c .before .before .before .args .text .now) (c .before .before .loop .i) (c .before .loop-test .taken)))
+slice-write-out c =
+    let args = c .before .before .before .args in
+    omega (arith, each-fits (c .before .before .loop .inv) (next-byte (args .text .now) (c .before .before .loop .i) (c .before .loop-test .taken)))
 
-add-p : tie.Need-add-p Inv-loop μ-loop
-add-p c = omega (arith, each-fits (c .before .before .loop .inv) (next-byte (c .before .before .before .args .text .now) (c .before .before .loop .i) (c .before .loop-test .taken)))
+add-end : tie.Need-add-end Inv-loop μ-loop
+add-end c =
+    let args = c .before .before .before .args in
+    omega (arith, each-fits (c .before .before .loop .inv) (next-byte (args .text .now) (c .before .before .loop .i) (c .before .loop-test .taken)))
 
 add-i : tie.Need-add-i Inv-loop μ-loop
 add-i c = search needs
@@ -33,7 +37,9 @@ loop-less : tie.Need-loop-less Inv-loop μ-loop
 loop-less c = search needs
 
 loop-again : tie.Need-loop-again Inv-loop μ-loop
-loop-again c = each-goes-on (c .before .before .loop .inv) (c .before .loop-test .taken) (next-byte (c .before .before .before .args .text .now) (c .before .before .loop .i) (c .before .loop-test .taken)) (printed-byte _ _ _ (omega (arith, each-fits (c .before .before .loop .inv) (next-byte (c .before .before .before .args .text .now) (c .before .before .loop .i) (c .before .loop-test .taken)))))
+loop-again c =
+    let args = c .before .before .before .args in
+    each-goes-on (c .before .before .loop .inv) (c .before .loop-test .taken) (next-byte (args .text .now) (c .before .before .loop .i) (c .before .loop-test .taken)) (printed-byte _ _ _ (omega (arith, each-fits (c .before .before .loop .inv) (next-byte (args .text .now) (c .before .before .loop .i) (c .before .loop-test .taken)))))
 
 same-length : tie.Need-same-length Inv-loop μ-loop
 same-length c = each-size (c .before .loop .inv)
@@ -50,7 +56,7 @@ put-bytes-spec =
     loop-holds
     shared-slice-read-out
     slice-write-out
-    add-p
+    add-end
     add-i
     loop-less
     loop-again

@@ -15,16 +15,23 @@ part-put-bytes-start : tie.Need-part-put-bytes-start
 part-put-bytes-start c = search needs
 
 part-put-bytes-end : tie.Need-part-put-bytes-end
-part-put-bytes-end c = omega (arith, c .before .before .before .figures-of .ensures .ten)
+part-put-bytes-end c =
+    let figures-of = c .before .before .before .figures-of in
+    omega (arith, figures-of .ensures .ten)
 
 put-bytes-requires : tie.Need-put-bytes-requires
-put-bytes-requires c κs = rw (figures-whole (c .before .before .before .before .figures-of .ensures)) (c .before .before .before .before .before .before .pre)
+put-bytes-requires c κs =
+    let pre = c .before .before .before .before .before .before .pre in
+    let figures-of = c .before .before .before .before .figures-of in
+    rw (figures-whole (figures-of .ensures)) (pre)
 
 same-length : tie.Need-same-length
 same-length c = search needs
 
 returns : tie.Need-returns
-returns c = rw (figures-whole (c .before .before .before .before .before .before .before .figures-of .ensures)) at (c .before .before .put-bytes .ensures)
+returns c =
+    let figures-of = c .before .before .before .before .before .before .before .figures-of in
+    rw (figures-whole (figures-of .ensures)) at (c .before .before .put-bytes .ensures)
 
 pub put-decimal-spec : {M : Type 1} → statement M
 put-decimal-spec =

@@ -20,24 +20,43 @@ slice-aggregate-put-bytes c = search needs
 
 put-bytes-requires : tie.Need-put-bytes-requires
 unfolding bytes
-put-bytes-requires c κs = omega (arith, c .before .before .before .before .before .pre, length-append (bytes " ") (hexPairs (keyBytes (c .before .before .before .before .before .args .k))))
+put-bytes-requires c κs =
+    let pre = c .before .before .before .before .before .pre in
+    let args = c .before .before .before .before .before .args in
+    omega (arith, pre, length-append (bytes " ") (hexPairs (keyBytes (args .key))))
 
-array-share-prefix-b : tie.Need-array-share-prefix-b
-array-share-prefix-b c = key-within (c .before .before .before .before .before .before .before .before .before .args .k) (c .before .before .before .before .before .before .before .key-length .ensures)
+array-share-prefix-bytes : tie.Need-array-share-prefix-bytes
+array-share-prefix-bytes c =
+    let args = c .before .before .before .before .before .before .before .before .before .args in
+    let key-length = c .before .before .before .before .before .before .before .key-length in
+    key-within (args .key) (key-length .ensures)
 
 slice-aggregate-put-pairs : tie.Need-slice-aggregate-put-pairs
-slice-aggregate-put-pairs c = sym (length-take-le _ _ (key-within (c .before .before .before .before .before .before .before .before .before .before .args .k) (c .before .before .before .before .before .before .before .before .key-length .ensures)))
+slice-aggregate-put-pairs c =
+    let args = c .before .before .before .before .before .before .before .before .before .before .args in
+    let key-length = c .before .before .before .before .before .before .before .before .key-length in
+    sym (length-take-le _ _ (key-within (args .key) (key-length .ensures)))
 
 put-pairs-requires : tie.Need-put-pairs-requires
 unfolding bytes
-put-pairs-requires c κs = rw (key-whole (c .before .before .before .before .before .before .before .before .before .before .args .k) (c .before .before .before .before .before .before .before .before .key-length .ensures)) (fits-second (bytes " ") (hexPairs (keyBytes (c .before .before .before .before .before .before .before .before .before .before .args .k))) (c .before .before .before .before .before .before .before .before .before .before .pre) (c .before .before .before .before .put-bytes .ensures))
+put-pairs-requires c κs =
+    let pre = c .before .before .before .before .before .before .before .before .before .before .pre in
+    let args = c .before .before .before .before .before .before .before .before .before .before .args in
+    let key-length = c .before .before .before .before .before .before .before .before .key-length in
+    let put-bytes = c .before .before .before .before .put-bytes in
+    rw (key-whole (args .key) (key-length .ensures)) (fits-second (bytes " ") (hexPairs (keyBytes (args .key))) (pre) (put-bytes .ensures))
 
 same-length : tie.Need-same-length
 same-length c = search needs
 
 returns : tie.Need-returns
 unfolding bytes
-returns c = both (bytes " ") (hexPairs (keyBytes (c .before .before .before .before .before .before .before .before .before .before .before .before .before .args .k))) (c .before .before .before .before .before .before .before .before .before .before .before .before .before .pre) (c .before .before .before .before .before .before .before .put-bytes .ensures) (rw (key-whole (c .before .before .before .before .before .before .before .before .before .before .before .before .before .args .k) (c .before .before .before .before .before .before .before .before .before .before .before .key-length .ensures)) at (c .before .before .put-pairs .ensures))
+returns c =
+    let pre = c .before .before .before .before .before .before .before .before .before .before .before .before .before .pre in
+    let args = c .before .before .before .before .before .before .before .before .before .before .before .before .before .args in
+    let key-length = c .before .before .before .before .before .before .before .before .before .before .before .key-length in
+    let put-bytes = c .before .before .before .before .before .before .before .put-bytes in
+    both (bytes " ") (hexPairs (keyBytes (args .key))) (pre) (put-bytes .ensures) (rw (key-whole (args .key) (key-length .ensures)) at (c .before .before .put-pairs .ensures))
 
 pub put-key-spec : {M : Type 1} → statement M
 put-key-spec =
@@ -46,7 +65,7 @@ put-key-spec =
     key-length-requires
     slice-aggregate-put-bytes
     put-bytes-requires
-    array-share-prefix-b
+    array-share-prefix-bytes
     slice-aggregate-put-pairs
     put-pairs-requires
     same-length

@@ -17,26 +17,41 @@ abbrev μ-loop : tie.MeasureT-loop
 loop-holds : tie.Need-loop-holds Inv-loop μ-loop
 loop-holds c = each-starts hexPairs _ _ _ (c .before .before .pre)
 
-shared-slice-read-b : tie.Need-shared-slice-read-b Inv-loop μ-loop
-shared-slice-read-b c = search needs
+shared-slice-read-byte : tie.Need-shared-slice-read-byte Inv-loop μ-loop
+shared-slice-read-byte c = search needs
 
 hex-digit-requires : tie.Need-hex-digit-requires Inv-loop μ-loop
 hex-digit-requires c κs = omega (arith, c .shared-slice-known2 .given (c .before .before .loop .i))
 
 slice-write-out : tie.Need-slice-write-out Inv-loop μ-loop
-slice-write-out c = omega (arith, each-fits (c .before .before .before .loop .inv) (next-pair (c .before .before .before .before .before .before .args .bytes .now) (c .before .before .before .loop .i) (c .before .before .loop-test .taken)))
+slice-write-out c =
+    let args = c .before .before .before .before .before .before .args in
+    let loop = c .before .before .before .loop in
+    omega (arith, each-fits (loop .inv) (next-pair (args .bytes .now) (loop .i) (c .before .before .loop-test .taken)))
 
 hex-digit-requires-2 : tie.Need-hex-digit-requires-2 Inv-loop μ-loop
 hex-digit-requires-2 c κs = omega arith
 
 add-out : tie.Need-add-out Inv-loop μ-loop
-add-out c = omega (arith, each-fits (c .before .before .before .before .loop .inv) (next-pair (c .before .before .before .before .before .before .before .args .bytes .now) (c .before .before .before .before .loop .i) (c .before .before .before .loop-test .taken)))
+add-out c =
+    let args = c .before .before .before .before .before .before .before .args in
+    let loop = c .before .before .before .before .loop in
+    let loop-test = c .before .before .before .loop-test in
+    omega (arith, each-fits (loop .inv) (next-pair (args .bytes .now) (loop .i) (loop-test .taken)))
 
 slice-write-out-2 : tie.Need-slice-write-out-2 Inv-loop μ-loop
-slice-write-out-2 c = simp length-set (omega (arith, each-fits (c .before .before .before .before .loop .inv) (next-pair (c .before .before .before .before .before .before .before .args .bytes .now) (c .before .before .before .before .loop .i) (c .before .before .before .loop-test .taken))))
+slice-write-out-2 c =
+    let args = c .before .before .before .before .before .before .before .args in
+    let loop = c .before .before .before .before .loop in
+    let loop-test = c .before .before .before .loop-test in
+    simp length-set (omega (arith, each-fits (loop .inv) (next-pair (args .bytes .now) (loop .i) (loop-test .taken))))
 
-add-p : tie.Need-add-p Inv-loop μ-loop
-add-p c = omega (arith, each-fits (c .before .before .before .before .loop .inv) (next-pair (c .before .before .before .before .before .before .before .args .bytes .now) (c .before .before .before .before .loop .i) (c .before .before .before .loop-test .taken)))
+add-end : tie.Need-add-end Inv-loop μ-loop
+add-end c =
+    let args = c .before .before .before .before .before .before .before .args in
+    let loop = c .before .before .before .before .loop in
+    let loop-test = c .before .before .before .loop-test in
+    omega (arith, each-fits (loop .inv) (next-pair (args .bytes .now) (loop .i) (loop-test .taken)))
 
 add-i : tie.Need-add-i Inv-loop μ-loop
 add-i c = search needs
@@ -45,7 +60,11 @@ loop-less : tie.Need-loop-less Inv-loop μ-loop
 loop-less c = search needs
 
 loop-again : tie.Need-loop-again Inv-loop μ-loop
-loop-again c = rw (c .before .hex-digit .ensures, c .hex-digit2 .ensures) (each-goes-on (c .before .before .before .before .loop .inv) (c .before .before .before .loop-test .taken) (next-pair (c .before .before .before .before .before .before .before .args .bytes .now) (c .before .before .before .before .loop .i) (c .before .before .before .loop-test .taken)) (printed-two _ _ _ _ (each-fits (c .before .before .before .before .loop .inv) (next-pair (c .before .before .before .before .before .before .before .args .bytes .now) (c .before .before .before .before .loop .i) (c .before .before .before .loop-test .taken)))))
+loop-again c =
+    let args = c .before .before .before .before .before .before .before .args in
+    let loop = c .before .before .before .before .loop in
+    let loop-test = c .before .before .before .loop-test in
+    rw (c .before .hex-digit .ensures, c .hex-digit2 .ensures) (each-goes-on (loop .inv) (loop-test .taken) (next-pair (args .bytes .now) (loop .i) (loop-test .taken)) (printed-two _ _ _ _ (each-fits (loop .inv) (next-pair (args .bytes .now) (loop .i) (loop-test .taken)))))
 
 same-length : tie.Need-same-length Inv-loop μ-loop
 same-length c = each-size (c .before .loop .inv)
@@ -60,13 +79,13 @@ put-pairs-spec =
     Inv-loop
     μ-loop
     loop-holds
-    shared-slice-read-b
+    shared-slice-read-byte
     hex-digit-requires
     slice-write-out
     hex-digit-requires-2
     add-out
     slice-write-out-2
-    add-p
+    add-end
     add-i
     loop-less
     loop-again

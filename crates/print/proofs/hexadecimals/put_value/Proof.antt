@@ -21,24 +21,43 @@ slice-aggregate-put-bytes c = search needs
 
 put-bytes-requires : tie.Need-put-bytes-requires
 unfolding bytes
-put-bytes-requires c κs = omega (arith, c .before .before .before .before .before .pre, length-append (bytes " ") (valueText (some (valueBytes (c .before .before .before .before .before .args .v)))))
+put-bytes-requires c κs =
+    let pre = c .before .before .before .before .before .pre in
+    let args = c .before .before .before .before .before .args in
+    omega (arith, pre, length-append (bytes " ") (valueText (some (valueBytes (args .value)))))
 
-array-share-prefix-b : tie.Need-array-share-prefix-b
-array-share-prefix-b c = value-within (c .before .before .before .before .before .before .before .before .before .args .v) (c .before .before .before .before .before .before .before .value-length .ensures)
+array-share-prefix-bytes : tie.Need-array-share-prefix-bytes
+array-share-prefix-bytes c =
+    let args = c .before .before .before .before .before .before .before .before .before .args in
+    let value-length = c .before .before .before .before .before .before .before .value-length in
+    value-within (args .value) (value-length .ensures)
 
 slice-aggregate-put-there : tie.Need-slice-aggregate-put-there
-slice-aggregate-put-there c = sym (length-take-le _ _ (value-within (c .before .before .before .before .before .before .before .before .before .before .args .v) (c .before .before .before .before .before .before .before .before .value-length .ensures)))
+slice-aggregate-put-there c =
+    let args = c .before .before .before .before .before .before .before .before .before .before .args in
+    let value-length = c .before .before .before .before .before .before .before .before .value-length in
+    sym (length-take-le _ _ (value-within (args .value) (value-length .ensures)))
 
 put-there-requires : tie.Need-put-there-requires
 unfolding bytes
-put-there-requires c κs = rw (value-whole (c .before .before .before .before .before .before .before .before .before .before .args .v) (c .before .before .before .before .before .before .before .before .value-length .ensures)) (fits-second (bytes " ") (valueText (some (valueBytes (c .before .before .before .before .before .before .before .before .before .before .args .v)))) (c .before .before .before .before .before .before .before .before .before .before .pre) (c .before .before .before .before .put-bytes .ensures))
+put-there-requires c κs =
+    let pre = c .before .before .before .before .before .before .before .before .before .before .pre in
+    let args = c .before .before .before .before .before .before .before .before .before .before .args in
+    let value-length = c .before .before .before .before .before .before .before .before .value-length in
+    let put-bytes = c .before .before .before .before .put-bytes in
+    rw (value-whole (args .value) (value-length .ensures)) (fits-second (bytes " ") (valueText (some (valueBytes (args .value)))) (pre) (put-bytes .ensures))
 
 same-length : tie.Need-same-length
 same-length c = search needs
 
 returns : tie.Need-returns
 unfolding bytes
-returns c = both (bytes " ") (valueText (some (valueBytes (c .before .before .before .before .before .before .before .before .before .before .before .before .before .args .v)))) (c .before .before .before .before .before .before .before .before .before .before .before .before .before .pre) (c .before .before .before .before .before .before .before .put-bytes .ensures) (rw (value-whole (c .before .before .before .before .before .before .before .before .before .before .before .before .before .args .v) (c .before .before .before .before .before .before .before .before .before .before .before .value-length .ensures)) at (c .before .before .put-there .ensures))
+returns c =
+    let pre = c .before .before .before .before .before .before .before .before .before .before .before .before .before .pre in
+    let args = c .before .before .before .before .before .before .before .before .before .before .before .before .before .args in
+    let value-length = c .before .before .before .before .before .before .before .before .before .before .before .value-length in
+    let put-bytes = c .before .before .before .before .before .before .before .put-bytes in
+    both (bytes " ") (valueText (some (valueBytes (args .value)))) (pre) (put-bytes .ensures) (rw (value-whole (args .value) (value-length .ensures)) at (c .before .before .put-there .ensures))
 
 pub put-value-spec : {M : Type 1} → statement M
 put-value-spec =
@@ -47,7 +66,7 @@ put-value-spec =
     value-length-requires
     slice-aggregate-put-bytes
     put-bytes-requires
-    array-share-prefix-b
+    array-share-prefix-bytes
     slice-aggregate-put-there
     put-there-requires
     same-length

@@ -11,21 +11,32 @@ use Rattle.print.proofs.other_lines.put_last.Tie as tie
 
 put-number-requires : tie.Need-put-number-requires
 unfolding bytes
-put-number-requires c κs = omega (arith, c .before .before .before .pre, length-append (c .before .before .before .args .text .now ++ decimal (c .before .before .before .args .n)) (bytes "\n"))
+put-number-requires c κs =
+    let pre = c .before .before .before .pre in
+    let args = c .before .before .before .args in
+    omega (arith, pre, length-append (args .text .now ++ decimal (args .number)) (bytes "\n"))
 
 slice-aggregate-put-bytes : tie.Need-slice-aggregate-put-bytes
 slice-aggregate-put-bytes c = search needs
 
 put-bytes-requires : tie.Need-put-bytes-requires
 unfolding bytes
-put-bytes-requires c κs = fits-second (c .before .before .before .before .before .before .before .before .args .text .now ++ decimal (c .before .before .before .before .before .before .before .before .args .n)) (bytes "\n") (c .before .before .before .before .before .before .before .before .pre) (c .before .before .before .before .put-number .ensures)
+put-bytes-requires c κs =
+    let pre = c .before .before .before .before .before .before .before .before .pre in
+    let args = c .before .before .before .before .before .before .before .before .args in
+    let put-number = c .before .before .before .before .put-number in
+    fits-second (args .text .now ++ decimal (args .number)) (bytes "\n") (pre) (put-number .ensures)
 
 same-length : tie.Need-same-length
 same-length c = search needs
 
 returns : tie.Need-returns
 unfolding bytes
-returns c = both (c .before .before .before .before .before .before .before .before .before .before .before .args .text .now ++ decimal (c .before .before .before .before .before .before .before .before .before .before .before .args .n)) (bytes "\n") (c .before .before .before .before .before .before .before .before .before .before .before .pre) (c .before .before .before .before .before .before .before .put-number .ensures) (c .before .before .put-bytes .ensures)
+returns c =
+    let pre = c .before .before .before .before .before .before .before .before .before .before .before .pre in
+    let args = c .before .before .before .before .before .before .before .before .before .before .before .args in
+    let put-number = c .before .before .before .before .before .before .before .put-number in
+    both (args .text .now ++ decimal (args .number)) (bytes "\n") (pre) (put-number .ensures) (c .before .before .put-bytes .ensures)
 
 pub put-last-spec : {M : Type 1} → statement M
 put-last-spec =

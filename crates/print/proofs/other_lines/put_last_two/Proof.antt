@@ -14,21 +14,32 @@ slice-aggregate-put-number c = search needs
 
 put-number-requires : tie.Need-put-number-requires
 unfolding bytes
-put-number-requires c κs = omega (arith, c .before .before .before .pre, length-append (bytes " " ++ decimal (c .before .before .before .args .n)) ((bytes " " ++ decimal (c .before .before .before .args .m)) ++ bytes "\n"))
+put-number-requires c κs =
+    let pre = c .before .before .before .pre in
+    let args = c .before .before .before .args in
+    omega (arith, pre, length-append (bytes " " ++ decimal (args .first)) ((bytes " " ++ decimal (args .second)) ++ bytes "\n"))
 
 slice-aggregate-put-last : tie.Need-slice-aggregate-put-last
 slice-aggregate-put-last c = search needs
 
 put-last-requires : tie.Need-put-last-requires
 unfolding bytes
-put-last-requires c κs = fits-second (bytes " " ++ decimal (c .before .before .before .before .before .before .before .before .args .n)) ((bytes " " ++ decimal (c .before .before .before .before .before .before .before .before .args .m)) ++ bytes "\n") (c .before .before .before .before .before .before .before .before .pre) (c .before .before .before .before .put-number .ensures)
+put-last-requires c κs =
+    let pre = c .before .before .before .before .before .before .before .before .pre in
+    let args = c .before .before .before .before .before .before .before .before .args in
+    let put-number = c .before .before .before .before .put-number in
+    fits-second (bytes " " ++ decimal (args .first)) ((bytes " " ++ decimal (args .second)) ++ bytes "\n") (pre) (put-number .ensures)
 
 same-length : tie.Need-same-length
 same-length c = search needs
 
 returns : tie.Need-returns
 unfolding bytes
-returns c = both (bytes " " ++ decimal (c .before .before .before .before .before .before .before .before .before .before .before .args .n)) ((bytes " " ++ decimal (c .before .before .before .before .before .before .before .before .before .before .before .args .m)) ++ bytes "\n") (c .before .before .before .before .before .before .before .before .before .before .before .pre) (c .before .before .before .before .before .before .before .put-number .ensures) (c .before .before .put-last .ensures)
+returns c =
+    let pre = c .before .before .before .before .before .before .before .before .before .before .before .pre in
+    let args = c .before .before .before .before .before .before .before .before .before .before .before .args in
+    let put-number = c .before .before .before .before .before .before .before .put-number in
+    both (bytes " " ++ decimal (args .first)) ((bytes " " ++ decimal (args .second)) ++ bytes "\n") (pre) (put-number .ensures) (c .before .before .put-last .ensures)
 
 pub put-last-two-spec : {M : Type 1} → statement M
 put-last-two-spec =

@@ -15,21 +15,32 @@ slice-aggregate-put-number c = search needs
 
 put-number-requires : tie.Need-put-number-requires
 unfolding bytes
-put-number-requires c κs = omega (arith, rw (refusal-text (c .before .before .before .args .line) (c .before .before .before .args .number)) at (c .before .before .before .pre), length-append (bytes "line " ++ decimal (c .before .before .before .args .line)) ((bytes " refused " ++ decimal (c .before .before .before .args .number)) ++ bytes "\n"))
+put-number-requires c κs =
+    let pre = c .before .before .before .pre in
+    let args = c .before .before .before .args in
+    omega (arith, rw (refusal-text (args .line) (args .number)) at (pre), length-append (bytes "line " ++ decimal (args .line)) ((bytes " refused " ++ decimal (args .number)) ++ bytes "\n"))
 
 slice-aggregate-put-last : tie.Need-slice-aggregate-put-last
 slice-aggregate-put-last c = search needs
 
 put-last-requires : tie.Need-put-last-requires
 unfolding bytes
-put-last-requires c κs = fits-second (bytes "line " ++ decimal (c .before .before .before .before .before .before .before .before .args .line)) ((bytes " refused " ++ decimal (c .before .before .before .before .before .before .before .before .args .number)) ++ bytes "\n") (rw (refusal-text (c .before .before .before .before .before .before .before .before .args .line) (c .before .before .before .before .before .before .before .before .args .number)) at (c .before .before .before .before .before .before .before .before .pre)) (c .before .before .before .before .put-number .ensures)
+put-last-requires c κs =
+    let pre = c .before .before .before .before .before .before .before .before .pre in
+    let args = c .before .before .before .before .before .before .before .before .args in
+    let put-number = c .before .before .before .before .put-number in
+    fits-second (bytes "line " ++ decimal (args .line)) ((bytes " refused " ++ decimal (args .number)) ++ bytes "\n") (rw (refusal-text (args .line) (args .number)) at (pre)) (put-number .ensures)
 
 same-length : tie.Need-same-length
 same-length c = search needs
 
 returns : tie.Need-returns
 unfolding bytes
-returns c = rw (refusal-text (c .before .before .before .before .before .before .before .before .before .before .before .args .line) (c .before .before .before .before .before .before .before .before .before .before .before .args .number)) (both (bytes "line " ++ decimal (c .before .before .before .before .before .before .before .before .before .before .before .args .line)) ((bytes " refused " ++ decimal (c .before .before .before .before .before .before .before .before .before .before .before .args .number)) ++ bytes "\n") (rw (refusal-text (c .before .before .before .before .before .before .before .before .before .before .before .args .line) (c .before .before .before .before .before .before .before .before .before .before .before .args .number)) at (c .before .before .before .before .before .before .before .before .before .before .before .pre)) (c .before .before .before .before .before .before .before .put-number .ensures) (c .before .before .put-last .ensures))
+returns c =
+    let pre = c .before .before .before .before .before .before .before .before .before .before .before .pre in
+    let args = c .before .before .before .before .before .before .before .before .before .before .before .args in
+    let put-number = c .before .before .before .before .before .before .before .put-number in
+    rw (refusal-text (args .line) (args .number)) (both (bytes "line " ++ decimal (args .line)) ((bytes " refused " ++ decimal (args .number)) ++ bytes "\n") (rw (refusal-text (args .line) (args .number)) at (pre)) (put-number .ensures) (c .before .before .put-last .ensures))
 
 pub put-refusal-spec : {M : Type 1} → statement M
 put-refusal-spec =

@@ -15,22 +15,39 @@ slice-aggregate-put-number c = search needs
 
 put-number-requires : tie.Need-put-number-requires
 unfolding bytes
-put-number-requires c κs = omega (arith, (rw (tally-text (record { sent = c .before .before .before .args .sent; copied = c .before .before .before .args .copied; delivered = c .before .before .before .args .delivered; lost = c .before .before .before .args .lost; inFlight = c .before .before .before .args .in-flight })) at (c .before .before .before .pre)), length-append (bytes "messages " ++ decimal (c .before .before .before .args .sent)) (((bytes " " ++ decimal (c .before .before .before .args .copied)) ++ (bytes " " ++ decimal (c .before .before .before .args .delivered))) ++ ((bytes " " ++ decimal (c .before .before .before .args .lost)) ++ ((bytes " " ++ decimal (c .before .before .before .args .in-flight)) ++ bytes "\n"))))
+put-number-requires c κs =
+    let pre = c .before .before .before .pre in
+    let args = c .before .before .before .args in
+    omega (arith, (rw (tally-text (record { sent = args .sent; copied = args .copied; delivered = args .delivered; lost = args .lost; inFlight = args .in-flight })) at (pre)), length-append (bytes "messages " ++ decimal (args .sent)) (((bytes " " ++ decimal (args .copied)) ++ (bytes " " ++ decimal (args .delivered))) ++ ((bytes " " ++ decimal (args .lost)) ++ ((bytes " " ++ decimal (args .in-flight)) ++ bytes "\n"))))
 
 put-two-requires : tie.Need-put-two-requires
 unfolding bytes
-put-two-requires c κs = omega (arith, fits-second (bytes "messages " ++ decimal (c .before .before .before .before .before .before .before .args .sent)) (((bytes " " ++ decimal (c .before .before .before .before .before .before .before .args .copied)) ++ (bytes " " ++ decimal (c .before .before .before .before .before .before .before .args .delivered))) ++ ((bytes " " ++ decimal (c .before .before .before .before .before .before .before .args .lost)) ++ ((bytes " " ++ decimal (c .before .before .before .before .before .before .before .args .in-flight)) ++ bytes "\n"))) ((rw (tally-text (record { sent = c .before .before .before .before .before .before .before .args .sent; copied = c .before .before .before .before .before .before .before .args .copied; delivered = c .before .before .before .before .before .before .before .args .delivered; lost = c .before .before .before .before .before .before .before .args .lost; inFlight = c .before .before .before .before .before .before .before .args .in-flight })) at (c .before .before .before .before .before .before .before .pre))) (c .before .before .before .put-number .ensures), length-append ((bytes " " ++ decimal (c .before .before .before .before .before .before .before .args .copied)) ++ (bytes " " ++ decimal (c .before .before .before .before .before .before .before .args .delivered))) ((bytes " " ++ decimal (c .before .before .before .before .before .before .before .args .lost)) ++ ((bytes " " ++ decimal (c .before .before .before .before .before .before .before .args .in-flight)) ++ bytes "\n")))
+put-two-requires c κs =
+    let pre = c .before .before .before .before .before .before .before .pre in
+    let args = c .before .before .before .before .before .before .before .args in
+    let put-number = c .before .before .before .put-number in
+    omega (arith, fits-second (bytes "messages " ++ decimal (args .sent)) (((bytes " " ++ decimal (args .copied)) ++ (bytes " " ++ decimal (args .delivered))) ++ ((bytes " " ++ decimal (args .lost)) ++ ((bytes " " ++ decimal (args .in-flight)) ++ bytes "\n"))) ((rw (tally-text (record { sent = args .sent; copied = args .copied; delivered = args .delivered; lost = args .lost; inFlight = args .in-flight })) at (pre))) (put-number .ensures), length-append ((bytes " " ++ decimal (args .copied)) ++ (bytes " " ++ decimal (args .delivered))) ((bytes " " ++ decimal (args .lost)) ++ ((bytes " " ++ decimal (args .in-flight)) ++ bytes "\n")))
 
 put-last-two-requires : tie.Need-put-last-two-requires
 unfolding bytes
-put-last-two-requires c κs = fits-second ((bytes " " ++ decimal (c .before .before .before .before .before .before .before .before .before .before .before .args .copied)) ++ (bytes " " ++ decimal (c .before .before .before .before .before .before .before .before .before .before .before .args .delivered))) ((bytes " " ++ decimal (c .before .before .before .before .before .before .before .before .before .before .before .args .lost)) ++ ((bytes " " ++ decimal (c .before .before .before .before .before .before .before .before .before .before .before .args .in-flight)) ++ bytes "\n")) (fits-second (bytes "messages " ++ decimal (c .before .before .before .before .before .before .before .before .before .before .before .args .sent)) (((bytes " " ++ decimal (c .before .before .before .before .before .before .before .before .before .before .before .args .copied)) ++ (bytes " " ++ decimal (c .before .before .before .before .before .before .before .before .before .before .before .args .delivered))) ++ ((bytes " " ++ decimal (c .before .before .before .before .before .before .before .before .before .before .before .args .lost)) ++ ((bytes " " ++ decimal (c .before .before .before .before .before .before .before .before .before .before .before .args .in-flight)) ++ bytes "\n"))) ((rw (tally-text (record { sent = c .before .before .before .before .before .before .before .before .before .before .before .args .sent; copied = c .before .before .before .before .before .before .before .before .before .before .before .args .copied; delivered = c .before .before .before .before .before .before .before .before .before .before .before .args .delivered; lost = c .before .before .before .before .before .before .before .before .before .before .before .args .lost; inFlight = c .before .before .before .before .before .before .before .before .before .before .before .args .in-flight })) at (c .before .before .before .before .before .before .before .before .before .before .before .pre))) (c .before .before .before .before .before .before .before .put-number .ensures)) (c .before .before .before .put-two .ensures)
+put-last-two-requires c κs =
+    let pre = c .before .before .before .before .before .before .before .before .before .before .before .pre in
+    let args = c .before .before .before .before .before .before .before .before .before .before .before .args in
+    let put-number = c .before .before .before .before .before .before .before .put-number in
+    let put-two = c .before .before .before .put-two in
+    fits-second ((bytes " " ++ decimal (args .copied)) ++ (bytes " " ++ decimal (args .delivered))) ((bytes " " ++ decimal (args .lost)) ++ ((bytes " " ++ decimal (args .in-flight)) ++ bytes "\n")) (fits-second (bytes "messages " ++ decimal (args .sent)) (((bytes " " ++ decimal (args .copied)) ++ (bytes " " ++ decimal (args .delivered))) ++ ((bytes " " ++ decimal (args .lost)) ++ ((bytes " " ++ decimal (args .in-flight)) ++ bytes "\n"))) ((rw (tally-text (record { sent = args .sent; copied = args .copied; delivered = args .delivered; lost = args .lost; inFlight = args .in-flight })) at (pre))) (put-number .ensures)) (put-two .ensures)
 
 same-length : tie.Need-same-length
 same-length c = search needs
 
 returns : tie.Need-returns
 unfolding bytes
-returns c = rw (tally-text (record { sent = c .before .before .before .before .before .before .before .before .before .before .before .before .before .before .args .sent; copied = c .before .before .before .before .before .before .before .before .before .before .before .before .before .before .args .copied; delivered = c .before .before .before .before .before .before .before .before .before .before .before .before .before .before .args .delivered; lost = c .before .before .before .before .before .before .before .before .before .before .before .before .before .before .args .lost; inFlight = c .before .before .before .before .before .before .before .before .before .before .before .before .before .before .args .in-flight })) (both (bytes "messages " ++ decimal (c .before .before .before .before .before .before .before .before .before .before .before .before .before .before .args .sent)) (((bytes " " ++ decimal (c .before .before .before .before .before .before .before .before .before .before .before .before .before .before .args .copied)) ++ (bytes " " ++ decimal (c .before .before .before .before .before .before .before .before .before .before .before .before .before .before .args .delivered))) ++ ((bytes " " ++ decimal (c .before .before .before .before .before .before .before .before .before .before .before .before .before .before .args .lost)) ++ ((bytes " " ++ decimal (c .before .before .before .before .before .before .before .before .before .before .before .before .before .before .args .in-flight)) ++ bytes "\n"))) ((rw (tally-text (record { sent = c .before .before .before .before .before .before .before .before .before .before .before .before .before .before .args .sent; copied = c .before .before .before .before .before .before .before .before .before .before .before .before .before .before .args .copied; delivered = c .before .before .before .before .before .before .before .before .before .before .before .before .before .before .args .delivered; lost = c .before .before .before .before .before .before .before .before .before .before .before .before .before .before .args .lost; inFlight = c .before .before .before .before .before .before .before .before .before .before .before .before .before .before .args .in-flight })) at (c .before .before .before .before .before .before .before .before .before .before .before .before .before .before .pre))) (c .before .before .before .before .before .before .before .before .before .before .put-number .ensures) (both ((bytes " " ++ decimal (c .before .before .before .before .before .before .before .before .before .before .before .before .before .before .args .copied)) ++ (bytes " " ++ decimal (c .before .before .before .before .before .before .before .before .before .before .before .before .before .before .args .delivered))) ((bytes " " ++ decimal (c .before .before .before .before .before .before .before .before .before .before .before .before .before .before .args .lost)) ++ ((bytes " " ++ decimal (c .before .before .before .before .before .before .before .before .before .before .before .before .before .before .args .in-flight)) ++ bytes "\n")) (fits-second (bytes "messages " ++ decimal (c .before .before .before .before .before .before .before .before .before .before .before .before .before .before .args .sent)) (((bytes " " ++ decimal (c .before .before .before .before .before .before .before .before .before .before .before .before .before .before .args .copied)) ++ (bytes " " ++ decimal (c .before .before .before .before .before .before .before .before .before .before .before .before .before .before .args .delivered))) ++ ((bytes " " ++ decimal (c .before .before .before .before .before .before .before .before .before .before .before .before .before .before .args .lost)) ++ ((bytes " " ++ decimal (c .before .before .before .before .before .before .before .before .before .before .before .before .before .before .args .in-flight)) ++ bytes "\n"))) ((rw (tally-text (record { sent = c .before .before .before .before .before .before .before .before .before .before .before .before .before .before .args .sent; copied = c .before .before .before .before .before .before .before .before .before .before .before .before .before .before .args .copied; delivered = c .before .before .before .before .before .before .before .before .before .before .before .before .before .before .args .delivered; lost = c .before .before .before .before .before .before .before .before .before .before .before .before .before .before .args .lost; inFlight = c .before .before .before .before .before .before .before .before .before .before .before .before .before .before .args .in-flight })) at (c .before .before .before .before .before .before .before .before .before .before .before .before .before .before .pre))) (c .before .before .before .before .before .before .before .before .before .before .put-number .ensures)) (c .before .before .before .before .before .before .put-two .ensures) (c .before .before .put-last-two .ensures)))
+returns c =
+    let pre = c .before .before .before .before .before .before .before .before .before .before .before .before .before .before .pre in
+    let args = c .before .before .before .before .before .before .before .before .before .before .before .before .before .before .args in
+    let put-number = c .before .before .before .before .before .before .before .before .before .before .put-number in
+    let put-two = c .before .before .before .before .before .before .put-two in
+    rw (tally-text (record { sent = args .sent; copied = args .copied; delivered = args .delivered; lost = args .lost; inFlight = args .in-flight })) (both (bytes "messages " ++ decimal (args .sent)) (((bytes " " ++ decimal (args .copied)) ++ (bytes " " ++ decimal (args .delivered))) ++ ((bytes " " ++ decimal (args .lost)) ++ ((bytes " " ++ decimal (args .in-flight)) ++ bytes "\n"))) ((rw (tally-text (record { sent = args .sent; copied = args .copied; delivered = args .delivered; lost = args .lost; inFlight = args .in-flight })) at (pre))) (put-number .ensures) (both ((bytes " " ++ decimal (args .copied)) ++ (bytes " " ++ decimal (args .delivered))) ((bytes " " ++ decimal (args .lost)) ++ ((bytes " " ++ decimal (args .in-flight)) ++ bytes "\n")) (fits-second (bytes "messages " ++ decimal (args .sent)) (((bytes " " ++ decimal (args .copied)) ++ (bytes " " ++ decimal (args .delivered))) ++ ((bytes " " ++ decimal (args .lost)) ++ ((bytes " " ++ decimal (args .in-flight)) ++ bytes "\n"))) ((rw (tally-text (record { sent = args .sent; copied = args .copied; delivered = args .delivered; lost = args .lost; inFlight = args .in-flight })) at (pre))) (put-number .ensures)) (put-two .ensures) (c .before .before .put-last-two .ensures)))
 
 pub put-tally-spec : {M : Type 1} → statement M
 put-tally-spec =

@@ -14,21 +14,32 @@ slice-aggregate-put-number c = search needs
 
 put-number-requires : tie.Need-put-number-requires
 unfolding bytes
-put-number-requires c κs = omega (arith, c .before .before .before .pre, length-append (bytes " " ++ decimal (c .before .before .before .args .n)) (bytes " " ++ decimal (c .before .before .before .args .m)))
+put-number-requires c κs =
+    let pre = c .before .before .before .pre in
+    let args = c .before .before .before .args in
+    omega (arith, pre, length-append (bytes " " ++ decimal (args .first)) (bytes " " ++ decimal (args .second)))
 
 slice-aggregate-put-number-2 : tie.Need-slice-aggregate-put-number-2
 slice-aggregate-put-number-2 c = search needs
 
 put-number-requires-2 : tie.Need-put-number-requires-2
 unfolding bytes
-put-number-requires-2 c κs = fits-second (bytes " " ++ decimal (c .before .before .before .before .before .before .before .before .args .n)) (bytes " " ++ decimal (c .before .before .before .before .before .before .before .before .args .m)) (c .before .before .before .before .before .before .before .before .pre) (c .before .before .before .before .put-number .ensures)
+put-number-requires-2 c κs =
+    let pre = c .before .before .before .before .before .before .before .before .pre in
+    let args = c .before .before .before .before .before .before .before .before .args in
+    let put-number = c .before .before .before .before .put-number in
+    fits-second (bytes " " ++ decimal (args .first)) (bytes " " ++ decimal (args .second)) (pre) (put-number .ensures)
 
 same-length : tie.Need-same-length
 same-length c = search needs
 
 returns : tie.Need-returns
 unfolding bytes
-returns c = both (bytes " " ++ decimal (c .before .before .before .before .before .before .before .before .before .before .before .args .n)) (bytes " " ++ decimal (c .before .before .before .before .before .before .before .before .before .before .before .args .m)) (c .before .before .before .before .before .before .before .before .before .before .before .pre) (c .before .before .before .before .before .before .before .put-number .ensures) (c .before .before .put-number2 .ensures)
+returns c =
+    let pre = c .before .before .before .before .before .before .before .before .before .before .before .pre in
+    let args = c .before .before .before .before .before .before .before .before .before .before .before .args in
+    let put-number = c .before .before .before .before .before .before .before .put-number in
+    both (bytes " " ++ decimal (args .first)) (bytes " " ++ decimal (args .second)) (pre) (put-number .ensures) (c .before .before .put-number2 .ensures)
 
 pub put-two-spec : {M : Type 1} → statement M
 put-two-spec =

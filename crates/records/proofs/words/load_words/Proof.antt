@@ -7,8 +7,8 @@ use Rattle.records.proofs.words.load_words.Tie as tie
 numbers-fields-requires : tie.Need-numbers-fields-requires
 numbers-fields-requires c κs = search needs
 
-mul-b : tie.Need-mul-b
-mul-b c = search needs
+mul-base : tie.Need-mul-base
+mul-base c = search needs
 
 add-key-from : tie.Need-add-key-from
 add-key-from c = search needs
@@ -40,11 +40,13 @@ item-from-requires-2 c κs = search needs
 returns : tie.Need-returns
 unfolding wordsAt numbersAt
 returns c =
+    let numbers-fields = c .before .before .before .before .before .before .numbers-fields in
+    let key-from = c .before .before .before .before .key-from in
     rw (
       c .item-from2 .ensures,
       c .before .before .item-from .ensures,
-      c .before .before .before .before .key-from .ensures,
-      c .before .before .before .before .before .before .numbers-fields .ensures,
+      key-from .ensures,
+      numbers-fields .ensures,
     )
 
 pub load-words-spec : {M : Type 1} → statement M
@@ -52,7 +54,7 @@ load-words-spec =
     tie.close
     (tie.spec
     numbers-fields-requires
-    mul-b
+    mul-base
     add-key-from
     cast-key-from
     key-from-requires

@@ -4,8 +4,8 @@ use borrow.Author.Needs.{needs}
 use Rattle.records.proofs.words.store_texts.Statement.{statement}
 use Rattle.records.proofs.words.store_texts.Tie as tie
 
-mul-b : tie.Need-mul-b
-mul-b c = search needs
+mul-base : tie.Need-mul-base
+mul-base c = search needs
 
 add-put-key : tie.Need-add-put-key
 add-put-key c = search needs
@@ -27,13 +27,16 @@ put-value-requires-2 c κs = search needs
 
 returns : tie.Need-returns
 unfolding putTexts
-returns c = rw (c .put-value2 .ensures, c .before .before .before .put-value .ensures, c .before .before .before .before .before .before .put-key .ensures)
+returns c =
+    let put-key = c .before .before .before .before .before .before .put-key in
+    let put-value = c .before .before .before .put-value in
+    rw (c .put-value2 .ensures, put-value .ensures, put-key .ensures)
 
 pub store-texts-spec : {M : Type 1} → statement M
 store-texts-spec =
     tie.close
     (tie.spec
-    mul-b
+    mul-base
     add-put-key
     put-key-requires
     add-put-value

@@ -15,7 +15,9 @@ store-texts-requires c κs = search needs
 
 returns : tie.Need-returns
 unfolding putWords putNumbers
-returns c = (rw (c .before .before .numbers-stores .ensures, c .before .before .before .before .numbers-in .ensures), c .store-texts .ensures)
+returns c =
+    let numbers-in = c .before .before .before .before .numbers-in in
+    (rw (c .before .before .numbers-stores .ensures, numbers-in .ensures), c .store-texts .ensures)
 
 pub store-words-spec : {M : Type 1} → statement M
 store-words-spec =

@@ -19,7 +19,10 @@ stores-made-requires c κs = search needs
 
 returns : tie.Need-returns
 unfolding cuttable
-returns c = rw (cuttable, sym (c .before .before .before .before .is-broadcast .ensures) ∙ c .before .before .before .if1 .taken, c .stores-made .ensures, c .before .stores-bucket .ensures, c .before .before .stores-vote .ensures)
+returns c =
+    let is-broadcast = c .before .before .before .before .is-broadcast in
+    let if1 = c .before .before .before .if1 in
+    rw (cuttable, sym (is-broadcast .ensures) ∙ if1 .taken, c .stores-made .ensures, c .before .stores-bucket .ensures, c .before .before .stores-vote .ensures)
 
 returns-2 : tie.Need-returns-2
 unfolding cuttable

@@ -21,7 +21,10 @@ chosen-requires c κs = search needs
 
 returns : tie.Need-returns
 unfolding cutMove
-returns c = rw (c .chosen .ensures, c .before .stopped-move .ensures, c .before .before .pick-version .ensures, c .before .before .before .cut-head .ensures, c .before .before .before .before .keeps-by .ensures)
+returns c =
+    let keeps-by = c .before .before .before .before .keeps-by in
+    let cut-head = c .before .before .before .cut-head in
+    rw (c .chosen .ensures, c .before .stopped-move .ensures, c .before .before .pick-version .ensures, cut-head .ensures, keeps-by .ensures)
 
 pub cut-move-spec : {M : Type 1} → statement M
 cut-move-spec =

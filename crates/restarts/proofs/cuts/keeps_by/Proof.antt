@@ -16,7 +16,9 @@ stores-made-requires c κs = search needs
 
 returns : tie.Need-returns
 unfolding keepsBy
-returns c = rw (keepsBy, sym (c .before .before .before .stores-bucket .ensures) ∙ c .before .before .if1 .taken, c .stores-made .ensures, c .before .stores-vote .ensures)
+returns c =
+    let stores-bucket = c .before .before .before .stores-bucket in
+    rw (keepsBy, sym (stores-bucket .ensures) ∙ c .before .before .if1 .taken, c .stores-made .ensures, c .before .stores-vote .ensures)
 
 returns-2 : tie.Need-returns-2
 unfolding keepsBy

@@ -14,7 +14,9 @@ above-requires c κs = search needs
 
 returns : tie.Need-returns
 unfolding storesBucket
-returns c = rw (storesBucket, eq-eqb _ 4 (c .before .before .before .if1 .taken), sym (c .before .before .may-accept .ensures) ∙ c .before .if2 .taken) (c .above .ensures)
+returns c =
+    let if1 = c .before .before .before .if1 in
+    rw (storesBucket, eq-eqb _ 4 (if1 .taken), sym (c .before .before .may-accept .ensures) ∙ c .before .if2 .taken) (c .above .ensures)
 
 returns-2 : tie.Need-returns-2
 unfolding storesBucket

@@ -18,7 +18,9 @@ changes-vote-requires c κs = search needs
 
 returns-2 : tie.Need-returns-2
 unfolding storesVote
-returns-2 c = rw (storesVote, ne-eqb _ 1 (c .before .before .before .if1 .left), sym (c .before .before .may-accept .ensures) ∙ c .before .if2 .taken) (c .changes-vote .ensures)
+returns-2 c =
+    let if1 = c .before .before .before .if1 in
+    rw (storesVote, ne-eqb _ 1 (if1 .left), sym (c .before .before .may-accept .ensures) ∙ c .before .if2 .taken) (c .changes-vote .ensures)
 
 returns-3 : tie.Need-returns-3
 unfolding storesVote

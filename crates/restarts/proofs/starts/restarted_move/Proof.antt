@@ -4,12 +4,12 @@ use Rattle.restarts.specs.Restarts.{restartedMove}
 use Rattle.restarts.proofs.starts.restarted_move.Statement.{statement}
 use Rattle.restarts.proofs.starts.restarted_move.Tie as tie
 
-timed-out-move-requires : tie.Need-timed-out-move-requires
-timed-out-move-requires c κs = search needs
+ceased-move-requires : tie.Need-ceased-move-requires
+ceased-move-requires c κs = search needs
 
 returns : tie.Need-returns
 unfolding restartedMove
-returns c = rw (c .timed-out-move .ensures)
+returns c = rw (c .ceased-move .ensures)
 
 pub restarted-move-spec : {M : Type 1} → statement M
-restarted-move-spec = tie.close (tie.spec timed-out-move-requires returns)
+restarted-move-spec = tie.close (tie.spec ceased-move-requires returns)

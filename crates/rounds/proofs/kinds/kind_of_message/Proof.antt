@@ -44,7 +44,8 @@ returns-6 c = told (c .before .args .kind) (Reply 2 false) (rw (c .match .keys6)
 returns-7 : tie.Need-returns-7
 unfolding handlingIn
 returns-7 c =
-    let k = c .before .before .before .args .kind in
+    let args = c .before .before .before .args in
+    let k = args .kind in
     let lo : 1 ≤ k = omega arith in
     let hi : k ≤ 3 = omega arith in
     told k (Vote k) (rw (handlingIn, among-votes k lo hi))
@@ -59,7 +60,8 @@ returns-8 c =
 returns-9 : tie.Need-returns-9
 unfolding handlingIn
 returns-9 c =
-    let k = c .before .before .before .args .kind in
+    let args = c .before .before .before .args in
+    let k = args .kind in
     let not = c .before .before .match .rest in
     let lo : 1 ≤ k = omega arith in
     let hi : 3 < k = omega arith in

@@ -20,14 +20,15 @@ wrapping-add-u32-requires c κs = search needs
 
 returns : tie.Need-returns
 returns c =
-    let a = c .before .before .before .args in
+    let args = c .before .before .before .args in
+    let a = args in
     let k = c .wrapping-add-u32 in
     let best = c .before .report-to in
     let marks = c .before .before .placed in
-    let is : roundWith (a .purpose) (k .result) (a .h .number) (best .result) (marks .result) ≡ newRoundOf (a .me) (a .purpose) (a .h) (a .v) =
-    ap₂ (λ b l. roundWith (a .purpose) (k .result) (a .h .number) b l) (best .ensures) (marks .ensures)
-    ∙ ap (λ m. roundWith (a .purpose) m (a .h .number) (newRoundOf (a .me) (a .purpose) (a .h) (a .v) .best) (newRoundOf (a .me) (a .purpose) (a .h) (a .v) .marks)) (k .ensures) in
-    (is, λ n b x low e. ap (λ r. openIn n r (reportTo (purposeIn (a .purpose)) (copyAt (storedIn (a .h) (x .copies)) b) .table)) is ∙ new-round-means n (a .me) (a .purpose) b x (a .h) (a .v) low e)
+    let is : roundWith (a .purpose) (k .result) (a .head .number) (best .result) (marks .result) ≡ newRoundOf (a .me) (a .purpose) (a .head) (a .version) =
+    ap₂ (λ b l. roundWith (a .purpose) (k .result) (a .head .number) b l) (best .ensures) (marks .ensures)
+    ∙ ap (λ m. roundWith (a .purpose) m (a .head .number) (newRoundOf (a .me) (a .purpose) (a .head) (a .version) .best) (newRoundOf (a .me) (a .purpose) (a .head) (a .version) .marks)) (k .ensures) in
+    (is, λ n b x low e. ap (λ r. openIn n r (reportTo (purposeIn (a .purpose)) (copyAt (storedIn (a .head) (x .copies)) b) .table)) is ∙ new-round-means n (a .me) (a .purpose) b x (a .head) (a .version) low e)
 
 pub new-round-spec : {M : Type 1} → statement M
 new-round-spec =

@@ -1,4 +1,5 @@
 -- `opening::report_to` meets its contract: both make the same test.
+use borrow.Author.Needs.{needs}
 use borrow.Author.Tests.{eq-eqb, ne-eqb}
 use Rattle.rounds.specs.Rounds.{pickVersion, reported}
 use Rattle.rounds.proofs.opening.report_to.Statement.{statement}
@@ -8,9 +9,12 @@ returns : tie.Need-returns
 unfolding reported pickVersion
 returns c = rw (reported, eq-eqb _ _ (c .if1 .taken))
 
+no-version-requires : tie.Need-no-version-requires
+no-version-requires c κs = search needs
+
 returns-2 : tie.Need-returns-2
 unfolding reported pickVersion
-returns-2 c = rw (reported, ne-eqb _ _ (c .if1 .left))
+returns-2 c = rw (reported, ne-eqb _ _ (c .before .if1 .left)) (c .no-version .ensures)
 
 pub report-to-spec : {M : Type 1} → statement M
-report-to-spec = tie.close (tie.spec returns returns-2)
+report-to-spec = tie.close (tie.spec returns no-version-requires returns-2)

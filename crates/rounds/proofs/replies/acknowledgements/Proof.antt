@@ -12,7 +12,7 @@ count-requires c κs = search needs
 returns : tie.Need-returns
 returns c =
     let a = c .before .before .args in
-    c .count .ensures ∙ sym (acknowledgements-count (take (a .n) (a .r .marks)))
+    c .count .ensures ∙ sym (acknowledgements-count (take (a .servers) (a .round .marks)))
 
 pub acknowledgements-spec : {M : Type 1} → statement M
 acknowledgements-spec = tie.close (tie.spec count-requires returns)

@@ -38,29 +38,30 @@ placed-requires c κs = search needs
 returns : tie.Need-returns
 unfolding countedOf
 returns c =
+    let if1 = c .before .before .before .if1 in
     let k = c .before .before .before .before in
     let a = k .before .before .before .before .args in
-    let r = a .r in
+    let r = a .round in
     let b = c .before .before .improves in
-    let test : isSilent (markIn (getD (take (a .n) (r .marks)) (a .q) 2)) ≡ true =
-    sym (ap (λ m. isSilent (markIn m)) (k .before .place-at .ensures)) ∙ sym (k .is-silent .ensures) ∙ c .before .before .before .if1 .taken in
-    let is : countedWith r (c .placed .result) (c .before .pick-version .result) (b .result) ≡ countedOf (a .n) (a .q) (a .mark) (a .report) r =
+    let test : isSilent (markIn (getD (take (a .servers) (r .marks)) (a .sender) 2)) ≡ true =
+    sym (ap (λ m. isSilent (markIn m)) (k .before .place-at .ensures)) ∙ sym (k .is-silent .ensures) ∙ if1 .taken in
+    let is : countedWith r (c .placed .result) (c .before .pick-version .result) (b .result) ≡ countedOf (a .servers) (a .sender) (a .mark) (a .report) r =
     rw (countedOf, test)
     (ap₂ (λ l v. countedWith r l v (b .result)) (c .placed .ensures) (c .before .pick-version .ensures)
-    ∙ ap (λ z. countedWith r (set (r .marks) (a .q) (a .mark)) (pickVersion z (a .report) (r .best)) z) (b .ensures)) in
-    told (a .n) (a .q) (a .mark) (a .report) r _ is
+    ∙ ap (λ z. countedWith r (set (r .marks) (a .sender) (a .mark)) (pickVersion z (a .report) (r .best)) z) (b .ensures)) in
+    told (a .servers) (a .sender) (a .mark) (a .report) r _ is
 
 returns-2 : tie.Need-returns-2
 unfolding countedOf
 returns-2 c =
     let k = c .before in
     let a = k .before .before .before .before .args in
-    let r = a .r in
-    let test : isSilent (markIn (getD (take (a .n) (r .marks)) (a .q) 2)) ≡ false =
+    let r = a .round in
+    let test : isSilent (markIn (getD (take (a .servers) (r .marks)) (a .sender) 2)) ≡ false =
     sym (ap (λ m. isSilent (markIn m)) (k .before .place-at .ensures)) ∙ sym (k .is-silent .ensures) ∙ c .if1 .left in
     let same : Counted = record { round = r; better = false } in
-    let is : same ≡ countedOf (a .n) (a .q) (a .mark) (a .report) r = rw (countedOf, test) in
-    told (a .n) (a .q) (a .mark) (a .report) r _ is
+    let is : same ≡ countedOf (a .servers) (a .sender) (a .mark) (a .report) r = rw (countedOf, test) in
+    told (a .servers) (a .sender) (a .mark) (a .report) r _ is
 
 pub counted-spec : {M : Type 1} → statement M
 counted-spec =

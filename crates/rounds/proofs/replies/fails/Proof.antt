@@ -15,14 +15,14 @@ refusals-requires c κs = search needs
 sub-result : tie.Need-sub-result
 sub-result c =
     let a = c .before .args in
-    omega (arith, c .refusals .ensures, refusals-within (a .n) (a .r .marks))
+    omega (arith, c .refusals .ensures, refusals-within (a .servers) (a .round .marks))
 
 majority-requires : tie.Need-majority-requires
 majority-requires c κs = search needs
 
 returns : tie.Need-returns
 unfolding fails
-returns c = ap₂ ltb (ap (λ k. c .before .before .args .n - k) (c .before .refusals .ensures)) (c .majority .ensures)
+returns c = ap₂ ltb (ap (λ k. c .before .before .args .servers - k) (c .before .refusals .ensures)) (c .majority .ensures)
 
 pub fails-spec : {M : Type 1} → statement M
 fails-spec = tie.close (tie.spec refusals-requires sub-result majority-requires returns)

@@ -12,7 +12,7 @@ count-requires c κs = search needs
 returns : tie.Need-returns
 returns c =
     let a = c .before .before .args in
-    c .count .ensures ∙ sym (refusals-count (take (a .n) (a .r .marks)))
+    c .count .ensures ∙ sym (refusals-count (take (a .servers) (a .round .marks)))
 
 pub refusals-spec : {M : Type 1} → statement M
 refusals-spec = tie.close (tie.spec count-requires returns)

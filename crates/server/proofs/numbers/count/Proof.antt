@@ -14,10 +14,10 @@ use Rattle.server.proofs.numbers.count.Statement.{statement}
 use Rattle.server.proofs.numbers.count.Tie as tie
 
 abbrev Inv-loop : tie.InvT-loop
-Inv-loop n x places m found₀ i₀ found i = (i ≤ m) × ((found ≤ i) × (found ≡ countOf x (take i places)))
+Inv-loop servers word places m found₀ i₀ found i = (i ≤ m) × ((found ≤ i) × (found ≡ countOf word (take i places)))
 
 abbrev μ-loop : tie.MeasureT-loop
-μ-loop n x places m found₀ i₀ found i = m - i
+μ-loop servers word places m found₀ i₀ found i = m - i
 
 at-most-requires : tie.Need-at-most-requires Inv-loop μ-loop
 at-most-requires c κs = search needs
@@ -44,10 +44,12 @@ loop-less c = omega arith
 loop-again : tie.Need-loop-again Inv-loop μ-loop
 unfolding one
 loop-again c =
-    let a = c .before .before .before .before .args in
+    let good = c .before .before .before .before .good in
+    let args = c .before .before .before .before .args in
+    let a = args in
     let l = c .before .before .loop in
-    let h : length (a .t2) ≡ 7 = c .before .before .before .before .good .1 .0 .1 .0 .1 in
-    let e : countOf (a .x) (take (l .i + 1) (a .t2)) ≡ countOf (a .x) (take (l .i) (a .t2)) + one (eqb (getD (a .t2) (l .i) 0) (a .x)) = count-next (a .x) (a .t2) (l .i) (omega arith) in
+    let h : length (a .t2) ≡ 7 = good .1 .0 .1 .0 .1 in
+    let e : countOf (a .word) (take (l .i + 1) (a .t2)) ≡ countOf (a .word) (take (l .i) (a .t2)) + one (eqb (getD (a .t2) (l .i) 0) (a .word)) = count-next (a .word) (a .t2) (l .i) (omega arith) in
     ⊎-elim
     (λ w. (omega arith, (omega arith, omega (arith, rw (eq-eqb _ _ (w .0 .taken), one) at e))))
     (λ w. (omega arith, (omega arith, omega (arith, rw (ne-eqb _ _ (w .0 .left), one) at e))))
@@ -58,8 +60,8 @@ returns c =
     let s = c .before .before .before in
     let l = c .before .loop in
     let h : length (s .args .t2) ≡ 7 = s .good .1 .0 .1 .0 .1 in
-    let e : l .i ≡ min (s .args .n) (length (s .args .t2)) = omega (arith, c .before .before .at-most .ensures) in
-    l .inv .1 .1 ∙ ap (countOf (s .args .x)) (ap (λ m. take m (s .args .t2)) e ∙ take-min (s .args .n) (s .args .t2))
+    let e : l .i ≡ min (s .args .servers) (length (s .args .t2)) = omega (arith, c .before .before .at-most .ensures) in
+    l .inv .1 .1 ∙ ap (countOf (s .args .word)) (ap (λ m. take m (s .args .t2)) e ∙ take-min (s .args .servers) (s .args .t2))
 
 pub count-spec : {M : Type 1} → statement M
 count-spec =

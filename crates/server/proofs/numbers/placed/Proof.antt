@@ -7,11 +7,11 @@ use lib.Seq.{set-out}
 use Rattle.server.proofs.numbers.placed.Statement.{statement}
 use Rattle.server.proofs.numbers.placed.Tie as tie
 
-mul-a : tie.Need-mul-a
-mul-a c = search needs
+mul-after : tie.Need-mul-after
+mul-after c = search needs
 
-array-write-a : tie.Need-array-write-a
-array-write-a c = search needs
+array-write-after : tie.Need-array-write-after
+array-write-after c = search needs
 
 returns : tie.Need-returns
 returns c = search needs
@@ -20,7 +20,7 @@ returns-2 : tie.Need-returns-2
 returns-2 c =
     let a = c .before .args in
     let seven : length (a .places) ≡ 7 = c .before .good .0 .1 .0 .1 in
-    sym (set-out (a .places) (a .q) (a .x) (omega arith))
+    sym (set-out (a .places) (a .at) (a .word) (omega arith))
 
 pub placed-spec : {M : Type 1} → statement M
-placed-spec = tie.close (tie.spec mul-a array-write-a returns returns-2)
+placed-spec = tie.close (tie.spec mul-after array-write-after returns returns-2)

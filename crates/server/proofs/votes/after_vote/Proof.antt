@@ -14,16 +14,17 @@ voting-requires c κs = search needs
 returns : tie.Need-returns
 unfolding afterVoteHead
 returns c =
-    let a = c .before .before .before .args in
-    let is : c .voting .result ≡ afterVoteHead (a .e) (a .p) (a .h) = rw (afterVoteHead, lt-ltb _ _ (c .before .if1 .taken)) (c .voting .ensures .0) in
-    (is, λ n x. ap (λ h. serverIn n x h) is ∙ after-vote-means (a .e) (a .p) n x (a .h))
+    let args = c .before .before .before .args in
+    let a = args in
+    let is : c .voting .result ≡ afterVoteHead (a .election) (a .leader) (a .head) = rw (afterVoteHead, lt-ltb _ _ (c .before .if1 .taken)) (c .voting .ensures .0) in
+    (is, λ n x. ap (λ h. serverIn n x h) is ∙ after-vote-means (a .election) (a .leader) n x (a .head))
 
 returns-2 : tie.Need-returns-2
 unfolding afterVoteHead
 returns-2 c =
     let a = c .before .before .args in
-    let is : a .h ≡ afterVoteHead (a .e) (a .p) (a .h) = rw (afterVoteHead, le-ltb _ _ (c .if1 .left)) in
-    (is, λ n x. ap (λ h. serverIn n x h) is ∙ after-vote-means (a .e) (a .p) n x (a .h))
+    let is : a .head ≡ afterVoteHead (a .election) (a .leader) (a .head) = rw (afterVoteHead, le-ltb _ _ (c .if1 .left)) in
+    (is, λ n x. ap (λ h. serverIn n x h) is ∙ after-vote-means (a .election) (a .leader) n x (a .head))
 
 pub after-vote-spec : {M : Type 1} → statement M
 after-vote-spec = tie.close (tie.spec voting-requires returns returns-2)

@@ -26,14 +26,16 @@ standing-requires c κs = search needs
 returns : tie.Need-returns
 unfolding electedHead
 returns c =
+    let next-number = c .before .before .before .before .next-number in
+    let ceased = c .before .before .before .ceased in
     let s = c .before .before .before .before .before in
     let a = s .args in
-    let e = c .before .before .before .before .next-number .ensures in
-    let given = c .before .before .voting .ensures .0 ∙ ap₂ (λ k h. votingHead k (a .me) h) e (c .before .before .before .ceased .ensures .0) in
+    let e = next-number .ensures in
+    let given = c .before .before .voting .ensures .0 ∙ ap₂ (λ k h. votingHead k (a .me) h) e (ceased .ensures .0) in
     let voted = c .before .voted .ensures ∙ ap₂ (λ k h. votedHead (a .me) (withNumber k h)) e given in
-    let is : c .standing .result ≡ electedHead (a .n) (a .me) (a .h) = c .standing .ensures .0 ∙ ap (standingHead (a .n)) voted in
-    let seven : length (a .h .votes) ≡ 7 = simp length-map at (s .good .1 .1 .0 .1 .1 .1 .1 .1 .1 .1 .1 .0 .1 .0 .1) in
-    (is, λ x low. ap (λ h. serverIn (a .n) (idle x) h) is ∙ elected-means (a .n) (a .me) x (a .h) seven low)
+    let is : c .standing .result ≡ electedHead (a .servers) (a .me) (a .head) = c .standing .ensures .0 ∙ ap (standingHead (a .servers)) voted in
+    let seven : length (a .head .votes) ≡ 7 = simp length-map at (s .good .1 .1 .0 .1 .1 .1 .1 .1 .1 .1 .1 .0 .1 .0 .1) in
+    (is, λ x low. ap (λ h. serverIn (a .servers) (idle x) h) is ∙ elected-means (a .servers) (a .me) x (a .head) seven low)
 
 pub elected-spec : {M : Type 1} → statement M
 elected-spec = tie.close (tie.spec next-number-requires ceased-requires voting-requires voted-requires standing-requires returns)

@@ -10,7 +10,9 @@ returns c = rw (grants, lt-ltb _ _ (c .if1 .taken))
 
 returns-2 : tie.Need-returns-2
 unfolding grants
-returns-2 c = rw (grants, le-ltb _ _ (c .before .before .before .if1 .left), eq-eqb _ _ (c .before .if2 .taken))
+returns-2 c =
+    let if1 = c .before .before .before .if1 in
+    rw (grants, le-ltb _ _ (if1 .left), eq-eqb _ _ (c .before .if2 .taken))
 
 returns-3 : tie.Need-returns-3
 unfolding grants

@@ -15,14 +15,14 @@ returns : tie.Need-returns
 unfolding roleBy
 returns c =
     let a = c .before .before .args in
-    let enough : majority (a .n) ≤ a .votes = omega (arith, c .before .majority .ensures) in
+    let enough : majority (a .servers) ≤ a .votes = omega (arith, c .before .majority .ensures) in
     rw (roleBy, le-leb _ _ enough)
 
 returns-2 : tie.Need-returns-2
 unfolding roleBy
 returns-2 c =
     let a = c .before .before .args in
-    let few : a .votes < majority (a .n) = omega (arith, c .before .majority .ensures) in
+    let few : a .votes < majority (a .servers) = omega (arith, c .before .majority .ensures) in
     rw (roleBy, lt-leb _ _ few)
 
 pub role-by-spec : {M : Type 1} → statement M

@@ -17,9 +17,9 @@ role-by-requires c κs = search needs
 returns : tie.Need-returns
 returns c =
     let a = c .before .before .args in
-    let role : c .role-by .result ≡ roleBy (a .n) (votesFor (votesIn (a .n) (a .h))) = c .role-by .ensures ∙ ap (roleBy (a .n)) (c .before .votes-for .ensures) in
-    let is = ap (λ k. withRole k (a .h)) role in
-    (is, λ x. ap (λ h. volatileIn (a .n) h (x .rounds) (x .calls)) is ∙ standing-means (a .n) x (a .h))
+    let role : c .role-by .result ≡ roleBy (a .servers) (votesFor (votesIn (a .servers) (a .head))) = c .role-by .ensures ∙ ap (roleBy (a .servers)) (c .before .votes-for .ensures) in
+    let is = ap (λ k. withRole k (a .head)) role in
+    (is, λ x. ap (λ h. volatileIn (a .servers) h (x .rounds) (x .calls)) is ∙ standing-means (a .servers) x (a .head))
 
 pub standing-spec : {M : Type 1} → statement M
 standing-spec = tie.close (tie.spec votes-for-requires role-by-requires returns)

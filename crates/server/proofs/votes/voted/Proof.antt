@@ -9,7 +9,7 @@ placed-requires : tie.Need-placed-requires
 placed-requires c κs = search needs
 
 returns : tie.Need-returns
-returns c = ap (λ l. withVotes l (c .before .before .args .h)) (c .placed .ensures)
+returns c = ap (λ l. withVotes l (c .before .before .args .head)) (c .placed .ensures)
 
 pub voted-spec : {M : Type 1} → statement M
 voted-spec = tie.close (tie.spec placed-requires returns)

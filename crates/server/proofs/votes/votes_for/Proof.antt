@@ -12,7 +12,7 @@ count-requires c κs = search needs
 returns : tie.Need-returns
 returns c =
     let a = c .before .before .args in
-    c .count .ensures ∙ sym (votes-count (take (a .n) (a .h .votes)))
+    c .count .ensures ∙ sym (votes-count (take (a .servers) (a .head .votes)))
 
 pub votes-for-spec : {M : Type 1} → statement M
 votes-for-spec = tie.close (tie.spec count-requires returns)

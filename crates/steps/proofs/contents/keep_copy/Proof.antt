@@ -10,14 +10,19 @@ copy-content-requires c κs = search needs
 
 returns : tie.Need-returns
 unfolding keptFrom
-returns c = rw (c .copy-content .ensures, keptFrom, eq-eqb _ _ (c .before .before .before .if1 .taken))
+returns c =
+    let if1 = c .before .before .before .if1 in
+    rw (c .copy-content .ensures, keptFrom, eq-eqb _ _ (if1 .taken))
 
 copy-content-requires-2 : tie.Need-copy-content-requires-2
 copy-content-requires-2 c κs = search needs
 
 returns-2 : tie.Need-returns-2
 unfolding keptFrom
-returns-2 c = rw (c .copy-content2 .ensures, keptFrom, ne-eqb _ _ (c .before .before .before .before .if1 .left), eq-eqb _ _ (c .before .before .before .if2 .taken))
+returns-2 c =
+    let if1 = c .before .before .before .before .if1 in
+    let if2 = c .before .before .before .if2 in
+    rw (c .copy-content2 .ensures, keptFrom, ne-eqb _ _ (if1 .left), eq-eqb _ _ (if2 .taken))
 
 returns-3 : tie.Need-returns-3
 unfolding keptFrom

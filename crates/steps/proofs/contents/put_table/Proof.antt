@@ -30,8 +30,10 @@ same-length c = search needs
 
 returns : tie.Need-returns
 returns c =
-    let a = c .before .before .before .before .before .args in
-    table-stored (a .works .now) (a .k) (a .k * 128 + 128 - a .k * 128) (tableIn (a .t)) (c .before .before .encode .last .1 .0) (omega arith) (omega (arith, c .before .before .before .before .before .pre .1)) (c .before .works .given .0) (c .before .before .encode .ensures)
+    let pre = c .before .before .before .before .before .pre in
+    let args = c .before .before .before .before .before .args in
+    let a = args in
+    table-stored (a .working .now) (a .slot) (a .slot * 128 + 128 - a .slot * 128) (tableIn (a .table)) (c .before .before .encode .last .1 .0) (omega arith) (omega (arith, pre .1)) (c .before .working .given .0) (c .before .before .encode .ensures)
 
 pub put-table-spec : {M : Type 1} → statement M
 put-table-spec =

@@ -15,7 +15,9 @@ is-idle-requires c κs = search needs
 
 returns : tie.Need-returns
 unfolding clearedSlot
-returns c = rw (clearedSlot, ← c .before .before .before .before .load-round .ensures, ← c .before .before .load-call .ensures, ← c .before .is-idle .ensures, c .if1 .taken)
+returns c =
+    let load-round = c .before .before .before .before .load-round in
+    rw (clearedSlot, ← load-round .ensures, ← c .before .before .load-call .ensures, ← c .before .is-idle .ensures, c .if1 .taken)
 
 no-round-requires : tie.Need-no-round-requires
 no-round-requires c κs = search needs
@@ -32,7 +34,13 @@ store-call-requires c κs = search needs
 returns-2 : tie.Need-returns-2
 unfolding clearedSlot
 returns-2 c =
-    rw (c .store-call .ensures, c .before .no-call .ensures, c .before .before .before .store-round .ensures, c .before .before .before .before .no-round .ensures, clearedSlot, ← c .before .before .before .before .before .before .before .before .before .before .load-round .ensures, ← c .before .before .before .before .before .before .before .before .load-call .ensures, ← c .before .before .before .before .before .before .before .is-idle .ensures, c .before .before .before .before .before .before .if1 .left)
+    let load-round = c .before .before .before .before .before .before .before .before .before .before .load-round in
+    let load-call = c .before .before .before .before .before .before .before .before .load-call in
+    let is-idle = c .before .before .before .before .before .before .before .is-idle in
+    let if1 = c .before .before .before .before .before .before .if1 in
+    let no-round = c .before .before .before .before .no-round in
+    let store-round = c .before .before .before .store-round in
+    rw (c .store-call .ensures, c .before .no-call .ensures, store-round .ensures, no-round .ensures, clearedSlot, ← load-round .ensures, ← load-call .ensures, ← is-idle .ensures, if1 .left)
 
 pub clear-slot-spec : {M : Type 1} → statement M
 clear-slot-spec =

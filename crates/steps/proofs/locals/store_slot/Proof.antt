@@ -13,7 +13,9 @@ store-call-requires : tie.Need-store-call-requires
 store-call-requires c κs = search needs
 
 returns : tie.Need-returns
-returns c = rw (c .store-call .ensures, c .before .before .store-round .ensures, c .before .before .before .before .store-version .ensures)
+returns c =
+    let store-version = c .before .before .before .before .store-version in
+    rw (c .store-call .ensures, c .before .before .store-round .ensures, store-version .ensures)
 
 pub store-slot-spec : {M : Type 1} → statement M
 store-slot-spec =

@@ -29,8 +29,8 @@ shared-slice-read-if1 c = omega arith
 returns : tie.Need-returns Inv-loop μ-loop
 returns c = omega arith
 
-add-n : tie.Need-add-n Inv-loop μ-loop
-add-n c = omega arith
+add-len : tie.Need-add-len Inv-loop μ-loop
+add-len c = omega arith
 
 loop-less : tie.Need-loop-less Inv-loop μ-loop
 loop-less c = omega arith
@@ -42,4 +42,4 @@ returns-2 : tie.Need-returns-2 Inv-loop μ-loop
 returns-2 c = omega arith
 
 pub run-spec : {M : Type 1} → statement M
-run-spec = tie.close (tie.spec Inv-loop μ-loop shared-slice-read-first loop-holds sub-loop add-if1 shared-slice-read-if1 returns add-n loop-less loop-again returns-2)
+run-spec = tie.close (tie.spec Inv-loop μ-loop shared-slice-read-first loop-holds sub-loop add-if1 shared-slice-read-if1 returns add-len loop-less loop-again returns-2)

@@ -1,9 +1,9 @@
--- `two` meets its contract.
+-- `number_of_two` meets its contract.
 use native.Mathlib.Omega.{arith}
 use Rattle.fields.specs.Form.{number}
 use borrow.Author.Needs.{needs}
-use Rattle.fields.proofs.two.Statement.{statement}
-use Rattle.fields.proofs.two.Tie as tie
+use Rattle.fields.proofs.number_of_two.Statement.{statement}
+use Rattle.fields.proofs.number_of_two.Tie as tie
 
 mul-result : tie.Need-mul-result
 mul-result c = search needs
@@ -15,5 +15,5 @@ returns : tie.Need-returns
 unfolding number
 returns c = omega arith
 
-pub two-spec : {M : Type 1} → statement M
-two-spec = tie.close (tie.spec mul-result add-result returns)
+pub number-of-two-spec : {M : Type 1} → statement M
+number-of-two-spec = tie.close (tie.spec mul-result add-result returns)

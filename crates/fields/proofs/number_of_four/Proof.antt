@@ -1,9 +1,9 @@
--- `four` meets its contract.
+-- `number_of_four` meets its contract.
 use native.Mathlib.Omega.{arith}
 use Rattle.fields.specs.Form.{number}
 use borrow.Author.Needs.{needs}
-use Rattle.fields.proofs.four.Statement.{statement}
-use Rattle.fields.proofs.four.Tie as tie
+use Rattle.fields.proofs.number_of_four.Statement.{statement}
+use Rattle.fields.proofs.number_of_four.Tie as tie
 
 mul-result : tie.Need-mul-result
 mul-result c = search needs
@@ -27,7 +27,7 @@ returns : tie.Need-returns
 unfolding number
 returns c = omega arith
 
-pub four-spec : {M : Type 1} → statement M
-four-spec =
+pub number-of-four-spec : {M : Type 1} → statement M
+number-of-four-spec =
     tie.close
     (tie.spec mul-result mul-result-2 add-result mul-result-3 add-result-2 add-result-3 returns)

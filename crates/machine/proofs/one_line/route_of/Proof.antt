@@ -1,9 +1,9 @@
--- `one_line::sort` meets its contract: kind by kind.
+-- `one_line::route_of` meets its contract: kind by kind.
 use mathlib.Core.Path.{sym, ap}
-use Rattle.machine.specs.Contracts.{sortOf}
+use Rattle.machine.specs.Contracts.{routeOf}
 use borrow.Author.Needs.{needs}
-use Rattle.machine.proofs.one_line.sort.Statement.{statement}
-use Rattle.machine.proofs.one_line.sort.Tie as tie
+use Rattle.machine.proofs.one_line.route_of.Statement.{statement}
+use Rattle.machine.proofs.one_line.route_of.Tie as tie
 
 enum-told : tie.Need-enum-told
 enum-told c = search needs
@@ -51,67 +51,67 @@ enum-told-15 : tie.Need-enum-told-15
 enum-told-15 c = search needs
 
 returns : tie.Need-returns
-unfolding sortOf
-returns c = sym (ap sortOf (c .enum-told .given .1))
+unfolding routeOf
+returns c = sym (ap routeOf (c .enum-told .given .1))
 
 returns-2 : tie.Need-returns-2
-unfolding sortOf
-returns-2 c = sym (ap sortOf (c .enum-told2 .given .1))
+unfolding routeOf
+returns-2 c = sym (ap routeOf (c .enum-told2 .given .1))
 
 returns-3 : tie.Need-returns-3
-unfolding sortOf
-returns-3 c = sym (ap sortOf (c .enum-told3 .given .1))
+unfolding routeOf
+returns-3 c = sym (ap routeOf (c .enum-told3 .given .1))
 
 returns-4 : tie.Need-returns-4
-unfolding sortOf
-returns-4 c = sym (ap sortOf (c .enum-told4 .given .1))
+unfolding routeOf
+returns-4 c = sym (ap routeOf (c .enum-told4 .given .1))
 
 returns-5 : tie.Need-returns-5
-unfolding sortOf
-returns-5 c = sym (ap sortOf (c .enum-told5 .given .1))
+unfolding routeOf
+returns-5 c = sym (ap routeOf (c .enum-told5 .given .1))
 
 returns-6 : tie.Need-returns-6
-unfolding sortOf
-returns-6 c = sym (ap sortOf (c .enum-told6 .given .1))
+unfolding routeOf
+returns-6 c = sym (ap routeOf (c .enum-told6 .given .1))
 
 returns-7 : tie.Need-returns-7
-unfolding sortOf
-returns-7 c = sym (ap sortOf (c .enum-told7 .given .1))
+unfolding routeOf
+returns-7 c = sym (ap routeOf (c .enum-told7 .given .1))
 
 returns-8 : tie.Need-returns-8
-unfolding sortOf
-returns-8 c = sym (ap sortOf (c .enum-told8 .given .1))
+unfolding routeOf
+returns-8 c = sym (ap routeOf (c .enum-told8 .given .1))
 
 returns-9 : tie.Need-returns-9
-unfolding sortOf
-returns-9 c = sym (ap sortOf (c .enum-told9 .given .1))
+unfolding routeOf
+returns-9 c = sym (ap routeOf (c .enum-told9 .given .1))
 
 returns-10 : tie.Need-returns-10
-unfolding sortOf
-returns-10 c = sym (ap sortOf (c .enum-told10 .given .1))
+unfolding routeOf
+returns-10 c = sym (ap routeOf (c .enum-told10 .given .1))
 
 returns-11 : tie.Need-returns-11
-unfolding sortOf
-returns-11 c = sym (ap sortOf (c .enum-told11 .given .1))
+unfolding routeOf
+returns-11 c = sym (ap routeOf (c .enum-told11 .given .1))
 
 returns-12 : tie.Need-returns-12
-unfolding sortOf
-returns-12 c = sym (ap sortOf (c .enum-told12 .given .1))
+unfolding routeOf
+returns-12 c = sym (ap routeOf (c .enum-told12 .given .1))
 
 returns-13 : tie.Need-returns-13
-unfolding sortOf
-returns-13 c = sym (ap sortOf (c .enum-told13 .given .1))
+unfolding routeOf
+returns-13 c = sym (ap routeOf (c .enum-told13 .given .1))
 
 returns-14 : tie.Need-returns-14
-unfolding sortOf
-returns-14 c = sym (ap sortOf (c .enum-told14 .given .1))
+unfolding routeOf
+returns-14 c = sym (ap routeOf (c .enum-told14 .given .1))
 
 returns-15 : tie.Need-returns-15
-unfolding sortOf
-returns-15 c = sym (ap sortOf (c .enum-told15 .given .1))
+unfolding routeOf
+returns-15 c = sym (ap routeOf (c .enum-told15 .given .1))
 
-pub sort-spec : {M : Type 1} → statement M
-sort-spec =
+pub route-of-spec : {M : Type 1} → statement M
+route-of-spec =
     tie.close
     (tie.spec
     enum-told

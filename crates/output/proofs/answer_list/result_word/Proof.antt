@@ -1,9 +1,9 @@
--- `answer_list::outcome` meets its contract: each arm is the definition's at that number.
+-- `answer_list::result_word` meets its contract: each arm is the definition's at that number.
 use borrow.Author.Tests.{ne-eqb}
 use Rattle.server.specs.Views.{resultIn}
 use Rattle.print.specs.Answers.{resultFor}
-use Rattle.output.proofs.answer_list.outcome.Statement.{statement}
-use Rattle.output.proofs.answer_list.outcome.Tie as tie
+use Rattle.output.proofs.answer_list.result_word.Statement.{statement}
+use Rattle.output.proofs.answer_list.result_word.Tie as tie
 
 returns : tie.Need-returns
 unfolding resultFor resultIn
@@ -41,7 +41,7 @@ returns-8 c =
       is = λ v t. rw (resultIn, ne-eqb _ _ (not .0 .0 .0 .0 .0 .0 .1), ne-eqb _ _ (not .0 .0 .0 .0 .0 .1), ne-eqb _ _ (not .0 .0 .0 .0 .1), ne-eqb _ _ (not .0 .0 .0 .1), ne-eqb _ _ (not .0 .0 .1), ne-eqb _ _ (not .0 .1), ne-eqb _ _ (not .1));
     }
 
-pub outcome-spec : {M : Type 1} → statement M
-outcome-spec =
+pub result-word-spec : {M : Type 1} → statement M
+result-word-spec =
     tie.close
     (tie.spec returns returns-2 returns-3 returns-4 returns-5 returns-6 returns-7 returns-8)
