@@ -22,17 +22,17 @@ ghost use Rattle.refusals.specs.Refusals.{sendCount};
 ghost use Rattle.views.specs.Queue.{flight, withoutMessage, messageTo, sentTo, spread, broadcastOf, replyOf, sent};
 ghost use Rattle.flight.specs.Flown.{Flown};
 
-// The message at this place is removed.
+// The message with this index is removed.
 pub fn remove(
     queue: &mut QueueWords,
-    payloads: &mut PayloadBytes,
+    payloads: &PayloadBytes,
     count: usize,
-    place: usize,
+    index: usize,
 ) -> usize
-    requires { ⌜ (place < count) × (count ≤ messageRoom) ⌝ }
-    ensures { λ r. ⌜ Flown (withoutMessage true place (flight (now (queue .entry)) (now (payloads .entry)) count)) (now (queue .exit)) (now (payloads .exit)) r ⌝ }
+    requires { ⌜ (index < count) × (count ≤ messageRoom) ⌝ }
+    ensures { λ r. ⌜ Flown (withoutMessage true index (flight (now (queue .entry)) (now (payloads .entry)) count)) (now (queue .exit)) (now (payloads .entry)) r ⌝ }
 {
-    remove_message(queue, payloads, count, place);
+    remove_message(queue, count, index);
     count - 1
 }
 

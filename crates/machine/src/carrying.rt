@@ -15,6 +15,7 @@ use memory::SlotWords;
 use memory::TextBytes;
 use memory::WorkingBytes;
 use memory::slot_of;
+use messages::place_of;
 use moves::Move;
 use plans::Plan;
 use plans::Step;
@@ -72,21 +73,21 @@ fn next_counts(cluster: Counts, messages: usize, calls: u32) -> Counts
 // The message handed over leaves the list, where it is not a copy.
 fn leave(
     queue: &mut QueueWords,
-    payloads: &mut PayloadBytes,
+    payloads: &PayloadBytes,
     count: usize,
-    place: usize,
+    index: usize,
     removes: bool,
 ) -> usize
-    requires { ⌜ (count ≤ messageRoom) × (removes ≡ true → place < count) ⌝ }
-    ensures { λ r. ⌜ Flown (withoutMessage removes place (flight (now (queue .entry)) (now (payloads .entry)) count)) (now (queue .exit)) (now (payloads .exit)) r ⌝ }
+    requires { ⌜ (count ≤ messageRoom) × (removes ≡ true → index < count) ⌝ }
+    ensures { λ r. ⌜ Flown (withoutMessage removes index (flight (now (queue .entry)) (now (payloads .entry)) count)) (now (queue .exit)) (now (payloads .entry)) r ⌝ }
 {
     if removes {
-        return remove(queue, payloads, count, place);
+        return remove(queue, payloads, count, index);
     }
     count
 }
 
-// The answers, then the server's arrays; the working content is filled before.
+// The answers, then the server's arrays; the working content is filled before. `place` is that of the message handed over.
 fn change_server(
     heads: &mut HeadWords,
     slots: &mut SlotWords,
@@ -97,9 +98,10 @@ fn change_server(
     cluster: Counts,
     step: Step,
     next: Move,
+    place: usize,
 ) -> u32
-    requires { ⌜ Carriable cluster step next ⌝ }
-    ensures { λ r. ⌜ ServerChanged (now (heads .entry)) (now (slots .entry)) (now (copies .entry)) (now (working .entry)) (now (payloads .entry)) (now (answers .entry)) cluster step next (now (heads .exit)) (now (slots .exit)) (now (copies .exit)) (now (answers .exit)) r ⌝ }
+    requires { ⌜ Carriable cluster step next × (place < messageRoom) ⌝ }
+    ensures { λ r. ⌜ ServerChanged (now (heads .entry)) (now (slots .entry)) (now (copies .entry)) (now (working .entry)) (now (payloads .entry)) (now (answers .entry)) cluster step next place (now (heads .exit)) (now (slots .exit)) (now (copies .exit)) (now (answers .exit)) r ⌝ }
 {
     let server = step.server as usize;
     let buckets = cluster.buckets as usize;
@@ -113,7 +115,7 @@ fn change_server(
         buckets,
         server,
         step.bucket as usize,
-        step.place as usize,
+        place,
         next,
     );
     written
@@ -130,13 +132,13 @@ fn change_flight(
     next: Move,
 ) -> usize
     requires { ⌜ Carriable cluster step next ⌝ }
-    ensures { λ r. ⌜ Flown (sent (cluster .servers) (step .server) (step .bucket) (slotOf (step .server) (step .bucket)) (step .asked) next (now (working .entry)) (now (copies .entry)) (withoutMessage (step .removes) (step .place) (flight (now (queue .entry)) (now (payloads .entry)) (cluster .messages)))) (now (queue .exit)) (now (payloads .exit)) r ⌝ }
+    ensures { λ r. ⌜ Flown (sent (cluster .servers) (step .server) (step .bucket) (slotOf (step .server) (step .bucket)) (step .asked) next (now (working .entry)) (now (copies .entry)) (withoutMessage (step .removes) (step .index) (flight (now (queue .entry)) (now (payloads .entry)) (cluster .messages)))) (now (queue .exit)) (now (payloads .exit)) r ⌝ }
 {
     let left = leave(
         queue,
         payloads,
         cluster.messages as usize,
-        step.place as usize,
+        step.index as usize,
         step.removes,
     );
     let slot = slot_of(step.server as usize, step.bucket as usize);
@@ -155,7 +157,7 @@ fn change_flight(
     )
 }
 
-// A move is carried out, once the working content of its slot is filled.
+// A move is carried out, once the working content of its slot is filled. `place` is that of the message handed over.
 fn carry_on(
     counts: &mut CountWords,
     heads: &mut HeadWords,
@@ -168,9 +170,10 @@ fn carry_on(
     cluster: Counts,
     step: Step,
     next: Move,
+    place: usize,
 ) -> Told
-    requires { ⌜ Carriable cluster step next ⌝ }
-    ensures { λ r. ⌜ CarriedOn (now (counts .entry)) (now (heads .entry)) (now (slots .entry)) (now (copies .entry)) (now (working .entry)) (now (queue .entry)) (now (payloads .entry)) (now (answers .entry)) cluster step next (now (counts .exit)) (now (heads .exit)) (now (slots .exit)) (now (copies .exit)) (now (queue .exit)) (now (payloads .exit)) (now (answers .exit)) r ⌝ }
+    requires { ⌜ Carriable cluster step next × (place < messageRoom) ⌝ }
+    ensures { λ r. ⌜ CarriedOn (now (counts .entry)) (now (heads .entry)) (now (slots .entry)) (now (copies .entry)) (now (working .entry)) (now (queue .entry)) (now (payloads .entry)) (now (answers .entry)) cluster step next place (now (counts .exit)) (now (heads .exit)) (now (slots .exit)) (now (copies .exit)) (now (queue .exit)) (now (payloads .exit)) (now (answers .exit)) r ⌝ }
 {
     let written = change_server(
         heads,
@@ -182,6 +185,7 @@ fn carry_on(
         cluster,
         step,
         next,
+        place,
     );
     let count = change_flight(queue, payloads, working, copies, cluster, step, next);
     store_counts(counts, next_counts(cluster, count, step.calls));
@@ -228,15 +232,8 @@ pub fn carry_out(
     ensures { λ r. ⌜ CarriedOut (carriedRun (memory (now (counts .entry)) (now (heads .entry)) (now (slots .entry)) (now (copies .entry)) (now (working .entry)) (now (texts .entry)) (now (queue .entry)) (now (payloads .entry))) (now (answers .entry)) cluster step next (tableIn table)) step (memory (now (counts .exit)) (now (heads .exit)) (now (slots .exit)) (now (copies .exit)) (now (working .exit)) (now (texts .entry)) (now (queue .exit)) (now (payloads .exit))) (now (answers .exit)) r ⌝ }
 {
     let slot = slot_of(step.server as usize, step.bucket as usize);
-    fill_work(
-        working,
-        copies,
-        payloads,
-        slot,
-        step.place as usize,
-        next.fills,
-        table,
-    );
+    let place = place_of(queue, step.index as usize);
+    fill_work(working, copies, payloads, slot, place, next.fills, table);
     carry_on(
         counts,
         heads,
@@ -249,6 +246,7 @@ pub fn carry_out(
         cluster,
         step,
         next,
+        place,
     )
 }
 
@@ -256,19 +254,19 @@ pub fn carry_out(
 pub fn lose(
     counts: &mut CountWords,
     queue: &mut QueueWords,
-    payloads: &mut PayloadBytes,
+    payloads: &PayloadBytes,
     cluster: Counts,
     step: Step,
     effect: Effect,
 ) -> Report
     requires { ⌜ Losable cluster step ⌝ }
-    ensures { λ r. ⌜ Lost (now (counts .entry)) (now (queue .entry)) (now (payloads .entry)) cluster step effect (now (counts .exit)) (now (queue .exit)) (now (payloads .exit)) r ⌝ }
+    ensures { λ r. ⌜ Lost (now (counts .entry)) (now (queue .entry)) (now (payloads .entry)) cluster step effect (now (counts .exit)) (now (queue .exit)) (now (payloads .entry)) r ⌝ }
 {
     let count = leave(
         queue,
         payloads,
         cluster.messages as usize,
-        step.place as usize,
+        step.index as usize,
         step.removes,
     );
     store_counts(counts, next_counts(cluster, count, step.calls));

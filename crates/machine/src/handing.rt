@@ -45,14 +45,14 @@ fn hand_listed(
     payloads: &mut PayloadBytes,
     answers: &mut AnswerWords,
     cluster: Counts,
-    place: u32,
+    index: u32,
     removes: bool,
 ) -> Report
-    requires { ⌜ Measured cluster × (place < cluster .messages) ⌝ }
-    ensures { λ r. ⌜ HandedListed (memory (now (counts .entry)) (now (heads .entry)) (now (slots .entry)) (now (copies .entry)) (now (working .entry)) (now (texts .entry)) (now (queue .entry)) (now (payloads .entry))) (now (answers .entry)) cluster place removes (memory (now (counts .exit)) (now (heads .exit)) (now (slots .exit)) (now (copies .exit)) (now (working .exit)) (now (texts .entry)) (now (queue .exit)) (now (payloads .exit))) (now (answers .exit)) r ⌝ }
+    requires { ⌜ Measured cluster × (index < cluster .messages) ⌝ }
+    ensures { λ r. ⌜ HandedListed (memory (now (counts .entry)) (now (heads .entry)) (now (slots .entry)) (now (copies .entry)) (now (working .entry)) (now (texts .entry)) (now (queue .entry)) (now (payloads .entry))) (now (answers .entry)) cluster index removes (memory (now (counts .exit)) (now (heads .exit)) (now (slots .exit)) (now (copies .exit)) (now (working .exit)) (now (texts .entry)) (now (queue .exit)) (now (payloads .exit))) (now (answers .exit)) r ⌝ }
 {
-    let message = load_message(queue, place as usize);
-    let step = message_step(cluster, place, removes, message);
+    let message = load_message(queue, index as usize);
+    let step = message_step(cluster, index, removes, message);
     let local = receiver(heads, slots, step);
     if is_gone(cluster, step, local) {
         return lose(counts, queue, payloads, cluster, step, no_effect());
@@ -80,7 +80,7 @@ fn hand_listed(
     bare_report(NO_PLACES, effect)
 }
 
-// The message at this place is handed over; `copy` leaves it in the list.
+// The message with this index is handed over; `copy` leaves it in the list.
 pub fn hand_line(
     counts: &mut CountWords,
     heads: &mut HeadWords,
@@ -91,14 +91,14 @@ pub fn hand_line(
     queue: &mut QueueWords,
     payloads: &mut PayloadBytes,
     answers: &mut AnswerWords,
-    place: u32,
+    index: u32,
     removes: bool,
 ) -> Report
-    ensures { λ r. ⌜ HandRan (memory (now (counts .entry)) (now (heads .entry)) (now (slots .entry)) (now (copies .entry)) (now (working .entry)) (now (texts .entry)) (now (queue .entry)) (now (payloads .entry))) (now (answers .entry)) place removes (memory (now (counts .exit)) (now (heads .exit)) (now (slots .exit)) (now (copies .exit)) (now (working .exit)) (now (texts .entry)) (now (queue .exit)) (now (payloads .exit))) (now (answers .exit)) r ⌝ }
+    ensures { λ r. ⌜ HandRan (memory (now (counts .entry)) (now (heads .entry)) (now (slots .entry)) (now (copies .entry)) (now (working .entry)) (now (texts .entry)) (now (queue .entry)) (now (payloads .entry))) (now (answers .entry)) index removes (memory (now (counts .exit)) (now (heads .exit)) (now (slots .exit)) (now (copies .exit)) (now (working .exit)) (now (texts .entry)) (now (queue .exit)) (now (payloads .exit))) (now (answers .exit)) r ⌝ }
 {
     let cluster = load_counts(counts);
     if standing(cluster) {
-        let refusal = message_refusal(cluster, place);
+        let refusal = message_refusal(cluster, index);
         if refusal == NONE {
             return hand_listed(
                 counts,
@@ -111,7 +111,7 @@ pub fn hand_line(
                 payloads,
                 answers,
                 cluster,
-                place,
+                index,
                 removes,
             );
         }

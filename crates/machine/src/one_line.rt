@@ -174,17 +174,18 @@ fn cluster_line(
     heads: &mut HeadWords,
     slots: &mut SlotWords,
     copies: &mut CopyBytes,
+    queue: &mut QueueWords,
     servers: u32,
     buckets: u32,
 ) -> u32
-    ensures { λ r. ⌜ Clustered (now (counts .entry)) (now (heads .entry)) (now (slots .entry)) (now (copies .entry)) servers buckets (now (counts .exit)) (now (heads .exit)) (now (slots .exit)) (now (copies .exit)) r ⌝ }
+    ensures { λ r. ⌜ Clustered (now (counts .entry)) (now (heads .entry)) (now (slots .entry)) (now (copies .entry)) (now (queue .entry)) servers buckets (now (counts .exit)) (now (heads .exit)) (now (slots .exit)) (now (copies .exit)) (now (queue .exit)) r ⌝ }
 {
     if standing(load_counts(counts)) {
         return CLUSTER_WRONG;
     }
     if within(MAX_SERVERS, servers) {
         if within(MAX_BUCKETS, buckets) {
-            create(counts, heads, slots, copies, servers, buckets);
+            create(counts, heads, slots, copies, queue, servers, buckets);
             return NONE;
         }
     }
@@ -248,7 +249,15 @@ pub fn run_line(
         return bare_report(MALFORMED, no_effect());
     }
     if route == CLUSTER_LINE {
-        let refusal = cluster_line(counts, heads, slots, copies, line.first, line.second);
+        let refusal = cluster_line(
+            counts,
+            heads,
+            slots,
+            copies,
+            queue,
+            line.first,
+            line.second,
+        );
         return bare_report(refusal, no_effect());
     }
     if route == PLANNED_LINE {
