@@ -16,12 +16,13 @@ ghost use Prim.Native.Nat.{_≤_};
 ghost use lib.ListN.{length, replicate};
 ghost use Rattle.blocks.specs.Order.{rising};
 ghost use Rattle.memory.specs.Layout.{messageRoom, queueLength, freshPlaces};
+ghost use Rattle.memory.specs.Lent.{was, is};
 ghost use Rattle.runs.specs.Runs.{freshCounts};
 ghost use Rattle.machine.specs.Contracts.{Created};
 
 fn zero_words(dst: &mut [u32], len: usize)
     requires { ⌜ length (now dst) ≡ len ⌝ }
-    ensures { λ _. ⌜ now (dst .exit) ≡ replicate len 0 ⌝ }
+    ensures { λ _. ⌜ is dst ≡ replicate len 0 ⌝ }
 {
     let mut i = 0;
     while i < len {
@@ -32,7 +33,7 @@ fn zero_words(dst: &mut [u32], len: usize)
 
 fn zero_bytes(dst: &mut [u8], len: usize)
     requires { ⌜ length (now dst) ≡ len ⌝ }
-    ensures { λ _. ⌜ now (dst .exit) ≡ replicate len 0 ⌝ }
+    ensures { λ _. ⌜ is dst ≡ replicate len 0 ⌝ }
 {
     let mut i = 0;
     while i < len {
@@ -56,7 +57,7 @@ fn fresh_counts(servers: u32, buckets: u32) -> Counts
 // Every word of the order names its own place.
 fn number_words(dst: &mut [u32], len: usize)
     requires { ⌜ (length (now dst) ≡ len) × (len ≤ messageRoom) ⌝ }
-    ensures { λ _. ⌜ now (dst .exit) ≡ rising 0 len ⌝ }
+    ensures { λ _. ⌜ is dst ≡ rising 0 len ⌝ }
 {
     let mut i = 0;
     while i < len {
@@ -68,7 +69,7 @@ fn number_words(dst: &mut [u32], len: usize)
 // All places are free.
 fn free_places(queue: &mut [u32])
     requires { ⌜ length (now queue) ≡ queueLength ⌝ }
-    ensures { λ _. ⌜ now (queue .exit) ≡ freshPlaces (now (queue .entry)) ⌝ }
+    ensures { λ _. ⌜ is queue ≡ freshPlaces (was queue) ⌝ }
 {
     number_words(&mut queue[ORDER_AT..], MESSAGES);
 }
@@ -83,7 +84,7 @@ pub fn create(
     servers: u32,
     buckets: u32,
 )
-    ensures { λ _. ⌜ Created (now (counts .entry)) (now (queue .entry)) servers buckets (now (counts .exit)) (now (heads .exit)) (now (slots .exit)) (now (copies .exit)) (now (queue .exit)) ⌝ }
+    ensures { λ _. ⌜ Created (was counts) (was queue) servers buckets (is counts) (is heads) (is slots) (is copies) (is queue) ⌝ }
 {
     zero_words(heads, HEADS_LEN);
     zero_words(slots, SLOTS_LEN);
