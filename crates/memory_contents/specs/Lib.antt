@@ -1,0 +1,2 @@
+-- What the contracts of `memory_contents` cite.
+pub mod Copied
