@@ -47,7 +47,7 @@ room-left c false i kind q l q′ l′ r f e =
 -- what the parts of a step leave
 pub carried-out : (counts heads slots copies working texts queue payloads l : List ℕ) (c : Counts) (x : Step) (v : Move) (f : Effect) (made : List Entry)
     (counts′ heads′ slots′ copies′ working′ queue′ payloads′ l′ : List ℕ) (k : ℕ) (t : Told) → k ≡ slotOf (x .server) (x .bucket)
-    → working′ ≡ filledFrom working copies payloads k (x .place) made (v .fills)
+    → working′ ≡ filledFrom working copies payloads k (x .index) made (v .fills)
     → CarriedOn counts heads slots copies working′ queue payloads l c x v counts′ heads′ slots′ copies′ queue′ payloads′ l′ t
     → ran (memory counts′ heads′ slots′ copies′ working′ texts queue′ payloads′) l′ (carriedReport t x f)
     ≡ carriedRun (memory counts heads slots copies working texts queue payloads) l c x v made

@@ -35,8 +35,8 @@ use Rattle.machine.specs.Contracts.{Carriable, Executable}
 record Placed (c : Counts) (x : Step) : Type 0 where
   server : x .server < c .servers
   bucket : x .bucket < 8
-  place : x .place < 64
-  there : x .removes ≡ true → x .place < c .messages
+  place : x .index < 64
+  there : x .removes ≡ true → x .index < c .messages
 
 carriable : {c : Counts} {x : Step} {v : Move} → Measured c → Placed c x → placesLeft c (x .removes) (v .sends) ≡ true → Carriable c x v
 carriable m h e = record {
@@ -77,7 +77,7 @@ module _ (c : Counts) where
 
   -- ---- lines that name a server
 
-  placed : (x : Step) → x .removes ≡ false → x .place ≡ 0 → Measured c → inside c (x .server) (x .bucket) ≡ true → Placed c x
+  placed : (x : Step) → x .removes ≡ false → x .index ≡ 0 → Measured c → inside c (x .server) (x .bucket) ≡ true → Placed c x
   placed x k i m h =
       let n = inside-there c (x .server) (x .bucket) h in
       record { server = n .0; bucket = omega (arith, n .1, m .buckets); place = omega (arith, i); there = λ e. absurd (true≢false (sym e ∙ k)) }
@@ -140,18 +140,18 @@ module _ (c : Counts) where
   unfolding gone noReceiver
   stays x l s h = omega (arith, s, leb-false (c .servers) (x .asked .receiver) (present (leb (c .servers) (x .asked .receiver)) (flagIn (l .head .stopped)) h))
 
-  hands : (x : Step) (y : Message) (l : Local) (f : Effect) → Measured c → x .place < c .messages → x .server ≤ x .asked .receiver → x .bucket ≤ 7 → Executable c (handPlan c x y l f)
+  hands : (x : Step) (y : Message) (l : Local) (f : Effect) → Measured c → x .index < c .messages → x .server ≤ x .asked .receiver → x .bucket ≤ 7 → Executable c (handPlan c x y l f)
   unfolding handPlan
   hands x y l f m i s b =
       either (gone c x l) _ _
-      (λ h. loses (x .place) (x .removes) f m i)
+      (λ h. loses (x .index) (x .removes) f m i)
       (λ h. carries _ refl m (record { server = stays x l s h; bucket = omega (arith, b); place = omega (arith, i, m .messages); there = λ e. i }))
 
   hands-at : (a : Memory) (i : ℕ) (removes : Bool) (f : Effect) → Measured c → Executable c (handAt a c i removes f)
   unfolding handAt
   hands-at a i removes f m = accepted _ f _ (λ z. hands _ _ _ f m (in-list c i z) (min-le-right 6 _) (min-le-left 7 _))
 
-  cuts : (x : Step) (k : ℕ) (y : Message) (l : Local) (f : Effect) → Measured c → x .place < c .messages → x .server ≤ x .asked .receiver → x .bucket ≤ 7 → Executable c (cutPlan c x k y l f)
+  cuts : (x : Step) (k : ℕ) (y : Message) (l : Local) (f : Effect) → Measured c → x .index < c .messages → x .server ≤ x .asked .receiver → x .bucket ≤ 7 → Executable c (cutPlan c x k y l f)
   unfolding cutPlan
   cuts x k y l f m i s b =
       either (gone c x l) _ _

@@ -75,14 +75,14 @@ module _ (m : Memory) (l : List ℕ) (c : Counts) (x : Step) (y : Message) (to :
 
 module _ (c : Counts) (i : ℕ) (removes : Bool) (y : Message) (x : Step) (e : x ≡ messageStep c i removes y) where
   pub losable : Measured c → i < c .messages → Losable c x
-  losable m h = record { messages = m .messages; there = λ _. rw (ap (λ x. x .place) e) h }
+  losable m h = record { messages = m .messages; there = λ _. rw (ap (λ x. x .index) e) h }
 
   pub handable : Measured c → i < c .messages → (to : Local) → gone c x to ≡ false → Handable c x
   handable m h to g = record {
     measured = m;
     server = stays c x to (rw e (min-le-right 6 (y .receiver))) g;
     bucket = let b : x .bucket ≤ 7 = rw (ap (λ x. x .bucket) e) (min-le-left 7 (y .bucket)) in omega arith;
-    listed = rw (ap (λ x. x .place) e) h;
+    listed = rw (ap (λ x. x .index) e) h;
   }
 
 module _ (counts heads slots copies working texts queue payloads l : List ℕ) (c : Counts) (i : ℕ) (removes : Bool) where

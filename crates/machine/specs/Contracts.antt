@@ -33,7 +33,7 @@ use Rattle.machine.specs.declared.Told.{Told}
 -- a message is there to be lost
 pub record Losable (c : Counts) (x : Step) : Type 0 where
   pub messages : c .messages ≤ messageRoom
-  pub there : x .removes ≡ true → x .place < c .messages
+  pub there : x .removes ≡ true → x .index < c .messages
 
 -- a move has its server, bucket and message, and places for what it sends
 pub record Carriable (c : Counts) (x : Step) (v : Move) : Type 0 where
@@ -41,18 +41,18 @@ pub record Carriable (c : Counts) (x : Step) (v : Move) : Type 0 where
   pub buckets : c .buckets ≤ bucketRoom
   pub server : x .server < c .servers
   pub bucket : x .bucket < bucketRoom
-  pub place : x .place < messageRoom
+  pub place : x .index < messageRoom
   pub losable : Losable c x
   pub room : placesLeft c (x .removes) (v .sends) ≡ true
 
 pub record ServerChanged (heads slots copies working payloads answers : List ℕ) (c : Counts) (x : Step) (v : Move) (heads′ slots′ copies′ answers′ : List ℕ) (r : ℕ) : Type 0 where
   pub listed : Listed (answered slots (c .buckets) (x .server) v answers) answers′ r
-  pub moves : MovedServer heads slots copies working payloads (c .buckets) (x .server) (x .bucket) (x .place) v heads′ slots′ copies′
+  pub moves : MovedServer heads slots copies working payloads (c .buckets) (x .server) (x .bucket) (x .index) v heads′ slots′ copies′
 
 -- the arrays after a move whose working content is filled
 pub record CarriedOn (counts heads slots copies working queue payloads answers : List ℕ) (c : Counts) (x : Step) (v : Move) (counts′ heads′ slots′ copies′ queue′ payloads′ answers′ : List ℕ) (r : Told) : Type 0 where
   pub server : ServerChanged heads slots copies working payloads answers c x v heads′ slots′ copies′ answers′ (r .answers)
-  pub flown : Flown (sent (c .servers) (x .server) (x .bucket) (slotOf (x .server) (x .bucket)) (x .asked) v working copies′ (withoutMessage (x .removes) (x .place) (flight queue payloads (c .messages)))) queue′ payloads′ (r .messages)
+  pub flown : Flown (sent (c .servers) (x .server) (x .bucket) (slotOf (x .server) (x .bucket)) (x .asked) v working copies′ (withoutMessage (x .removes) (x .index) (flight queue payloads (c .messages)))) queue′ payloads′ (r .messages)
   pub counted : counts′ ≡ putCounts counts (nextCounts c (r .messages) (x .calls))
   pub sends : r .sent ≡ sendCount (c .servers) (v .sends)
 
@@ -71,7 +71,7 @@ pub record CarriedOut (y : Ran) (x : Step) (m : Memory) (answers : List ℕ) (r 
 
 -- a message is lost: what is reported, and the counts and messages
 pub record Lost (counts queue payloads : List ℕ) (c : Counts) (x : Step) (f : Effect) (counts′ queue′ payloads′ : List ℕ) (r : Report) : Type 0 where
-  pub rest : flight queue′ payloads′ (r .messages) ≡ withoutMessage (x .removes) (x .place) (flight queue payloads (c .messages))
+  pub rest : flight queue′ payloads′ (r .messages) ≡ withoutMessage (x .removes) (x .index) (flight queue payloads (c .messages))
   pub counted : counts′ ≡ putCounts counts (nextCounts c (r .messages) (x .calls))
   pub report : r ≡ record { refusal = 0; answers = 0; sent = 0; copied = x .copied; delivered = 0; lost = 1; messages = r .messages; effect = f }
 
@@ -98,7 +98,7 @@ pub record Handable (c : Counts) (x : Step) : Type 0 where
   pub measured : Measured c
   pub server : x .server < c .servers
   pub bucket : x .bucket < bucketRoom
-  pub listed : x .place < c .messages
+  pub listed : x .index < c .messages
 
 -- the run of message y at its receiver, with the effect f
 abbrev pub handledRun : Memory → List ℕ → Counts → Step → Message → Local → Effect → Ran

@@ -3,7 +3,7 @@
 use mathlib.Core.Path.{_≡_, ap, _∙_}
 use mathlib.Core.Logic.{_≢_}
 use mathlib.Core.List.{List}
-use Prim.Native.Nat.{ℕ, _+_, _*_, _≤_}
+use Prim.Native.Nat.{ℕ, _+_, _*_, _≤_, _<_}
 use native.Mathlib.Omega.{arith}
 use lib.ListN.{length}
 use Rattle.server.specs.declared.Version.{Version}
@@ -50,14 +50,17 @@ use Rattle.memory.specs.Layout.{
   putNumbers,
   messageOf,
   messageRow,
-  messageAt,
-  putMessage,
+  messageRoom,
+  orderPlace,
+  orderOf,
+  headerAt,
+  putHeader,
   countsOf,
   countsRow,
   countsAt,
   putCounts,
 }
-use Rattle.memory.proofs.Rows.{length-putRow, row-put, row-other, row-beside, row-all}
+use Rattle.memory.proofs.Rows.{length-putRow, drop-putRow, row-put, row-other, row-beside, row-all}
 
 -- ---- heads
 
@@ -186,18 +189,23 @@ module _ (l : List ℕ) (i : ℕ) (n : Numbers) where
 
 -- ---- headers of messages
 
-module _ (l : List ℕ) (i : ℕ) (m : Message) where
-  pub length-putMessage : length (putMessage l i m) ≡ length l
-  unfolding putMessage
-  length-putMessage = length-putRow (messageRow m) l (i * messageSize) 0
+module _ (l : List ℕ) (p : ℕ) (m : Message) where
+  pub length-putHeader : length (putHeader l p m) ≡ length l
+  unfolding putHeader
+  length-putHeader = length-putRow (messageRow m) l (p * messageSize) 0
 
-  pub message-putMessage : (i + 1) * messageSize ≤ length l → messageAt (putMessage l i m) i ≡ m
-  unfolding messageAt putMessage
-  message-putMessage fits = ap messageOf (row-put (messageRow m) l (i * messageSize) 0 (omega arith))
+  pub header-putHeader : (p + 1) * messageSize ≤ length l → headerAt (putHeader l p m) p ≡ m
+  unfolding headerAt putHeader
+  header-putHeader fits = ap messageOf (row-put (messageRow m) l (p * messageSize) 0 (omega arith))
 
-  pub message-elsewhere : (k : ℕ) → k ≢ i → messageAt (putMessage l i m) k ≡ messageAt l k
-  unfolding messageAt putMessage
-  message-elsewhere k different = ap messageOf (row-other messageSize k i 0 messageSize (messageRow m) l 0 (omega arith) (omega arith) different)
+  pub header-elsewhere : (k : ℕ) → k ≢ p → headerAt (putHeader l p m) k ≡ headerAt l k
+  unfolding headerAt putHeader
+  header-elsewhere k different = ap messageOf (row-other messageSize k p 0 messageSize (messageRow m) l 0 (omega arith) (omega arith) different)
+
+  -- the order lies behind the headers
+  pub order-putHeader : p < messageRoom → orderOf (putHeader l p m) ≡ orderOf l
+  unfolding putHeader
+  order-putHeader among = drop-putRow (messageRow m) l (p * messageSize) 0 orderPlace (omega arith)
 
 -- ---- counts
 

@@ -1,18 +1,23 @@
 -- Laws of words read and written one by one, for every place and number of words: what was stored is read back, words apart from it stay.
 use mathlib.Core.Path.{_≡_, refl, ap, _∙_}
 use mathlib.Core.Logic.{_≢_}
-use mathlib.Core.List.{List, [], _∷_}
+use mathlib.Core.List.{List, [], _∷_, _++_}
 use Prim.Native.Nat.{ℕ, zero, suc, _+_, _*_, _≤_, _<_}
 use native.Mathlib.Decide.{decLt}
 use native.Mathlib.Omega.{arith}
-use lib.ListN.{length, getD, set, take, drop, length-set}
-use lib.Seq.{sets, take-all, drop-cons, getD-set-same, getD-set-other}
+use lib.ListN.{length, getD, set, take, drop, length-set, List·getD-append}
+use lib.Seq.{getD-take, length-take-le, take-all, drop-cons, drop-set-lt, getD-set-same, getD-set-other}
 use Rattle.blocks.proofs.Laws.{blocks-around}
 use Rattle.memory.specs.Rows.{row, putRow}
 
 pub length-putRow : (vs l : List ℕ) (p o : ℕ) → length (putRow l p o vs) ≡ length l
 length-putRow [] l p o = refl
 length-putRow (v ∷ vs) l p o = length-putRow vs (set l (p + o) v) p (o + 1) ∙ length-set l (p + o) v
+
+-- words behind what is stored
+pub drop-putRow : (vs l : List ℕ) (p o n : ℕ) → p + o + length vs ≤ n → drop n (putRow l p o vs) ≡ drop n l
+drop-putRow [] l p o n h = refl
+drop-putRow (v ∷ vs) l p o n h = drop-putRow vs (set l (p + o) v) p (o + 1) n (omega arith) ∙ drop-set-lt n l (p + o) v (omega arith)
 
 -- a place that is not written
 unwritten : (vs l : List ℕ) (p o x : ℕ) → ((j : ℕ) → j < length vs → x ≢ p + o + j) → getD (putRow l p o vs) x 0 ≡ getD l x 0
@@ -58,9 +63,17 @@ module _ (w k i r n : ℕ) (vs l : List ℕ) (o : ℕ) (inside : r + n ≤ w) (f
   pub row-other : k ≢ i → row (k * w) r n (putRow l (i * w) o vs) ≡ row (k * w) r n l
   row-other different = row-beside (λ same. absurd (different same))
 
+-- words of the front of a list, whatever stands behind it
+pub row-front : (n p o k : ℕ) (l r : List ℕ) → p + o + n ≤ k → k ≤ length l → row p o n (take k l ++ r) ≡ row p o n l
+row-front zero p o k l r h fits = refl
+row-front (suc n) p o k l r h fits =
+    let long : length (take k l) ≡ k = length-take-le k l fits in
+    let here : getD (take k l ++ r) (p + o) 0 ≡ getD l (p + o) 0 = List·getD-append (take k l) r 0 (p + o) (omega arith) ∙ getD-take k l (p + o) 0 (omega arith) in
+    rw here (ap (λ x. getD l (p + o) 0 ∷ x) (row-front n p (o + 1) k l r (omega arith) fits))
+
 -- ---- rows as parts of the list
 
-pub row-part : (n p o : ℕ) (l : List ℕ) → p + o + n ≤ length l → row p o n l ≡ take n (drop (p + o) l)
+row-part : (n p o : ℕ) (l : List ℕ) → p + o + n ≤ length l → row p o n l ≡ take n (drop (p + o) l)
 row-part zero p o l h = refl
 row-part (suc n) p o l h =
     let e : p + (o + 1) ≡ suc (p + o) = omega arith in
@@ -70,9 +83,3 @@ row-part (suc n) p o l h =
 -- a list of n words, read word by word, is the list
 pub row-all : (n : ℕ) (l : List ℕ) → length l ≡ n → row 0 0 n l ≡ l
 row-all n l size = row-part n 0 0 l (omega arith) ∙ take-all n l (omega arith)
-
-pub putRow-sets : (vs l : List ℕ) (p o : ℕ) → putRow l p o vs ≡ sets l (p + o) vs
-putRow-sets [] l p o = refl
-putRow-sets (v ∷ vs) l p o =
-    let e : p + (o + 1) ≡ suc (p + o) = omega arith in
-    rw (← e) (putRow-sets vs (set l (p + o) v) p (o + 1))

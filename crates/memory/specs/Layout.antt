@@ -9,6 +9,7 @@ use lib.Dec.{ltb}
 use lib.ListN.{length, getD, take, drop, set}
 use lib.Seq.{paste}
 use Rattle.blocks.specs.Blocks.{blocks, block, refilled}
+use Rattle.blocks.specs.Order.{place, rotated, rising}
 use Rattle.entries.specs.declared.Key.{Key}
 use Rattle.entries.specs.declared.Value.{Value}
 use Rattle.entries.specs.declared.Item.{Item}
@@ -53,6 +54,13 @@ messageSize = 8
 
 abbrev pub answerSize : ℕ
 answerSize = 4
+
+-- where the order of the messages begins, behind their blocks, and how many words both have
+abbrev pub orderPlace : ℕ
+orderPlace = 512
+
+abbrev pub queueLength : ℕ
+queueLength = 576
 
 -- bytes of the block of a content, and those of them that count; bytes of the block of a call's key and values
 abbrev pub contentSize : ℕ
@@ -280,7 +288,7 @@ pub record Whole (w : Words) : Type 0 where
   pub expected-room : length (w .expected .value .bytes) ≡ valueRoom
   pub value-room : length (w .value .value .bytes) ≡ valueRoom
 
--- ---- contents: those of the copies and the working contents, at the slot; those of the messages, at the message
+-- ---- contents: those of the copies and the working contents, at the slot; those of the messages, at their places
 
 -- the bytes that count of content i
 unfoldable pub contentAt : List ℕ → ℕ → List ℕ
@@ -290,7 +298,28 @@ contentAt l i = take contentBytes (block contentSize i l)
 unfoldable pub putContent : List ℕ → ℕ → List ℕ → List ℕ
 putContent l i v = refilled (set (blocks contentSize (i + 1) l) i v) l
 
--- ---- messages: kind, sender, receiver, bucket, election, round, the version's two numbers
+-- ---- messages: a place for each, and behind the places the order, which lists them: first those of the messages in flight, in the
+-- order in which they were sent, then the free ones. A message stays at its place, its content at the same place of the contents
+
+abbrev pub orderOf : List ℕ → List ℕ
+orderOf l = drop orderPlace l
+
+abbrev pub placeField : List ℕ → ℕ → ℕ
+placeField l i = place (getD l (orderPlace + i) 0)
+
+-- the place of message i of the list; from their count on, the free places
+unfoldable pub placeAt : List ℕ → ℕ → ℕ
+placeAt l i = placeField l i
+
+-- message i of n goes: its place is the first free one then
+unfoldable pub withoutPlace : ℕ → ℕ → List ℕ → List ℕ
+withoutPlace n i l = elim (ltb i n) [ true ↦ take orderPlace l ++ rotated n i (orderOf l) | false ↦ l ]
+
+-- all places are free, in their own order
+unfoldable pub freshPlaces : List ℕ → List ℕ
+freshPlaces l = take orderPlace l ++ rising 0 messageRoom
+
+-- kind, sender, receiver, bucket, election, round, the version's two numbers
 
 abbrev pub messageRow : Message → List ℕ
 messageRow m =
@@ -309,16 +338,24 @@ messageOf w =
     }
 
 abbrev pub messageFields : List ℕ → ℕ → Message
-messageFields l i = messageOf (row (i * messageSize) 0 messageSize l)
+messageFields l p = messageOf (row (p * messageSize) 0 messageSize l)
 
 abbrev pub messageStores : List ℕ → ℕ → Message → List ℕ
-messageStores l i m = putRow l (i * messageSize) 0 (messageRow m)
+messageStores l p m = putRow l (p * messageSize) 0 (messageRow m)
 
-unfoldable pub messageAt : List ℕ → ℕ → Message
-messageAt l i = messageFields l i
+-- the header at place p, and the header of message i of the list
+unfoldable pub headerAt : List ℕ → ℕ → Message
+headerAt l p = messageFields l p
 
-unfoldable pub putMessage : List ℕ → ℕ → Message → List ℕ
-putMessage l i m = messageStores l i m
+abbrev pub messageAt : List ℕ → ℕ → Message
+messageAt l i = headerAt l (placeAt l i)
+
+unfoldable pub putHeader : List ℕ → ℕ → Message → List ℕ
+putHeader l p m = messageStores l p m
+
+-- a header stored as that of message n
+abbrev pub putMessage : List ℕ → ℕ → Message → List ℕ
+putMessage l n m = putHeader l (placeAt l n) m
 
 -- ---- counts: servers, buckets, messages in flight, accepted lines, calls
 

@@ -30,6 +30,9 @@ pub const CONTENT_SIZE: usize = 128;
 
 pub const TEXT_SIZE: usize = 64;
 
+// Where the order of the messages begins in their array: a word for each of them, behind their headers.
+pub const ORDER_AT: usize = MESSAGES * HEADER_SIZE;
+
 // Lengths of the arrays.
 pub const COUNTS_LEN: usize = 8;
 
@@ -41,14 +44,14 @@ pub const CONTENTS_LEN: usize = SLOTS * CONTENT_SIZE;
 
 pub const TEXTS_LEN: usize = SLOTS * TEXT_SIZE;
 
-pub const QUEUE_LEN: usize = MESSAGES * HEADER_SIZE;
+pub const QUEUE_LEN: usize = MESSAGES * HEADER_SIZE + MESSAGES;
 
 pub const PAYLOADS_LEN: usize = MESSAGES * CONTENT_SIZE;
 
 pub const ANSWERS_LEN: usize = BUCKETS * ANSWER_SIZE;
 
 // The lent arrays: the cluster's counts, heads of servers, slots, contents of copies and working contents, keys and values of open
-// calls, headers and contents of messages in flight, answers of a line.
+// calls, headers of messages in flight with their order, their contents, answers of a line.
 pub type CountWords = [u32; COUNTS_LEN];
 
 pub type HeadWords = [u32; HEADS_LEN];

@@ -1,118 +1,133 @@
 -- The list of messages in flight after one was appended or removed, and one message of it.
-use mathlib.Core.Path.{_≡_, refl, sym, ap, _∙_}
-use mathlib.Core.List.{List, [], _∷_, _++_, zipWith}
-use Prim.Native.Nat.{ℕ, zero, suc, _+_, _-_, _*_, _≤_, _<_}
-use native.Mathlib.Nat.{add-zero}
+use mathlib.Core.Path.{_≡_, refl, sym, ap, _∙_, subst}
+use mathlib.Core.Bool.{Bool, true, false}
+use mathlib.Core.Logic.{_≢_}
+use mathlib.Core.List.{List, [], _∷_, _++_, append-nil}
+use Prim.Native.Nat.{ℕ, _+_, _-_, _*_, _≤_, _<_}
+use native.Mathlib.Nat.{mod-lt}
 use native.Mathlib.Omega.{arith}
-use lib.ListN.{length, getD, set, take, drop, length-take}
-use lib.Seq.{sets}
-use Rattle.blocks.specs.Blocks.{blocks, block, without, refilled}
-use Rattle.blocks.proofs.Laws.{length-blocks, blocks-split, set-last, sets-stored, blocks-stored, getD-blocks, blocks-removed, length-removed}
+use borrow.Author.Tests.{lt-ltb, ltb-true}
+use lib.Dec.{ltb}
+use lib.ListN.{length, getD, take, drop, length-drop, length-append, drop-of-length-le}
+use lib.Seq.{take-all, drop-at, getD-drop, length-take-le}
+use Rattle.blocks.specs.Blocks.{without}
+use Rattle.blocks.specs.Order.{place, Ordered, listed, rotated, rising}
+use Rattle.blocks.proofs.Order.{length-listed, listed-at, listed-rotated, listed-appended, listed-same, length-rotated, ordered-rotated, ordered-rising}
 use Rattle.server.specs.declared.Message.{Message}
-use Rattle.memory.specs.Layout.{messageSize, contentSize, contentBytes, messageOf, messageRow, messageAt, putMessage, contentAt, putContent}
-use Rattle.messages.specs.Messages.{Sent, sent, messagesAt, closedUp}
-use Rattle.memory.proofs.Rows.{row-part, putRow-sets}
+use Rattle.memory.specs.Layout.{messageRoom, queueLength, messageSize, contentSize, contentBytes, orderPlace, orderOf, placeAt, withoutPlace, freshPlaces, messageOf, headerAt, putMessage, contentAt, putContent}
+use Rattle.memory.proofs.Rows.{row-front}
+use Rattle.memory.proofs.Records.{header-putHeader, header-elsewhere, order-putHeader}
+use Rattle.messages.specs.Messages.{Sent, sentAt, messagesAt}
+use Rattle.messages.proofs.ContentLaws.{content-putContent, content-elsewhere}
 
--- ---- two lists side by side
+-- ---- places
 
-module _ {A B C : Type 0} (f : A → B → C) where
-  zipWith-append : (a : List A) (b : List B) (c : List A) (d : List B) → length a ≡ length b → zipWith f (a ++ c) (b ++ d) ≡ zipWith f a b ++ zipWith f c d
-  unfolding zipWith
-  zipWith-append [] [] c d h = refl
-  zipWith-append [] (y ∷ b) c d h = absurd (omega arith)
-  zipWith-append (x ∷ a) [] c d h = absurd (omega arith)
-  zipWith-append (x ∷ a) (y ∷ b) c d h = ap (λ r. f x y ∷ r) (zipWith-append a b c d (omega arith))
+pub place-low : (q : List ℕ) (i : ℕ) → placeAt q i < messageRoom
+unfolding placeAt
+place-low q i = mod-lt (getD q (orderPlace + i) 0) (omega arith)
 
-  zipWith-take : (i : ℕ) (a : List A) (b : List B) → zipWith f (take i a) (take i b) ≡ take i (zipWith f a b)
-  unfolding zipWith
-  zipWith-take zero a b = refl
-  zipWith-take (suc i) [] b = refl
-  zipWith-take (suc i) (x ∷ a) [] = refl
-  zipWith-take (suc i) (x ∷ a) (y ∷ b) = ap (λ r. f x y ∷ r) (zipWith-take i a b)
+place-order : (q : List ℕ) (i : ℕ) → place (getD (orderOf q) i 0) ≡ placeAt q i
+unfolding placeAt
+place-order q i = ap place (getD-drop orderPlace q i 0)
 
-  zipWith-nil : (a : List A) → zipWith f a [] ≡ []
-  unfolding zipWith
-  zipWith-nil [] = refl
-  zipWith-nil (x ∷ a) = refl
-
-  zipWith-drop : (i : ℕ) (a : List A) (b : List B) → zipWith f (drop i a) (drop i b) ≡ drop i (zipWith f a b)
-  unfolding zipWith
-  zipWith-drop zero a b = refl
-  zipWith-drop (suc i) [] b = refl
-  zipWith-drop (suc i) (x ∷ a) [] = zipWith-nil (drop i a)
-  zipWith-drop (suc i) (x ∷ a) (y ∷ b) = zipWith-drop i a b
-
-  zipWith-without : (i : ℕ) (a : List A) (b : List B) → length a ≡ length b → zipWith f (without i a) (without i b) ≡ without i (zipWith f a b)
-  unfolding without
-  zipWith-without i a b h =
-      let e : length (take i a) ≡ length (take i b) = rw (length-take i a, length-take i b, h) in
-      rw (zipWith-append (take i a) (take i b) (drop (i + 1) a) (drop (i + 1) b) e, zipWith-take, zipWith-drop)
-
-  length-zipWith : (a : List A) (b : List B) → length a ≡ length b → length (zipWith f a b) ≡ length a
-  unfolding zipWith
-  length-zipWith [] b h = refl
-  length-zipWith (x ∷ a) [] h = absurd (omega arith)
-  length-zipWith (x ∷ a) (y ∷ b) h = ap suc (length-zipWith a b (omega arith))
-
-  getD-zipWith : (a : List A) (b : List B) (i : ℕ) (x : A) (y : B) (z : C) → i < length a → i < length b → getD (zipWith f a b) i z ≡ f (getD a i x) (getD b i y)
-  unfolding zipWith
-  getD-zipWith [] b i x y z h k = absurd (omega arith)
-  getD-zipWith (u ∷ a) [] i x y z h k = absurd (omega arith)
-  getD-zipWith (u ∷ a) (v ∷ b) zero x y z h k = refl
-  getD-zipWith (u ∷ a) (v ∷ b) (suc i) x y z h k = getD-zipWith a b i x y z (omega arith) (omega arith)
+length-order : (q : List ℕ) → length q ≡ queueLength → length (orderOf q) ≡ messageRoom
+length-order q size = length-drop orderPlace q ∙ omega arith
 
 -- ---- one message
 
-message-block : (q : List ℕ) (i : ℕ) → (i + 1) * messageSize ≤ length q → messageAt q i ≡ messageOf (block messageSize i q)
-unfolding messageAt block
-message-block q i h = ap messageOf (row-part messageSize (i * messageSize) 0 q (omega arith) ∙ ap (λ p. take messageSize (drop p q)) (add-zero (i * messageSize)))
-
-module _ (n : ℕ) (q l : List ℕ) where
+module _ (n : ℕ) (q l : List ℕ) (size : length q ≡ queueLength) (few : n ≤ messageRoom) where
   pub length-messages : length (messagesAt n q l) ≡ n
   unfolding messagesAt
-  length-messages = length-zipWith sent (blocks messageSize n q) (blocks contentSize n l) (length-blocks messageSize n q ∙ sym (length-blocks contentSize n l)) ∙ length-blocks messageSize n q
+  length-messages = length-listed (sentAt q l) n (orderOf q) (omega (arith, length-order q size))
 
-  -- message i: its header and its content
-  pub messages-at : (i : ℕ) (z : Sent) → i < n → n * messageSize ≤ length q → getD (messagesAt n q l) i z ≡ record { header = messageAt q i; content = contentAt l i }
-  unfolding messagesAt contentAt
-  messages-at i z among fits =
-      getD-zipWith sent (blocks messageSize n q) (blocks contentSize n l) i [] [] z (rw length-blocks among) (rw length-blocks among)
-      ∙ rw (getD-blocks messageSize n i q [] among, getD-blocks contentSize n i l [] among, message-block q i (omega arith))
+  pub messages-at : (i : ℕ) (z : Sent) → i < n → getD (messagesAt n q l) i z ≡ sentAt q l (placeAt q i)
+  unfolding messagesAt
+  messages-at i z among = listed-at (sentAt q l) n (orderOf q) (omega (arith, length-order q size)) i z among ∙ ap (sentAt q l) (place-order q i)
 
--- ---- one appended
+-- ---- one appended, with the block v as its content
 
-headers-appended : (n : ℕ) (q : List ℕ) (m : Message) → (n + 1) * messageSize ≤ length q → blocks messageSize (n + 1) (putMessage q n m) ≡ blocks messageSize n q ++ (messageRow m ∷ [])
-unfolding putMessage
-headers-appended n q m fits =
-    let v : List ℕ = messageRow m in
-    ap (blocks messageSize (n + 1)) (putRow-sets v q (n * messageSize) 0 ∙ ap (λ p. sets q p v) (add-zero (n * messageSize)) ∙ sets-stored messageSize n q v refl fits)
-    ∙ blocks-stored messageSize n q v refl (n + 1) (omega arith) fits
-    ∙ set-last messageSize n q v
+module _ (n : ℕ) (q l : List ℕ) (m : Message) (v : List ℕ) (size : length q ≡ queueLength) (room : n < messageRoom) (fits : length l ≡ 8192) (whole : length v ≡ contentSize) where
+  abbrev at : ℕ
+  at = placeAt q n
 
-module _ (n : ℕ) (q l : List ℕ) (m : Message) (room : (n + 1) * messageSize ≤ length q) where
-  both : (a : List (List ℕ)) (v : List ℕ) → a ≡ blocks contentSize n l ++ (v ∷ [])
-      → zipWith sent (blocks messageSize (n + 1) (putMessage q n m)) a ≡ messagesAt n q l ++ (record { header = m; content = take contentBytes v } ∷ [])
-  unfolding messagesAt zipWith
-  both a v e =
-      rw (e, headers-appended n q m room)
-      (zipWith-append sent (blocks messageSize n q) (blocks contentSize n l) (messageRow m ∷ []) (v ∷ []) (length-blocks messageSize n q ∙ sym (length-blocks contentSize n l)))
+  pub order-appended : orderOf (putMessage q n m) ≡ orderOf q
+  order-appended = order-putHeader q at m (place-low q n)
 
-  -- with the block v as its content
-  pub messages-appended : (v : List ℕ) → (n + 1) * contentSize ≤ length l → length v ≡ contentSize
-      → messagesAt (n + 1) (putMessage q n m) (putContent l n v) ≡ messagesAt n q l ++ (record { header = m; content = take contentBytes v } ∷ [])
-  unfolding messagesAt putContent
-  messages-appended v fits whole =
-      both (blocks contentSize (n + 1) (refilled (set (blocks contentSize (n + 1) l) n v) l)) v (blocks-stored contentSize n l v whole (n + 1) (omega arith) fits ∙ set-last contentSize n l v)
+  there : sentAt (putMessage q n m) (putContent l at v) at ≡ record { header = m; content = take contentBytes v }
+  there =
+      let low = place-low q n in
+      rw (header-putHeader q at m (omega arith), content-putContent messageRoom at l v whole low (omega arith))
+
+  pub messages-appended : Ordered (orderOf q) → messagesAt (n + 1) (putMessage q n m) (putContent l at v) ≡ messagesAt n q l ++ (record { header = m; content = take contentBytes v } ∷ [])
+  unfolding messagesAt
+  messages-appended ordered =
+      let e = place-order q n in
+      rw order-appended
+      (listed-appended (sentAt q l) (sentAt (putMessage q n m) (putContent l at v)) n (orderOf q) (record { header = m; content = take contentBytes v }) (omega (arith, length-order q size)) ordered
+      (ap (sentAt (putMessage q n m) (putContent l at v)) e ∙ there)
+      (λ k low different.
+          let other : k ≢ at = λ s. different (s ∙ sym e) in
+          rw (header-elsewhere q at m k other, content-elsewhere messageRoom at l v whole (place-low q n) (omega arith) k low other)))
 
 -- ---- one removed
 
-pub length-closedUp : (b n i : ℕ) (l : List ℕ) → i < n → n * b ≤ length l → length (closedUp b n i l) ≡ length l
-unfolding closedUp
-length-closedUp b n i l among fits = length-removed b n i l among fits
+module _ (n i : ℕ) (q : List ℕ) (size : length q ≡ queueLength) (few : n ≤ messageRoom) where
+  order-cut : (o : List ℕ) → orderOf (take orderPlace q ++ o) ≡ o
+  order-cut o = drop-at (take orderPlace q) o orderPlace (length-take-le orderPlace q (omega arith))
 
-pub messages-removed : (n i : ℕ) (q l : List ℕ) → i < n → n * messageSize ≤ length q → n * contentSize ≤ length l
-    → messagesAt (n - 1) (closedUp messageSize n i q) (closedUp contentSize n i l) ≡ without i (messagesAt n q l)
-unfolding messagesAt closedUp
-messages-removed n i q l among fits-q fits-l =
-    rw (blocks-removed messageSize n i q among fits-q, blocks-removed contentSize n i l among fits-l)
-    (zipWith-without sent i (blocks messageSize n q) (blocks contentSize n l) (length-blocks messageSize n q ∙ sym (length-blocks contentSize n l)))
+  -- whatever i is
+  pub length-withoutPlace : length (withoutPlace n i q) ≡ length q
+  unfolding withoutPlace
+  length-withoutPlace = go (ltb i n) refl
+    where
+      go : (b : Bool) → ltb i n ≡ b → length (withoutPlace n i q) ≡ length q
+      go true e =
+          let long = length-order q size in
+          let front : length (take orderPlace q) ≡ orderPlace = length-take-le orderPlace q (omega arith) in
+          let back : length (rotated n i (orderOf q)) ≡ length (orderOf q) = length-rotated n i (orderOf q) (ltb-true _ _ e) (omega arith) in
+          rw (withoutPlace, e) (length-append (take orderPlace q) (rotated n i (orderOf q)) ∙ omega arith)
+      go false e = rw (withoutPlace, e)
+
+  pub ordered-withoutPlace : Ordered (orderOf q) → Ordered (orderOf (withoutPlace n i q))
+  unfolding withoutPlace
+  ordered-withoutPlace ordered = go (ltb i n) refl
+    where
+      go : (b : Bool) → ltb i n ≡ b → Ordered (orderOf (withoutPlace n i q))
+      go true e =
+          let long = length-order q size in
+          rw (withoutPlace, e)
+          (subst Ordered (sym (order-cut (rotated n i (orderOf q)))) (ordered-rotated n i (orderOf q) (ltb-true _ _ e) (omega arith) ordered))
+      go false e = rw (withoutPlace, e) ordered
+
+  module _ (among : i < n) where
+    without-is : withoutPlace n i q ≡ take orderPlace q ++ rotated n i (orderOf q)
+    unfolding withoutPlace
+    without-is = rw (withoutPlace, lt-ltb i n among)
+
+    header-stays : (p : ℕ) → p < messageRoom → headerAt (withoutPlace n i q) p ≡ headerAt q p
+    unfolding headerAt
+    header-stays p low = rw without-is (ap messageOf (row-front messageSize (p * messageSize) 0 orderPlace q (rotated n i (orderOf q)) (omega arith) (omega arith)))
+
+    pub messages-removed : (l : List ℕ) → messagesAt (n - 1) (withoutPlace n i q) l ≡ without i (messagesAt n q l)
+    unfolding messagesAt
+    messages-removed l =
+        let long = length-order q size in
+        listed-same (sentAt (withoutPlace n i q) l) (sentAt q l) (n - 1) (orderOf (withoutPlace n i q)) (λ p low. rw (header-stays p low))
+        ∙ ap (listed (sentAt q l) (n - 1)) (ap orderOf without-is ∙ order-cut (rotated n i (orderOf q)))
+        ∙ listed-rotated n i (orderOf q) among (omega arith) (sentAt q l)
+
+-- the order lent as a part, as it lies behind the headers
+pub order-lent : (q : List ℕ) (n i : ℕ) (part : List ℕ) → length q ≡ queueLength → i < n → part ≡ rotated n i (take (length q - orderPlace) (drop orderPlace q))
+    → take orderPlace q ++ (part ++ drop (length q - orderPlace) (drop orderPlace q)) ≡ withoutPlace n i q
+unfolding withoutPlace
+order-lent q n i part size among e =
+    let whole : take (length q - orderPlace) (drop orderPlace q) ≡ drop orderPlace q = take-all (length q - orderPlace) (drop orderPlace q) (rw length-drop (omega arith)) in
+    let past : drop (length q - orderPlace) (drop orderPlace q) ≡ [] = drop-of-length-le (drop orderPlace q) {i = length q - orderPlace} (rw length-drop (omega arith)) in
+    rw (withoutPlace, lt-ltb i n among, e, whole, past, append-nil)
+
+-- ---- a new order
+
+pub ordered-fresh : (q : List ℕ) → length q ≡ queueLength → Ordered (orderOf (freshPlaces q))
+unfolding freshPlaces
+ordered-fresh q size =
+    subst Ordered (sym (drop-at (take orderPlace q) (rising 0 messageRoom) orderPlace (length-take-le orderPlace q (omega arith)))) (ordered-rising messageRoom 0 (omega arith))

@@ -1,9 +1,10 @@
-// The messages in flight, at most 64, in the order in which they were sent: their headers in lent words, a block for each,
-// and their contents in lent bytes likewise.
-use blocks::remove_block_bytes;
-use blocks::remove_block_words;
+// The messages in flight, at most 64: their headers in lent words, a block for each, and their contents in lent bytes likewise.
+// A message stays at its place. The words behind the headers list the places, in the order in which the messages were sent.
+use blocks::rotate_words;
 use memory::CONTENT_SIZE;
 use memory::HEADER_SIZE;
+use memory::MESSAGES;
+use memory::ORDER_AT;
 use memory::PayloadBytes;
 use memory::QueueWords;
 use memory::offsets::MESSAGE_BUCKET;
@@ -20,15 +21,46 @@ ghost use mathlib.Core.Path.{_≡_};
 ghost use Prim.Native.Nat.{_+_, _*_, _<_, _≤_};
 ghost use lib.ListN.{length};
 ghost use Rattle.blocks.specs.Blocks.{block};
-ghost use Rattle.memory.specs.Layout.{messageRoom, contentSize, messageFields, messageStores, messageAt, putMessage};
-ghost use Rattle.messages.specs.Messages.{Appended, Removed};
+ghost use Rattle.memory.specs.Layout.{messageRoom, queueLength, contentSize, placeField, placeAt, withoutPlace, messageFields, messageStores, headerAt, messageAt, putHeader};
+ghost use Rattle.messages.specs.Messages.{Appended};
 
 pub mod contents;
 
-// The header of the message at this place.
-pub fn load_message(queue: &QueueWords, place: usize) -> Message
+fn wide(number: u32) -> usize
+    ensures { λ r. ⌜ r ≡ number ⌝ }
+{
+    number as usize
+}
+
+// The place of the message with this index: every number in the order names one.
+pub fn place_of(queue: &QueueWords, index: usize) -> usize
+    requires { ⌜ index < messageRoom ⌝ }
+    ensures { λ r. ⌜ (r ≡ placeAt (now (queue .entry)) index) × (r < messageRoom) ⌝ }
+{
+    place_field(queue, index)
+}
+
+// The same, with the word written out in the contract.
+fn place_field(queue: &QueueWords, index: usize) -> usize
+    requires { ⌜ index < messageRoom ⌝ }
+    ensures { λ r. ⌜ r ≡ placeField (now (queue .entry)) index ⌝ }
+{
+    wide(queue[ORDER_AT + index]) % MESSAGES
+}
+
+// The header of the message with this index.
+pub fn load_message(queue: &QueueWords, index: usize) -> Message
+    requires { ⌜ index < messageRoom ⌝ }
+    ensures { λ r. ⌜ r ≡ messageAt (now (queue .entry)) index ⌝ }
+{
+    let place = place_of(queue, index);
+    load_header(queue, place)
+}
+
+// The header at this place.
+fn load_header(queue: &QueueWords, place: usize) -> Message
     requires { ⌜ place < messageRoom ⌝ }
-    ensures { λ r. ⌜ r ≡ messageAt (now (queue .entry)) place ⌝ }
+    ensures { λ r. ⌜ r ≡ headerAt (now (queue .entry)) place ⌝ }
 {
     message_fields(queue, place)
 }
@@ -54,12 +86,12 @@ fn message_fields(queue: &QueueWords, place: usize) -> Message
     }
 }
 
-// A message without content is appended: the bytes at its place stay as they are.
-pub fn append_header(queue: &mut QueueWords, count: usize, message: Message)
-    requires { ⌜ count < messageRoom ⌝ }
-    ensures { λ _. ⌜ now (queue .exit) ≡ putMessage (now (queue .entry)) count message ⌝ }
+// The header at this place is replaced.
+fn store_header(queue: &mut QueueWords, place: usize, message: Message)
+    requires { ⌜ place < messageRoom ⌝ }
+    ensures { λ _. ⌜ now (queue .exit) ≡ putHeader (now (queue .entry)) place message ⌝ }
 {
-    message_stores(queue, count, message);
+    message_stores(queue, place, message);
 }
 
 fn message_stores(queue: &mut QueueWords, place: usize, message: Message)
@@ -78,7 +110,7 @@ fn message_stores(queue: &mut QueueWords, place: usize, message: Message)
     queue[base + WRITTEN_COUNTER] = version.counter;
 }
 
-// A message is appended, with one content of the array `from`.
+// A message is appended at the first free place, with one content of the array `from`.
 pub fn append_message(
     queue: &mut QueueWords,
     payloads: &mut PayloadBytes,
@@ -90,20 +122,23 @@ pub fn append_message(
     requires { ⌜ (count < messageRoom) × ((content + 1) * contentSize ≤ length (now from)) ⌝ }
     ensures { λ _. ⌜ Appended (now (queue .entry)) (now (payloads .entry)) count message (block contentSize content (now (from .entry))) (now (queue .exit)) (now (payloads .exit)) ⌝ }
 {
-    append_header(queue, count, message);
-    blocks::copy_block_bytes(payloads, CONTENT_SIZE, count, from, content);
+    let place = place_of(queue, count);
+    store_header(queue, place, message);
+    blocks::copy_block_bytes(payloads, CONTENT_SIZE, place, from, content);
 }
 
-// The message at this place is removed: the later ones move down.
-pub fn remove_message(
-    queue: &mut QueueWords,
-    payloads: &mut PayloadBytes,
-    count: usize,
-    place: usize,
-)
-    requires { ⌜ (place < count) × (count ≤ messageRoom) ⌝ }
-    ensures { λ _. ⌜ Removed (now (queue .entry)) (now (payloads .entry)) count place (now (queue .exit)) (now (payloads .exit)) ⌝ }
+// The message with this index is removed: its place is the first free one then.
+pub fn remove_message(queue: &mut QueueWords, count: usize, index: usize)
+    requires { ⌜ (index < count) × (count ≤ messageRoom) ⌝ }
+    ensures { λ _. ⌜ now (queue .exit) ≡ withoutPlace count index (now (queue .entry)) ⌝ }
 {
-    remove_block_words(queue, HEADER_SIZE, count, place);
-    remove_block_bytes(payloads, CONTENT_SIZE, count, place);
+    remove_place(queue, count, index);
+}
+
+// The same, with the array lent as a slice, so that its order alone can be lent on.
+fn remove_place(queue: &mut [u32], count: usize, index: usize)
+    requires { ⌜ (length (now queue) ≡ queueLength) × ((index < count) × (count ≤ messageRoom)) ⌝ }
+    ensures { λ _. ⌜ now (queue .exit) ≡ withoutPlace count index (now (queue .entry)) ⌝ }
+{
+    rotate_words(&mut queue[ORDER_AT..], count, index);
 }

@@ -35,7 +35,7 @@ abbrev pub noMessage : Message
 noMessage = record { kind = 0; sender = 0; receiver = 0; bucket = 0; election = 0; round = 0; version = noVersion }
 
 abbrev pub noStep : Step
-noStep = record { server = 0; bucket = 0; place = 0; removes = false; asked = noMessage; copied = 0; delivered = 0; lost = 0; calls = 0 }
+noStep = record { server = 0; bucket = 0; index = 0; removes = false; asked = noMessage; copied = 0; delivered = 0; lost = 0; calls = 0 }
 
 abbrev pub noHead : Head
 noHead = record { number = 0; vote = 0; leader = 0; role = 0; last = 0; stopped = 0; votes = replicate 7 0 }
@@ -56,7 +56,7 @@ ifPlacesLeft c p = elim (placesLeft c (p .step .removes) (p .next .sends)) [ tru
 
 abbrev pub lineStep : Counts → ℕ → ℕ → Step
 lineStep c s b =
-    record { server = s; bucket = b; place = 0; removes = false; asked = noMessage; copied = 0; delivered = 0; lost = 0; calls = c .calls }
+    record { server = s; bucket = b; index = 0; removes = false; asked = noMessage; copied = 0; delivered = 0; lost = 0; calls = c .calls }
 
 abbrev pub movePlan : Step → Move → Effect → Plan
 movePlan x v f = record { refusal = 0; loses = false; takes = false; words = noWords; step = x; next = v; effect = f }
@@ -119,7 +119,7 @@ callBucket c w = elim (eqb (w .kind) 5) [ true ↦ w .bucket | false ↦ bucketO
 
 abbrev pub callStep : Counts → ℕ → ℕ → Step
 callStep c s b =
-    record { server = s; bucket = b; place = 0; removes = false; asked = noMessage; copied = 0; delivered = 0; lost = 0; calls = (c .calls + 1) % 2 ^ 32 }
+    record { server = s; bucket = b; index = 0; removes = false; asked = noMessage; copied = 0; delivered = 0; lost = 0; calls = (c .calls + 1) % 2 ^ 32 }
 
 abbrev pub takePlan : Step → Words → Move → Effect → Plan
 takePlan x w v f = record { refusal = 0; loses = false; takes = true; words = w; step = x; next = v; effect = f }
@@ -154,7 +154,7 @@ messageStep c i removes x =
     record {
       server = min 6 (x .receiver);
       bucket = min 7 (x .bucket);
-      place = i;
+      index = i;
       removes = removes;
       asked = x;
       copied = chosen removes 0 1;
@@ -170,7 +170,7 @@ lostPlan c i removes f =
       loses = true;
       takes = false;
       words = noWords;
-      step = record { server = 0; bucket = 0; place = i; removes = removes; asked = noMessage; copied = chosen removes 0 1; delivered = 0; lost = 1; calls = c .calls };
+      step = record { server = 0; bucket = 0; index = i; removes = removes; asked = noMessage; copied = chosen removes 0 1; delivered = 0; lost = 1; calls = c .calls };
       next = noMove;
       effect = f;
     }
@@ -183,7 +183,7 @@ gone c x l = noReceiver c (x .asked .receiver) (l .head)
 unfoldable pub handPlan : Counts → Step → Message → Local → Effect → Plan
 handPlan c x m l f =
     elim (gone c x l) [
-      | true ↦ lostPlan c (x .place) (x .removes) f
+      | true ↦ lostPlan c (x .index) (x .removes) f
       | false ↦ ifPlacesLeft c (movePlan x (handledMove (c .servers) (x .server) (f .result) m l) f)
     ]
 
@@ -206,7 +206,7 @@ cutStep c i x =
     record {
       server = min 6 (x .receiver);
       bucket = min 7 (x .bucket);
-      place = i;
+      index = i;
       removes = true;
       asked = x;
       copied = 0;

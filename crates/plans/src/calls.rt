@@ -136,7 +136,7 @@ fn call_step(cluster: Counts, server: u32, bucket: u32) -> Step
     Step {
         server,
         bucket,
-        place: 0,
+        index: 0,
         removes: false,
         asked: no_message(),
         copied: 0,

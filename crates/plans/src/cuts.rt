@@ -18,10 +18,10 @@ ghost use Rattle.plans.specs.Plans.{cutStep, cutPlan};
 ghost use Rattle.plans.specs.Arrays.{Measured};
 
 // The message leaves the list and counts as lost.
-pub fn cut_step(cluster: Counts, place: u32, message: Message) -> Step
-    ensures { λ r. ⌜ r ≡ cutStep cluster place message ⌝ }
+pub fn cut_step(cluster: Counts, index: u32, message: Message) -> Step
+    ensures { λ r. ⌜ r ≡ cutStep cluster index message ⌝ }
 {
-    let mut step = message_step(cluster, place, true, message);
+    let mut step = message_step(cluster, index, true, message);
     step.delivered = 0;
     step.lost = 1;
     step

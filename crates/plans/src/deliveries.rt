@@ -43,13 +43,13 @@ fn lesser(top: u32, number: u32) -> u32
 }
 
 // A message that is handed over; `copy` leaves it in the list.
-pub fn message_step(cluster: Counts, place: u32, removes: bool, message: Message) -> Step
-    ensures { λ r. ⌜ r ≡ messageStep cluster place removes message ⌝ }
+pub fn message_step(cluster: Counts, index: u32, removes: bool, message: Message) -> Step
+    ensures { λ r. ⌜ r ≡ messageStep cluster index removes message ⌝ }
 {
     Step {
         server: lesser(LAST_SERVER, message.receiver),
         bucket: lesser(LAST_BUCKET, message.bucket),
-        place,
+        index,
         removes,
         asked: message,
         copied: chosen(removes, 0, 1),
@@ -59,13 +59,13 @@ pub fn message_step(cluster: Counts, place: u32, removes: bool, message: Message
     }
 }
 
-fn lost_plan(cluster: Counts, place: u32, removes: bool, effect: Effect) -> Plan
-    ensures { λ r. ⌜ r ≡ lostPlan cluster place removes effect ⌝ }
+fn lost_plan(cluster: Counts, index: u32, removes: bool, effect: Effect) -> Plan
+    ensures { λ r. ⌜ r ≡ lostPlan cluster index removes effect ⌝ }
 {
     let step = Step {
         server: 0,
         bucket: 0,
-        place,
+        index,
         removes,
         asked: no_message(),
         copied: chosen(removes, 0, 1),
@@ -132,10 +132,10 @@ pub fn asked_effect(
     no_effect()
 }
 
-pub fn plan_lose(cluster: Counts, place: u32) -> Plan
-    ensures { λ p. ⌜ p ≡ loseAt cluster place (p .effect) ⌝ }
+pub fn plan_lose(cluster: Counts, index: u32) -> Plan
+    ensures { λ p. ⌜ p ≡ loseAt cluster index (p .effect) ⌝ }
 {
     let effect = no_effect();
-    let refusal = message_refusal(cluster, place);
-    unless(refusal, effect, lost_plan(cluster, place, true, effect))
+    let refusal = message_refusal(cluster, index);
+    unless(refusal, effect, lost_plan(cluster, index, true, effect))
 }

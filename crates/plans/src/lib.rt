@@ -16,8 +16,8 @@ pub mod servers;
 pub struct Step {
     pub server: u32,
     pub bucket: u32,
-    // the place of the message that is handed over, and whether it leaves the list
-    pub place: u32,
+    // the index of the message that is handed over, and whether it leaves the list
+    pub index: u32,
     pub removes: bool,
     pub asked: Message,
     pub copied: u32,

@@ -68,7 +68,7 @@ fn no_step() -> Step
     Step {
         server: 0,
         bucket: 0,
-        place: 0,
+        index: 0,
         removes: false,
         asked: no_message(),
         copied: 0,
@@ -159,7 +159,7 @@ pub fn line_step(cluster: Counts, server: u32, bucket: u32) -> Step
     Step {
         server,
         bucket,
-        place: 0,
+        index: 0,
         removes: false,
         asked: no_message(),
         copied: 0,

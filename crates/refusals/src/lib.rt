@@ -70,13 +70,13 @@ pub fn has_no_receiver(cluster: Counts, receiver: u32, head: Head) -> bool
 }
 
 // 5 and 7, or 0.
-pub fn message_refusal(cluster: Counts, place: u32) -> u32
-    ensures { λ r. ⌜ r ≡ messageRefusal cluster place ⌝ }
+pub fn message_refusal(cluster: Counts, index: u32) -> u32
+    ensures { λ r. ⌜ r ≡ messageRefusal cluster index ⌝ }
 {
     if MAX_ACCEPTED <= cluster.lines {
         return LINES_SPENT;
     }
-    if cluster.messages <= place {
+    if cluster.messages <= index {
         return NO_SUCH_MESSAGE;
     }
     NONE

@@ -13,7 +13,8 @@ use Rattle.model.specs.Lines as lines
 use Rattle.limits.specs.Stands.{Stands}
 use Rattle.server.specs.declared.Effect.{Effect}
 use Rattle.memory.specs.declared.Counts.{Counts}
-use Rattle.memory.specs.Layout.{slotOf, countsAt}
+use Rattle.blocks.specs.Order.{Ordered}
+use Rattle.memory.specs.Layout.{slotOf, countsAt, orderOf, placeAt}
 use Rattle.refusals.specs.Refusals.{placesLeft}
 use Rattle.moves.specs.declared.Move.{Move}
 use Rattle.moves.specs.Reactions.{askedIn, reactionIn}
@@ -24,9 +25,10 @@ use Rattle.plans.specs.declared.Step.{Step}
 use Rattle.runs.specs.Runs.{carriedRun, lostRun}
 use Rattle.runs.specs.Meaning.{stateIn, resultOf}
 
--- arrays of the lent sizes that hold a cluster within the measures
+-- arrays of the lent sizes that hold a cluster within the measures, and an order of its messages that names no place twice
 pub record Ready (m : Memory) (l : List ℕ) (t : lines.Tally) : Type 0 where
   pub sized : Sized m
+  pub ordered : Ordered (orderOf (m .queue))
   pub answers : length l ≡ answersRoom
   pub standing : standing (countsAt (m .counts)) ≡ true
   pub stands : Stands (clusterAt m) t
@@ -39,7 +41,7 @@ keptMessages removes i ms = elim removes [ true ↦ lines.dropAt i ms | false �
 abbrev pub workOf : Memory → Step → Reaction → lines.Work
 workOf m x r =
     record {
-      cluster = lines.afterStep (clusterAt m) (x .server) (keptMessages (x .removes) (x .place) (clusterAt m .messages)) (x .calls) r;
+      cluster = lines.afterStep (clusterAt m) (x .server) (keptMessages (x .removes) (x .index) (clusterAt m .messages)) (x .calls) r;
       sent = length (r .sends);
       copied = x .copied;
       delivered = x .delivered;
@@ -51,15 +53,14 @@ workOf m x r =
 abbrev pub reactionOf : Memory → Counts → Step → Move → Effect → Reaction
 reactionOf m c x v f =
     let k = slotOf (x .server) (x .bucket) in
-    reactionIn (c .servers) (x .server) (x .bucket) (askedIn (x .asked)) v (tablesAt m k (x .place) (tableIn (f .table))) (callWordsAt m k) (valueBytes (f .value)) (tableIn (f .table)) (serverAt (c .servers) (c .buckets) m (x .server))
+    reactionIn (c .servers) (x .server) (x .bucket) (askedIn (x .asked)) v (tablesAt m k (placeAt (m .queue) (x .index)) (tableIn (f .table))) (callWordsAt m k) (valueBytes (f .value)) (tableIn (f .table)) (serverAt (c .servers) (c .buckets) m (x .server))
 
 -- a move that can be carried out
 pub record Possible (m : Memory) (c : Counts) (x : Step) (v : Move) (f : Effect) : Type 0 where
   pub counts : c ≡ countsAt (m .counts)
   pub server : x .server < c .servers
   pub bucket : x .bucket < c .buckets
-  pub place : x .place < 64
-  pub there : x .removes ≡ true → x .place < c .messages
+  pub there : x .removes ≡ true → x .index < c .messages
   pub whole : WholeLocal (v .local)
   pub form : v .fills ≡ 2 → fits maxEntries maxValueBytes (tableIn (f .table)) ≡ true
 
@@ -77,5 +78,5 @@ LacksRoom m t c x v f =
 abbrev pub LosesMessage : Memory → List ℕ → lines.Tally → Counts → Step → Effect → Type 0
 LosesMessage m l t c x f =
     x .calls ≡ c .calls →
-    (x .removes ≡ true → x .place < c .messages) →
-    lines.acceptLine (stateIn m t) (lines.lostMessage (clusterAt m) (keptMessages (x .removes) (x .place) (clusterAt m .messages)) (x .copied)) ≡ resultOf t (lostRun m l c x) f
+    (x .removes ≡ true → x .index < c .messages) →
+    lines.acceptLine (stateIn m t) (lines.lostMessage (clusterAt m) (keptMessages (x .removes) (x .index) (clusterAt m .messages)) (x .copied)) ≡ resultOf t (lostRun m l c x) f

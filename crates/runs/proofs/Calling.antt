@@ -22,7 +22,7 @@ use Rattle.server.specs.declared.Words.{Words}
 use Rattle.server.specs.declared.Effect.{Effect}
 use Rattle.server.specs.Views.{among, roleIn, callIn, effectIn, chosen}
 use Rattle.memory.specs.declared.Counts.{Counts}
-use Rattle.memory.specs.Layout.{slotOf, countsAt}
+use Rattle.memory.specs.Layout.{slotOf, countsAt, placeAt}
 use Rattle.refusals.specs.Refusals.{inside, serverRefusal}
 use Rattle.moves.specs.declared.Local.{Local}
 use Rattle.moves.specs.declared.Move.{Move}
@@ -87,7 +87,7 @@ module _ {m : Memory} {l : List ℕ} {t : lines.Tally} (ready : Ready m l t) (s 
 
   begun : beginCall n s b (c .calls + 1) words (serverAt n (c .buckets) m s) ≡ reactionOf m c step move f
   begun =
-      let x = tablesAt m k 0 (tableIn (f .table)) in
+      let x = tablesAt m k (placeAt (m .queue) 0) (tableIn (f .table)) in
       ap (λ i. beginCall n s b i words (serverAt n (c .buckets) m s)) (sym call-number)
       ∙ (ap (λ w. beginCall n s b ((c .calls + 1) % 2 ^ 32) w (serverAt n (c .buckets) m s)) (sym there)
       ∙ (begun-means n s b ((c .calls + 1) % 2 ^ 32) kind (serverAt n (c .buckets) m s) (localAt m s k) x (callWordsAt m k) (callWordsAt m k) f (askedIn noMessage)
@@ -121,7 +121,6 @@ module _ {m : Memory} {l : List ℕ} {t : lines.Tally} (ready : Ready m l t) (s 
         counts = refl;
         server = server;
         bucket = bucket;
-        place = omega arith;
         there = λ e. let z : _≡_ {A = ℕ} 0 1 = cc in absurd (omega arith);
         whole = whole-begun n s ((c .calls + 1) % 2 ^ 32) kind (f .result) here (subst WholeLocal same (whole-at m s k));
         form = call-fits;

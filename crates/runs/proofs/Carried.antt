@@ -14,7 +14,8 @@ use Rattle.model.specs.Cluster as cluster
 use Rattle.model.specs.Lines as lines
 use Rattle.server.specs.declared.Effect.{Effect}
 use Rattle.memory.specs.declared.Counts.{Counts}
-use Rattle.memory.specs.Layout.{slotOf, countsAt}
+use Rattle.memory.specs.Layout.{slotOf, countsAt, placeAt}
+use Rattle.messages.proofs.MessageLaws.{place-low}
 use Rattle.refusals.specs.Refusals.{sendCount, placesLeft}
 use Rattle.moves.specs.declared.Move.{Move}
 use Rattle.moves.specs.Reactions.{Tables, askedIn, sendsIn}
@@ -40,39 +41,46 @@ module _ (m : Memory) (l : List ℕ) (t : lines.Tally) (x : Step) (v : Move) (f 
   abbrev k : ℕ
   k = slotOf (x .server) (x .bucket)
 
+  -- the place of the message handed over
+  abbrev place : ℕ
+  place = placeAt (m .queue) (x .index)
+
+  low : place < 64
+  low = place-low (m .queue) (x .index)
+
   abbrev made : List Entry
   made = tableIn (f .table)
 
   abbrev tables : Tables
-  tables = tablesAt m k (x .place) made
+  tables = tablesAt m k place made
 
   abbrev sends : List cluster.Message
   sends = sendsIn (c .servers) (x .server) (x .bucket) (askedIn (x .asked)) v tables
 
   abbrev keeps : List cluster.Message
-  keeps = keptMessages (x .removes) (x .place) (clusterAt m .messages)
+  keeps = keptMessages (x .removes) (x .index) (clusterAt m .messages)
 
   slot : k < 56
   slot = omega (arith, p .server, p .bucket, measured ready .servers, measured ready .buckets)
 
   sized-moved : Sized (movedAt m c x v made)
   sized-moved =
-      moved-sized m (c .servers) (c .buckets) (x .server) (x .bucket) (x .place) v made
-      (ready .sized) (measured ready .servers) (p .server) (measured ready .buckets) (p .bucket) (p .place) (p .whole) (p .form)
+      moved-sized m (c .servers) (c .buckets) (x .server) (x .bucket) place v made
+      (ready .sized) (measured ready .servers) (p .server) (measured ready .buckets) (p .bucket) low (p .whole) (p .form)
 
   servers-moved : serversAt (c .servers) (c .buckets) (movedAt m c x v made) ≡ workOf m x (reactionOf m c x v f) .cluster .servers
   servers-moved =
-      moved-servers m (c .servers) (c .buckets) (x .server) (x .bucket) (x .place) v made
-      (ready .sized) (measured ready .servers) (p .server) (measured ready .buckets) (p .bucket) (p .place) (p .whole) (p .form)
+      moved-servers m (c .servers) (c .buckets) (x .server) (x .bucket) place v made
+      (ready .sized) (measured ready .servers) (p .server) (measured ready .buckets) (p .bucket) low (p .whole) (p .form)
 
   answers-hold : Holds (valueBytes (f .value)) made (answered (m .slots) (c .buckets) (x .server) v l) (reactionOf m c x v f .answers) 8
   answers-hold = answered-means (c .servers) (c .buckets) (x .server) m v l (valueBytes (f .value)) made (ready .answers) (measured ready .buckets)
 
   left : Sound (leftFlight m c x)
-  left = left-sound m c x (ready .sized) (measured ready .messages) (p .there)
+  left = left-sound m c x (ready .sized) (ready .ordered) (measured ready .messages) (p .there)
 
   left-are : flightIn (leftFlight m c x) ≡ keeps
-  left-are = left-messages m c x (ready .sized) (measured ready .messages) (p .there)
+  left-are = left-messages m c x (ready .sized) (ready .ordered) (measured ready .messages) (p .there)
 
   length-sent : length sends ≡ sendCount (c .servers) (v .sends)
   length-sent = length-sends (c .servers) (x .server) (x .bucket) (askedIn (x .asked)) v tables (p .server)
@@ -86,8 +94,8 @@ module _ (m : Memory) (l : List ℕ) (t : lines.Tally) (x : Step) (v : Move) (f 
     added : Added (leftFlight m c x) (sentFlight m c x v made) sends
     unfolding moved
     added =
-        let working = working-after m (ready .sized) k (x .place) slot (p .place) v made (p .form) in
-        let copies = copies-after m (ready .sized) k (x .place) slot (p .place) v made (p .form) in
+        let working = working-after m (ready .sized) k place slot low v made (p .form) in
+        let copies = copies-after m (ready .sized) k place slot low v made (p .form) in
         sent-flight (c .servers) (x .server) (x .bucket) k (x .asked) v tables (movedAt m c x v made .working) (movedAt m c x v made .copies) (leftFlight m c x)
         left (p .server) slot (sized-moved .working) (sized-moved .copies) (sym (working .there)) (sym (copies .there)) places
 
@@ -111,7 +119,7 @@ module _ (m : Memory) (l : List ℕ) (t : lines.Tally) (x : Step) (v : Move) (f 
           copied = refl;
           delivered = refl;
           lost = refl;
-          messages = sym (length-flight (sentFlight m c x v made)) ∙ ap length sent-are;
+          messages = sym (length-flight (sentFlight m c x v made) (added .sound)) ∙ ap length sent-are;
           few = added .sound .count;
           answers = answers-hold .held;
         }
@@ -121,7 +129,7 @@ module _ (m : Memory) (l : List ℕ) (t : lines.Tally) (x : Step) (v : Move) (f 
   too-many : placesLeft c (x .removes) (v .sends) ≡ false → leb (length (keeps ++ sends)) maxMessages ≡ false
   too-many full =
       let over : 64 < leftFlight m c x .count + sendCount (c .servers) (v .sends) = rw (left-count m c x) (leb-false _ _ full) in
-      let stay : length keeps ≡ leftFlight m c x .count = sym (ap length left-are) ∙ length-flight (leftFlight m c x) in
+      let stay : length keeps ≡ leftFlight m c x .count = sym (ap length left-are) ∙ length-flight (leftFlight m c x) left in
       lt-leb (length (keeps ++ sends)) maxMessages (rw (length-append keeps sends, stay, length-sent) over)
 
 pub carries-out : (m : Memory) (l : List ℕ) (t : lines.Tally) (c : Counts) (x : Step) (v : Move) (f : Effect) → Ready m l t → Possible m c x v f → CarriesOut m l t c x v f

@@ -28,7 +28,7 @@ use Rattle.plans.specs.Plans.{refusedPlan, movePlan, lostPlan, ifPlacesLeft, un
 use Rattle.runs.specs.Runs.{refusedRun, taken, executed}
 use Rattle.runs.specs.Meaning.{stateIn, resultOf}
 use Rattle.runs.proofs.Accepting.{Ready, Possible, workOf, reactionOf, keptMessages}
-use Rattle.runs.proofs.Standing.{standing-cluster}
+use Rattle.runs.proofs.Standing.{standing-cluster, measured}
 use Rattle.runs.proofs.Carried.{carries-out, lacks-room}
 use Rattle.runs.proofs.Lost.{loses-message}
 
@@ -153,9 +153,11 @@ module _ (m : Memory) where
   pub stopped-seen : (s : ℕ) → s < countsIn m .servers → lines.stoppedAt (clusterAt m) s ≡ flagIn (headAt (m .heads) s .stopped)
   stopped-seen s h = ap (λ x. x .stopped) (server-stands s h) ∙ stopped-there (countsIn m .servers) (countsIn m .buckets) m s
 
-  no-message-seen : (i : ℕ) → lines.noMessage (clusterAt m) i ≡ leb (countsIn m .messages) i
+  no-message-seen : (l : List ℕ) (t : lines.Tally) → Ready m l t → (i : ℕ) → lines.noMessage (clusterAt m) i ≡ leb (countsIn m .messages) i
   unfolding lines.noMessage
-  no-message-seen i = rw (length-flight (flight (m .queue) (m .payloads) (countsIn m .messages)))
+  no-message-seen l t ready i =
+      rw (length-flight (flight (m .queue) (m .payloads) (countsIn m .messages))
+      (record { queue = ready .sized .queue; order = ready .ordered; payloads = ready .sized .payloads; count = measured ready .messages }))
 
 module _ (m : Memory) (l : List ℕ) (t : lines.Tally) (f : Effect) (rest : List lines.Condition) (w : lines.Work) (p : Plan) where
   -- 3, where z is that there is no bucket b
@@ -192,13 +194,13 @@ module _ (m : Memory) (l : List ℕ) (t : lines.Tally) (f : Effect) (rest : List
       (λ a. condition-judged m l t (countsIn m) 18 (not (flagIn (headAt (m .heads) s .stopped))) rest w p f (λ z. omega arith) (λ b. e)))
 
   -- 5 and 7
-  pub message-judged : (i : ℕ)
+  pub message-judged : Ready m l t → (i : ℕ)
       → (messageRefusal (countsIn m) i ≡ 0 → i < countsIn m .messages → judged (stateIn m t) rest w ≡ planned m l t (countsIn m) f p)
       → judged (stateIn m t) (lines.when 5 (lines.limitReached (clusterAt m)) ∷ lines.when 7 (lines.noMessage (clusterAt m) i) ∷ rest) w
       ≡ planned m l t (countsIn m) f (unless (messageRefusal (countsIn m) i) f p)
   unfolding lines.limitReached
-  message-judged i h =
-      rw (no-message-seen m i, unless-message)
+  message-judged ready i h =
+      rw (no-message-seen m l t ready i, unless-message)
       (condition-judged m l t (countsIn m) 5 (leb maxAccepted (countsIn m .lines)) _ w _ f (λ z. omega arith)
       (λ a. condition-judged m l t (countsIn m) 7 (leb (countsIn m .messages) i) rest w p f (λ z. omega arith)
       (λ b. h (unfold messageRefusal in rw (messageRefusal, a, b)) (leb-false _ _ b))))

@@ -16,7 +16,7 @@ use Rattle.server.specs.declared.Message.{Message}
 use Rattle.server.specs.declared.Effect.{Effect}
 use Rattle.server.specs.Views.{flagIn, chosen, isBroadcast}
 use Rattle.memory.specs.declared.Counts.{Counts}
-use Rattle.memory.specs.Layout.{slotOf, countsAt, headAt, messageAt}
+use Rattle.memory.specs.Layout.{slotOf, countsAt, headAt, placeAt, messageAt}
 use Rattle.refusals.specs.Refusals.{messageRefusal, noReceiver}
 use Rattle.moves.specs.declared.Local.{Local}
 use Rattle.moves.specs.declared.Move.{Move}
@@ -45,8 +45,8 @@ module _ (m : Memory) (l : List ℕ) (t : lines.Tally) (ready : Ready m l t) (i 
   asked = messageAt (m .queue) i
 
   -- the message's server and bucket, as the plan names them
-  abbrev place : ℕ
-  place = min 6 (asked .receiver)
+  abbrev target : ℕ
+  target = min 6 (asked .receiver)
 
   abbrev part : ℕ
   part = min 7 (asked .bucket)
@@ -64,10 +64,10 @@ module _ (m : Memory) (l : List ℕ) (t : lines.Tally) (ready : Ready m l t) (i 
   plan = cutPlan counts step k asked here-local f
 
   abbrev stopped : Bool
-  stopped = flagIn (headAt (m .heads) place .stopped)
+  stopped = flagIn (headAt (m .heads) target .stopped)
 
   module _ (here : i < counts .messages) where
-    to : place ≡ asked .receiver
+    to : target ≡ asked .receiver
     to = omega (arith, message-within ready i here .receiver, measured ready .servers)
 
     on : part ≡ asked .bucket
@@ -80,10 +80,10 @@ module _ (m : Memory) (l : List ℕ) (t : lines.Tally) (ready : Ready m l t) (i 
     ours = omega (arith, message-within ready i here .bucket, on)
 
     abbrev server : cluster.Server
-    server = serverAt (counts .servers) (counts .buckets) m place
+    server = serverAt (counts .servers) (counts .buckets) m target
 
     there : lines.serverAt (clusterAt m) (asked .receiver) ≡ server
-    there = receiver-there ready i here true place to
+    there = receiver-there ready i here true target to
 
     -- ---- 18
 
@@ -94,7 +94,7 @@ module _ (m : Memory) (l : List ℕ) (t : lines.Tally) (ready : Ready m l t) (i 
     badBy a z y = lines.either (not a) (lines.either z y)
 
     stores-counted : isBroadcast (asked .kind) ≡ true → length (storesOf (message ready i here) (server .stored)) ≡ storesMade (storesVote asked (here-local .head)) (storesBucket asked here-local)
-    stores-counted e = count-seen (counts .servers) part asked server here-local (tablesAt m (slotOf place part) i (tableIn (f .table))) (callWordsAt m (slotOf place part)) (server-seen (counts .servers) (counts .buckets) m place part ours) on e
+    stores-counted e = count-seen (counts .servers) part asked server here-local (tablesAt m (slotOf target part) (placeAt (m .queue) i) (tableIn (f .table))) (callWordsAt m (slotOf target part)) (server-seen (counts .servers) (counts .buckets) m target part ours) on e
 
     counted : (made : ℕ) → ltb made k ≡ elim (leb k made) [ true ↦ false | false ↦ true ]
     counted made = go (leb k made) refl
@@ -115,10 +115,10 @@ module _ (m : Memory) (l : List ℕ) (t : lines.Tally) (ready : Ready m l t) (i 
     bad-seen : lines.badCut (clusterAt m) (message ready i here) k ≡ bad
     unfolding lines.badCut cuttable
     bad-seen =
-        let v = tablesAt m (slotOf place part) i (tableIn (f .table)) in
-        let kind = broadcast-seen (counts .servers) part asked server here-local v (callWordsAt m (slotOf place part)) (server-seen (counts .servers) (counts .buckets) m place part ours) on in
+        let v = tablesAt m (slotOf target part) (placeAt (m .queue) i) (tableIn (f .table)) in
+        let kind = broadcast-seen (counts .servers) part asked server here-local v (callWordsAt m (slotOf target part)) (server-seen (counts .servers) (counts .buckets) m target part ours) on in
         ap (λ a. badBy a (lines.stoppedAt (clusterAt m) (asked .receiver)) (ltb (length (storesOf (message ready i here) (lines.serverAt (clusterAt m) (asked .receiver) .stored))) k)) kind
-        ∙ (ap (λ z. badBy (isBroadcast (asked .kind)) z (ltb (length (storesOf (message ready i here) (lines.serverAt (clusterAt m) (asked .receiver) .stored))) k)) (receiver-stopped ready i here true place to)
+        ∙ (ap (λ z. badBy (isBroadcast (asked .kind)) z (ltb (length (storesOf (message ready i here) (lines.serverAt (clusterAt m) (asked .receiver) .stored))) k)) (receiver-stopped ready i here true target to)
         ∙ (ap (λ s. badBy (isBroadcast (asked .kind)) stopped (ltb (length (storesOf (message ready i here) (s .stored))) k)) there
         ∙ by-kind (isBroadcast (asked .kind)) refl stopped))
 
@@ -154,8 +154,8 @@ module _ (m : Memory) (l : List ℕ) (t : lines.Tally) (ready : Ready m l t) (i 
 
     cut-there : isBroadcast (asked .kind) ≡ true → reaction (lines.cutServer k (message ready i here) server) [] [] ≡ reactionOf m counts step move f
     cut-there e =
-        cut-means (counts .servers) part asked server here-local (tablesAt m (slotOf place part) i (tableIn (f .table))) (callWordsAt m (slotOf place part)) (server-seen (counts .servers) (counts .buckets) m place part ours) on
-        place k (askedIn asked) (valueBytes (f .value)) (tableIn (f .table)) e
+        cut-means (counts .servers) part asked server here-local (tablesAt m (slotOf target part) (placeAt (m .queue) i) (tableIn (f .table))) (callWordsAt m (slotOf target part)) (server-seen (counts .servers) (counts .buckets) m target part ours) on
+        target k (askedIn asked) (valueBytes (f .value)) (tableIn (f .table)) e
 
     work-is : isBroadcast (asked .kind) ≡ true → lines.cutting (clusterAt m) (message ready i here) (lines.dropAt i (clusterAt m .messages)) k ≡ workOf m step (reactionOf m counts step move f)
     unfolding chosen
@@ -178,7 +178,7 @@ module _ (m : Memory) (l : List ℕ) (t : lines.Tally) (ready : Ready m l t) (i 
         cutWith : Reaction → lines.Work
         cutWith r =
             record {
-              cluster = lines.afterStep (clusterAt m) place (lines.dropAt i (clusterAt m .messages)) (counts .calls) r;
+              cluster = lines.afterStep (clusterAt m) target (lines.dropAt i (clusterAt m .messages)) (counts .calls) r;
               sent = length (r .sends);
               copied = 0;
               delivered = 0;
@@ -192,11 +192,10 @@ module _ (m : Memory) (l : List ℕ) (t : lines.Tally) (ready : Ready m l t) (i 
         let few = measured ready .messages in
         record {
           counts = refl;
-          server = mine ready i here true place to;
+          server = mine ready i here true target to;
           bucket = ours;
-          place = omega arith;
           there = λ e. here;
-          whole = whole-cut k asked here-local (whole-at m place (slotOf place part));
+          whole = whole-cut k asked here-local (whole-at m target (slotOf target part));
           form = λ e. absurd (omega arith);
         }
 
@@ -218,4 +217,4 @@ module _ (m : Memory) (l : List ℕ) (t : lines.Tally) (ready : Ready m l t) (i 
 
   pub cut-runs : lines.perform (stateIn m t) (lines.cut i k) ≡ resultOf t (executed m l (countsAt (m .counts)) (cutAt m (countsAt (m .counts)) i k f)) f
   unfolding lines.conditionsUpTo lines.work cutAt
-  cut-runs = ready-perform ready (lines.cut i k) ∙ message-judged m l t f _ _ plan i cut-judged
+  cut-runs = ready-perform ready (lines.cut i k) ∙ message-judged m l t f _ _ plan ready i cut-judged

@@ -1,13 +1,14 @@
 -- The memory that a cluster line leaves stands for the fresh cluster (RULES, Servers 4).
 use mathlib.Core.Path.{_≡_, refl, ap, ap₂, _∙_}
 use mathlib.Core.Bool.{Bool, true, false}
-use mathlib.Core.List.{List, [], _∷_, map, zipWith}
+use mathlib.Core.List.{List, [], _∷_, map}
 use mathlib.Core.Option.{none, some}
 use Prim.Native.Nat.{ℕ, zero, suc, _+_, _*_, _≤_}
 use native.Mathlib.Omega.{arith}
 use lib.ListN.{getD, take, drop, replicate}
 use lib.Seq.{getD-take, getD-drop}
-use Rattle.blocks.specs.Blocks.{blocks, block}
+use Rattle.blocks.specs.Blocks.{block}
+use Rattle.blocks.specs.Order.{listed}
 use Rattle.table.specs.Form.{within, tableOf, entriesOf}
 use Rattle.table.proofs.Fitting.{within-parts}
 use Rattle.model.specs.Measures.{maxServers, maxBuckets}
@@ -18,7 +19,7 @@ use Rattle.cells.specs.Cells.{Front, Cell}
 use Rattle.server.specs.declared.Effect.{Effect}
 use Rattle.server.specs.Views.{flagIn, roleIn, among, roundIn, callIn}
 use Rattle.memory.specs.Rows.{row}
-use Rattle.memory.specs.Layout.{slotOf, headOf, versionOf, roundOf, callOf, headAt, versionAt, roundAt, callAt, countsAt, putCounts, contentAt}
+use Rattle.memory.specs.Layout.{slotOf, headOf, versionOf, roundOf, callOf, headAt, versionAt, roundAt, callAt, countsAt, putCounts, contentAt, freshPlaces}
 use Rattle.messages.specs.Messages.{messagesAt}
 use Rattle.memory.proofs.Records.{counts-putCounts}
 use Rattle.moves.specs.Reactions.{frontIn}
@@ -104,7 +105,7 @@ unfolding roleIn flagIn
 zero-front k n s h = ap (frontIn n) (zero-head k s) ∙ rw (no-votes n 7 h)
 
 abbrev zeroMemory : Memory → (counts heads slots copies : List ℕ) → Memory
-zeroMemory m c h s k = memory c h s k (m .working) (m .texts) (m .queue) (m .payloads)
+zeroMemory m c h s k = memory c h s k (m .working) (m .texts) (freshPlaces (m .queue)) (m .payloads)
 
 module _ (m : Memory) (counts : List ℕ) (h s k n most : ℕ) (few : n ≤ 7) where
   abbrev z : Memory
@@ -127,7 +128,7 @@ module _ (m : Memory) (counts : List ℕ) (h s k n most : ℕ) (few : n ≤ 7) w
       ∙ each-constant n (cluster.freshServer n most)
 
 no-messages : (queue payloads : List ℕ) → flightAt 0 queue payloads ≡ []
-unfolding flightAt messagesAt blocks zipWith
+unfolding flightAt messagesAt listed
 no-messages queue payloads = refl
 
 -- ---- the memory of a fresh cluster

@@ -23,7 +23,7 @@ use Rattle.server.specs.Views.{flagIn, among, copyIn, markIn, effectIn, chosen}
 use Rattle.rounds.specs.Rounds.{noVersion, pickVersion, pickTable, matching}
 use Rattle.rounds.proofs.RoundLaws.{matching-shut, unmatched}
 use Rattle.memory.specs.declared.Counts.{Counts}
-use Rattle.memory.specs.Layout.{slotOf, countsAt, headAt, messageAt}
+use Rattle.memory.specs.Layout.{slotOf, countsAt, headAt, placeAt, messageAt}
 use Rattle.refusals.specs.Refusals.{messageRefusal, noReceiver}
 use Rattle.moves.specs.declared.Local.{Local}
 use Rattle.moves.specs.declared.Move.{Move}
@@ -68,11 +68,14 @@ module _ {m : Memory} {l : List ℕ} {t : lines.Tally} (ready : Ready m l t) (i 
   abbrev pub asked : Message
   asked = messageAt (m .queue) i
 
+  abbrev place : ℕ
+  place = placeAt (m .queue) i
+
   abbrev pub message : cluster.Message
-  message = messageIn asked (tableAt (m .payloads) i)
+  message = messageIn asked (tableAt (m .payloads) place)
 
   sound : Sound (flight (m .queue) (m .payloads) (countsAt (m .counts) .messages))
-  sound = record { queue = ready .sized .queue; payloads = ready .sized .payloads; count = measured ready .messages }
+  sound = record { queue = ready .sized .queue; order = ready .ordered; payloads = ready .sized .payloads; count = measured ready .messages }
 
   pub message-there : lines.messageAt (clusterAt m) i ≡ message
   message-there = message-at (flight (m .queue) (m .payloads) (countsAt (m .counts) .messages)) i _ sound here
@@ -80,7 +83,7 @@ module _ {m : Memory} {l : List ℕ} {t : lines.Tally} (ready : Ready m l t) (i 
   pub message-within : MessageWithin n most (limitsAfter maxElection (countsAt (m .counts) .lines)) message
   message-within =
       let c = countsAt (m .counts) in
-      let size = length-flight (flight (m .queue) (m .payloads) (c .messages)) in
+      let size = length-flight (flight (m .queue) (m .payloads) (c .messages)) sound in
       subst (MessageWithin n most (limitsAfter maxElection (c .lines))) message-there (all-at i _ (omega arith) (cluster-within ready .messages))
 
   -- ---- its receiver s
@@ -116,11 +119,11 @@ module _ {m : Memory} {l : List ℕ} {t : lines.Tally} (ready : Ready m l t) (i 
       here-local = localAt m s k
 
       abbrev tables : Tables
-      tables = tablesAt m k i (tableIn (f .table))
+      tables = tablesAt m k place (tableIn (f .table))
 
       abbrev stepAt : ℕ → Step
       stepAt q =
-          record { server = q; bucket = b; place = i; removes = removes; asked = asked; copied = chosen removes 0 1; delivered = 1; lost = 0; calls = countsAt (m .counts) .calls }
+          record { server = q; bucket = b; index = i; removes = removes; asked = asked; copied = chosen removes 0 1; delivered = 1; lost = 0; calls = countsAt (m .counts) .calls }
 
       abbrev step : Step
       step = stepAt s
@@ -139,7 +142,7 @@ module _ {m : Memory} {l : List ℕ} {t : lines.Tally} (ready : Ready m l t) (i 
       abbrev Replied : ℕ → Bool → Type 0
       Replied mark reports =
           let report = pickVersion reports (asked .version) noVersion in
-          onReply n s message (markIn mark) (copyIn report (pickTable reports (tableAt (m .payloads) i) [])) server
+          onReply n s message (markIn mark) (copyIn report (pickTable reports (tableAt (m .payloads) place) [])) server
           ≡ reactionIn n s b (askedIn asked) (replyMove n s (f .result) mark report asked here-local) tables (callWordsAt m k) (valueBytes (f .value)) (tableIn (f .table)) server
 
       -- with no round open it changes nothing
@@ -198,7 +201,6 @@ module _ {m : Memory} {l : List ℕ} {t : lines.Tally} (ready : Ready m l t) (i 
             counts = refl;
             server = mine;
             bucket = ours;
-            place = omega arith;
             there = λ e. here;
             whole = whole-handled n s (f .result) asked here-local (whole-at m s k);
             form = fitting;
@@ -227,8 +229,8 @@ module _ (m : Memory) (l : List ℕ) (t : lines.Tally) (ready : Ready m l t) (i 
   counts = countsAt (m .counts)
 
   -- the message's server and bucket, as the plan names them
-  abbrev place : ℕ
-  place = min 6 (messageAt (m .queue) i .receiver)
+  abbrev target : ℕ
+  target = min 6 (messageAt (m .queue) i .receiver)
 
   abbrev part : ℕ
   part = min 7 (messageAt (m .queue) i .bucket)
@@ -237,7 +239,7 @@ module _ (m : Memory) (l : List ℕ) (t : lines.Tally) (ready : Ready m l t) (i 
   plan = handPlan counts (messageStep counts i removes (messageAt (m .queue) i)) (messageAt (m .queue) i) (receiverAt m i) f
 
   module _ (here : i < counts .messages) (taken : messageRefusal counts i ≡ 0) where
-    to : place ≡ messageAt (m .queue) i .receiver
+    to : target ≡ messageAt (m .queue) i .receiver
     to = omega (arith, message-within ready i here .receiver, measured ready .servers)
 
     on : part ≡ messageAt (m .queue) i .bucket
@@ -246,18 +248,18 @@ module _ (m : Memory) (l : List ℕ) (t : lines.Tally) (ready : Ready m l t) (i 
     among-servers : leb (counts .servers) (messageAt (m .queue) i .receiver) ≡ false
     among-servers = lt-leb (counts .servers) (messageAt (m .queue) i .receiver) (message-within ready i here .receiver)
 
-    handed-by : (z : Bool) → flagIn (headAt (m .heads) place .stopped) ≡ z
+    handed-by : (z : Bool) → flagIn (headAt (m .heads) target .stopped) ≡ z
         → lines.acceptLine (stateIn m t) (lines.delivery (clusterAt m) (message ready i here) (keptMessages removes i (clusterAt m .messages)) (chosen removes 0 1)) ≡ planned m l t counts f plan
     unfolding handPlan gone noReceiver
     handed-by true e =
-        ap (lines.acceptLine (stateIn m t)) (lost ready i here removes place to e)
+        ap (lines.acceptLine (stateIn m t)) (lost ready i here removes target to e)
         ∙ (lost-run m l t counts i removes f ready refl (λ h. here) ∙ rw (handPlan, gone, noReceiver, among-servers, e))
     handed-by false e =
         let reads = effect taken (rw (gone, noReceiver, among-servers, e)) in
-        let x = step ready i here removes place to f part on reads in
-        let v = move ready i here removes place to f part on reads in
-        ap (lines.acceptLine (stateIn m t)) (delivered ready i here removes place to f part on reads e)
-        ∙ (moved-run m l t counts x v f ready (possible ready i here removes place to f part on reads) ∙ rw (handPlan, gone, noReceiver, among-servers, e))
+        let x = step ready i here removes target to f part on reads in
+        let v = move ready i here removes target to f part on reads in
+        ap (lines.acceptLine (stateIn m t)) (delivered ready i here removes target to f part on reads e)
+        ∙ (moved-run m l t counts x v f ready (possible ready i here removes target to f part on reads) ∙ rw (handPlan, gone, noReceiver, among-servers, e))
 
   handed : messageRefusal counts i ≡ 0 → i < counts .messages
       → judged (stateIn m t) [] (lines.delivery (clusterAt m) (lines.messageAt (clusterAt m) i) (keptMessages removes i (clusterAt m .messages)) (chosen removes 0 1))
@@ -266,7 +268,7 @@ module _ (m : Memory) (l : List ℕ) (t : lines.Tally) (ready : Ready m l t) (i 
   handed taken here =
       let kept = keptMessages removes i (clusterAt m .messages) in
       ap (λ x. lines.acceptLine (stateIn m t) (lines.delivery (clusterAt m) x kept (chosen removes 0 1))) (message-there ready i here)
-      ∙ handed-by here taken (flagIn (headAt (m .heads) place .stopped)) refl
+      ∙ handed-by here taken (flagIn (headAt (m .heads) target .stopped)) refl
 
   pub hand-runs : lines.perform (stateIn m t) (elim removes [ true ↦ lines.deliver i | false ↦ lines.copy i ])
       ≡ resultOf t (executed m l (countsAt (m .counts)) (handAt m (countsAt (m .counts)) i removes f)) f
@@ -274,4 +276,4 @@ module _ (m : Memory) (l : List ℕ) (t : lines.Tally) (ready : Ready m l t) (i 
   hand-runs =
       ready-perform ready (handLine removes i)
       ∙ (ap₂ (judged (stateIn m t)) (hand-conditions (clusterAt m) i removes) (hand-work (clusterAt m) i removes)
-      ∙ message-judged m l t f [] _ plan i handed)
+      ∙ message-judged m l t f [] _ plan ready i handed)

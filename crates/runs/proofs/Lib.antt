@@ -15,3 +15,4 @@ pub mod Wording
 pub mod Calling
 pub mod LineMeans
 pub mod Reading
+pub mod Ordering

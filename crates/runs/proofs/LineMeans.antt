@@ -18,7 +18,7 @@ use Rattle.parse.specs.declared.Line.{Line}
 use Rattle.parse.specs.Kept.{keyIn, givenIn}
 use Rattle.parse.specs.Meaning.{lineFor, expectedItem, newItem, lineIn}
 use Rattle.runs.specs.Runs.{refusedRun, executed, linePlan, plannedRun, runBy, lineRun, EffectOf}
-use Rattle.runs.specs.Meaning.{stateIn, performed, resultOf, WholeLine}
+use Rattle.runs.specs.Meaning.{stateIn, Bounded, performed, resultOf, WholeLine}
 use Rattle.runs.proofs.Accepting.{Ready}
 use Rattle.runs.proofs.Standing.{standing-cluster, no-cluster}
 use Rattle.runs.proofs.Fresh.{created-means, second-cluster}
@@ -98,14 +98,14 @@ module _ (m : Memory) (l : List ℕ) (t : lines.Tally) (x : Line) (f : Effect) w
     bare-means K.Start = two _ refl
 
 -- every line, on arrays of the lent sizes that stand for a state within the measures
-pub line-means : (m : Memory) (l : List ℕ) (t : lines.Tally) (x : Line) (f : Effect) → Sized m → length l ≡ answersRoom → WholeLine x → Measured (clusterIn m) t
+pub line-means : (m : Memory) (l : List ℕ) (t : lines.Tally) (x : Line) (f : Effect) → Sized m → length l ≡ answersRoom → WholeLine x → Bounded m t
     → (standing (countsAt (m .counts)) ≡ true → EffectOf (x .kind) m (countsAt (m .counts)) x f)
     → performed (stateIn m t) (lineIn x) ≡ resultOf t (lineRun m l x f) f
 unfolding lineIn lineRun
-line-means m l t x f sized answers whole measured asked = go (standing (countsAt (m .counts))) refl
+line-means m l t x f sized answers whole bounded asked = go (standing (countsAt (m .counts))) refl
   where
     go : (b : Bool) → standing (countsAt (m .counts)) ≡ b → performed (stateIn m t) (lineIn x) ≡ resultOf t (lineRun m l x f) f
     go true s =
-        let ready : Ready m l t = record { sized = sized; answers = answers; standing = s; stands = subst (λ o. Measured o t) (standing-cluster m s) measured } in
+        let ready : Ready m l t = record { sized = sized; ordered = bounded .ordered s; answers = answers; standing = s; stands = subst (λ o. Measured o t) (standing-cluster m s) (bounded .measured) } in
         standing-means m l t x f s ready whole (x .kind) refl (asked s)
-    go false s = bare-means m l t x f s sized (subst (λ o. Measured o t) (no-cluster m s) measured) (x .kind)
+    go false s = bare-means m l t x f s sized (subst (λ o. Measured o t) (no-cluster m s) (bounded .measured)) (x .kind)

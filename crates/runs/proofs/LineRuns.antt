@@ -103,7 +103,6 @@ module _ (m : Memory) (l : List ℕ) (t : lines.Tally) (f : Effect) (ready : Rea
         counts = refl;
         server = server;
         bucket = bucket;
-        place = omega arith;
         there = λ e. let z : _≡_ {A = ℕ} 0 1 = cc in absurd (omega arith);
         whole = whole;
         form = λ e. absurd (omega arith);
@@ -181,4 +180,4 @@ module _ (m : Memory) (l : List ℕ) (t : lines.Tally) (f : Effect) (ready : Rea
   unfolding lines.conditionsUpTo lines.work lines.firstOf loseAt chosen
   lose-runs i =
       ready-perform ready (lines.lose i)
-      ∙ message-judged m l t f [] _ _ i (λ taken h. lost-run m l t (countsIn m) i true f ready refl (λ e. h))
+      ∙ message-judged m l t f [] _ _ ready i (λ taken h. lost-run m l t (countsIn m) i true f ready refl (λ e. h))

@@ -12,7 +12,8 @@ use Rattle.model.specs.Lines as lines
 use Rattle.server.specs.declared.Effect.{Effect}
 use Rattle.server.specs.Views.{chosen}
 use Rattle.memory.specs.declared.Counts.{Counts}
-use Rattle.memory.specs.Layout.{countsAt, putCounts}
+use Rattle.blocks.specs.Order.{Ordered}
+use Rattle.memory.specs.Layout.{countsAt, orderOf, putCounts}
 use Rattle.memory.proofs.Records.{counts-putCounts}
 use Rattle.views.specs.Memory.{Memory, memory, Sized, each, cellAt, serverAt, serversAt, flightAt, clusterAt, clusterIn}
 use Rattle.views.specs.Changes.{answersAt}
@@ -27,34 +28,34 @@ use Rattle.runs.proofs.Standing.{measured-standing, measured, standing-
 
 -- ---- the messages that stay
 
-module _ (m : Memory) (c : Counts) (x : Step) (sized : Sized m) (few : c .messages ≤ 64) (there : x .removes ≡ true → x .place < c .messages) where
+module _ (m : Memory) (c : Counts) (x : Step) (sized : Sized m) (ordered : Ordered (orderOf (m .queue))) (few : c .messages ≤ 64) (there : x .removes ≡ true → x .index < c .messages) where
   all-sound : Sound (flight (m .queue) (m .payloads) (c .messages))
-  all-sound = record { queue = sized .queue; payloads = sized .payloads; count = few }
+  all-sound = record { queue = sized .queue; order = ordered; payloads = sized .payloads; count = few }
 
   pub left-sound : Sound (leftFlight m c x)
   unfolding withoutMessage
   left-sound = go (x .removes) refl
     where
-      go : (r : Bool) → x .removes ≡ r → Sound (withoutMessage r (x .place) (flight (m .queue) (m .payloads) (c .messages)))
-      go true e = removed-sound (x .place) (flight (m .queue) (m .payloads) (c .messages)) all-sound (there e) true
+      go : (r : Bool) → x .removes ≡ r → Sound (withoutMessage r (x .index) (flight (m .queue) (m .payloads) (c .messages)))
+      go true e = removed-sound (x .index) (flight (m .queue) (m .payloads) (c .messages)) all-sound (there e) true
       go false e = all-sound
 
-  pub left-messages : flightIn (leftFlight m c x) ≡ keptMessages (x .removes) (x .place) (flightAt (c .messages) (m .queue) (m .payloads))
+  pub left-messages : flightIn (leftFlight m c x) ≡ keptMessages (x .removes) (x .index) (flightAt (c .messages) (m .queue) (m .payloads))
   unfolding withoutMessage
   left-messages = go (x .removes) refl
     where
       go : (r : Bool) → x .removes ≡ r
-          → flightIn (withoutMessage r (x .place) (flight (m .queue) (m .payloads) (c .messages))) ≡ keptMessages r (x .place) (flightAt (c .messages) (m .queue) (m .payloads))
-      go true e = removed-flight (x .place) (flight (m .queue) (m .payloads) (c .messages)) all-sound (there e)
+          → flightIn (withoutMessage r (x .index) (flight (m .queue) (m .payloads) (c .messages))) ≡ keptMessages r (x .index) (flightAt (c .messages) (m .queue) (m .payloads))
+      go true e = removed-flight (x .index) (flight (m .queue) (m .payloads) (c .messages)) all-sound (there e)
       go false e = refl
 
 pub left-count : (m : Memory) (c : Counts) (x : Step) → leftFlight m c x .count ≡ c .messages - chosen (x .removes) 1 0
 unfolding chosen
 left-count m c x = go (x .removes)
   where
-    go : (r : Bool) → withoutMessage r (x .place) (flight (m .queue) (m .payloads) (c .messages)) .count ≡ c .messages - chosen r 1 0
-    go true = removed-count true (x .place) (flight (m .queue) (m .payloads) (c .messages))
-    go false = removed-count false (x .place) (flight (m .queue) (m .payloads) (c .messages)) ∙ omega arith
+    go : (r : Bool) → withoutMessage r (x .index) (flight (m .queue) (m .payloads) (c .messages)) .count ≡ c .messages - chosen r 1 0
+    go true = removed-count true (x .index) (flight (m .queue) (m .payloads) (c .messages))
+    go false = removed-count false (x .index) (flight (m .queue) (m .payloads) (c .messages)) ∙ omega arith
 
 -- ---- one more line
 
@@ -80,12 +81,12 @@ module _ (m : Memory) (l : List ℕ) (t : lines.Tally) (x : Step) (f : Effect) (
   abbrev c : Counts
   c = countsAt (m .counts)
 
-  lost-does : x .calls ≡ c .calls → (x .removes ≡ true → x .place < c .messages)
-      → Does (lines.lostMessage (clusterAt m) (keptMessages (x .removes) (x .place) (clusterAt m .messages)) (x .copied)) (lostRun m l c x) f
+  lost-does : x .calls ≡ c .calls → (x .removes ≡ true → x .index < c .messages)
+      → Does (lines.lostMessage (clusterAt m) (keptMessages (x .removes) (x .index) (clusterAt m .messages)) (x .copied)) (lostRun m l c x) f
   unfolding lostRun answersAt each
   lost-does calls there =
-      let sound = left-sound m c x (ready .sized) (measured ready .messages) there in
-      let same = left-messages m c x (ready .sized) (measured ready .messages) there in
+      let sound = left-sound m c x (ready .sized) (ready .ordered) (measured ready .messages) there in
+      let same = left-messages m c x (ready .sized) (ready .ordered) (measured ready .messages) there in
       record {
         taken = refl;
         cluster =
@@ -95,7 +96,7 @@ module _ (m : Memory) (l : List ℕ) (t : lines.Tally) (x : Step) (f : Effect) (
         copied = refl;
         delivered = refl;
         lost = refl;
-        messages = sym (length-flight (leftFlight m c x)) ∙ ap length same;
+        messages = sym (length-flight (leftFlight m c x) sound) ∙ ap length same;
         few = sound .count;
         answers = refl;
       }

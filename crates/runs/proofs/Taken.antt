@@ -43,6 +43,7 @@ module _ (m : Memory) (p : Plan) (takes : p .takes ≡ true) where
       taken-ready l t ready =
           record {
             sized = taken-sized;
+            ordered = rw taken-words (ready .ordered);
             answers = ready .answers;
             standing = rw taken-counts (ready .standing);
             stands = rw taken-cluster (ready .stands);

@@ -9,7 +9,10 @@ use lib.ListN.{length}
 use Rattle.entries.specs.Decoded.{tableIn, valueBytes}
 use Rattle.model.specs.Lines as lines
 use Rattle.server.specs.declared.Effect.{Effect}
-use Rattle.views.specs.Memory.{Memory, clusterIn}
+use Rattle.limits.specs.Stands.{Measured}
+use Rattle.blocks.specs.Order.{Ordered}
+use Rattle.memory.specs.Layout.{countsAt, orderOf}
+use Rattle.views.specs.Memory.{Memory, standing, clusterIn}
 use Rattle.views.specs.Changes.{answersAt}
 use Rattle.parse.specs.declared.Line.{Line}
 use Rattle.runs.specs.declared.Report.{Report}
@@ -21,6 +24,11 @@ stateIn m t = record { cluster = clusterIn m; tally = t }
 
 abbrev pub tallyIn : Tally → lines.Tally
 tallyIn t = record { sent = t .sent; copied = t .copied; delivered = t .delivered; lost = t .lost; inFlight = t .flight }
+
+-- within the measures: the cluster is, and where one stands, the order of its messages names no place twice
+pub record Bounded (m : Memory) (t : lines.Tally) : Type 0 where
+  pub measured : Measured (clusterIn m) t
+  pub ordered : standing (countsAt (m .counts)) ≡ true → Ordered (orderOf (m .queue))
 
 -- a line that was read, or one that is malformed (RULES, Lines 2)
 unfoldable pub performed : lines.State → Option lines.Line → lines.LineResult

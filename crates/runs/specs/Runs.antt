@@ -15,7 +15,7 @@ use Rattle.server.specs.declared.Words.{Words}
 use Rattle.server.specs.Views.{effectIn, wordsIn}
 use Rattle.server.specs.declared.Effect.{Effect}
 use Rattle.memory.specs.declared.Counts.{Counts}
-use Rattle.memory.specs.Layout.{slotOf, countsAt, messageAt, putCounts, putWords, putTexts}
+use Rattle.memory.specs.Layout.{slotOf, countsAt, placeAt, freshPlaces, messageAt, putCounts, putWords, putTexts}
 use Rattle.refusals.specs.Refusals.{inside, sendCount, messageRefusal}
 use Rattle.moves.specs.declared.Move.{Move}
 use Rattle.moves.specs.Moves.{readsTable}
@@ -71,7 +71,7 @@ nextCounts c messages calls =
 
 -- the messages once the one handed over has left the list
 abbrev pub leftFlight : Memory → Counts → Step → Flight
-leftFlight m c x = withoutMessage (x .removes) (x .place) (flight (m .queue) (m .payloads) (c .messages))
+leftFlight m c x = withoutMessage (x .removes) (x .index) (flight (m .queue) (m .payloads) (c .messages))
 
 -- a message is lost
 unfoldable pub lostRun : Memory → List ℕ → Counts → Step → Ran
@@ -91,7 +91,7 @@ lostRun m l c x =
 
 -- a move is carried out: the server's arrays, then the messages
 abbrev pub movedAt : Memory → Counts → Step → Move → List Entry → Memory
-movedAt m c x v made = moved m (c .buckets) (x .server) (x .bucket) (x .place) v made
+movedAt m c x v made = moved m (c .buckets) (x .server) (x .bucket) (placeAt (m .queue) (x .index)) v made
 
 abbrev pub sentFlight : Memory → Counts → Step → Move → List Entry → Flight
 sentFlight m c x v made =
@@ -145,10 +145,10 @@ executed m l c p =
 abbrev pub freshCounts : ℕ → ℕ → Counts
 freshCounts n b = record { servers = n; buckets = b; messages = 0; lines = 0; calls = 0 }
 
--- all numbers 0, all copies empty; what no server, round, call or message looks at stays
+-- all numbers 0, all copies empty, all places free; what no server, round, call or message looks at stays
 unfoldable pub freshMemory : Memory → ℕ → ℕ → Memory
 freshMemory m n b =
-    memory (putCounts (m .counts) (freshCounts n b)) (replicate 112 0) (replicate 1792 0) (replicate 7168 0) (m .working) (m .texts) (m .queue) (m .payloads)
+    memory (putCounts (m .counts) (freshCounts n b)) (replicate 112 0) (replicate 1792 0) (replicate 7168 0) (m .working) (m .texts) (freshPlaces (m .queue)) (m .payloads)
 
 unfoldable pub createdRun : Memory → List ℕ → ℕ → ℕ → Ran
 createdRun m l n b =

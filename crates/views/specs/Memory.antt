@@ -14,14 +14,14 @@ use Rattle.model.specs.Cluster as cluster
 use Rattle.cells.specs.Cells.{Front, Cell}
 use Rattle.server.specs.Views.{wordsIn}
 use Rattle.memory.specs.declared.Counts.{Counts}
-use Rattle.memory.specs.Layout.{serverRoom, slotOf, headAt, versionAt, roundAt, callAt, wordsAt, countsAt, contentAt}
+use Rattle.memory.specs.Layout.{serverRoom, queueLength, slotOf, headAt, versionAt, roundAt, callAt, wordsAt, countsAt, contentAt}
 use Rattle.messages.specs.Messages.{Sent, messagesAt}
 use Rattle.moves.specs.declared.Local.{Local}
 use Rattle.moves.specs.Moves.{localOf}
 use Rattle.moves.specs.Reactions.{frontIn, cellIn, messageIn}
 
 -- the lent arrays: counts, heads of servers, slots, contents of copies, working contents, keys and values of calls, headers
--- and contents of messages
+-- of messages with their order, and their contents
 pub record Memory : Type 0 where
   pub counts : List ℕ
   pub heads : List ℕ
@@ -42,7 +42,7 @@ pub record Sized (m : Memory) : Type 0 where
   pub copies : length (m .copies) ≡ 7168
   pub working : length (m .working) ≡ 7168
   pub texts : length (m .texts) ≡ 3584
-  pub queue : length (m .queue) ≡ 512
+  pub queue : length (m .queue) ≡ queueLength
   pub payloads : length (m .payloads) ≡ 8192
 
 -- f 0, f 1, .. of n numbers

@@ -6,11 +6,11 @@ use Prim.Native.Nat.{ℕ, zero, suc, _+_, _-_, _≤_}
 use lib.Dec.{eqb}
 use lib.ListN.{length}
 use Rattle.blocks.specs.Blocks.{block}
+use Rattle.blocks.specs.Order.{Ordered}
 use Rattle.model.specs.Cluster as cluster
 use Rattle.server.specs.declared.Message.{Message}
 use Rattle.server.specs.Views.{chosen, isBroadcast}
-use Rattle.memory.specs.Layout.{messageRoom, messageSize, contentSize, putMessage, putContent}
-use Rattle.messages.specs.Messages.{closedUp}
+use Rattle.memory.specs.Layout.{messageRoom, queueLength, contentSize, orderOf, placeAt, withoutPlace, putMessage, putContent}
 use Rattle.moves.specs.declared.Move.{Move}
 use Rattle.views.specs.Memory.{flightAt}
 
@@ -23,9 +23,10 @@ pub record Flight : Type 0 where
 abbrev pub flight : List ℕ → List ℕ → ℕ → Flight
 flight q l c = record { queue = q; payloads = l; count = c }
 
--- arrays of the lent sizes, with no more messages than there are places
+-- arrays of the lent sizes, with no more messages than there are places, and an order that names each place once
 pub record Sound (x : Flight) : Type 0 where
-  pub queue : length (x .queue) ≡ 512
+  pub queue : length (x .queue) ≡ queueLength
+  pub order : Ordered (orderOf (x .queue))
   pub payloads : length (x .payloads) ≡ 8192
   pub count : x .count ≤ messageRoom
 
@@ -33,17 +34,14 @@ pub record Sound (x : Flight) : Type 0 where
 abbrev pub flightIn : Flight → List cluster.Message
 flightIn x = flightAt (x .count) (x .queue) (x .payloads)
 
--- ---- a message is appended, with the block v as its content; one is removed
+-- ---- a message is appended, at the first free place and with the block v as its content; one is removed, and its place is free
 
 unfoldable pub appended : List ℕ → Message → Flight → Flight
-appended v m x = flight (putMessage (x .queue) (x .count) m) (putContent (x .payloads) (x .count) v) (x .count + 1)
+appended v m x = flight (putMessage (x .queue) (x .count) m) (putContent (x .payloads) (placeAt (x .queue) (x .count)) v) (x .count + 1)
 
 unfoldable pub withoutMessage : Bool → ℕ → Flight → Flight
 withoutMessage removes i x =
-    elim removes [
-      | true ↦ flight (closedUp messageSize (x .count) i (x .queue)) (closedUp contentSize (x .count) i (x .payloads)) (x .count - 1)
-      | false ↦ x
-    ]
+    elim removes [ true ↦ flight (withoutPlace (x .count) i (x .queue)) (x .payloads) (x .count - 1) | false ↦ x ]
 
 -- ---- what is sent
 

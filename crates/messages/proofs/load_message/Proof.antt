@@ -1,15 +1,16 @@
--- `messages::load_message` meets its contract: what its callee reads, by its name.
-use Rattle.memory.specs.Layout.{messageAt}
+-- `messages::load_message` meets its contract: the header at its place.
 use borrow.Author.Needs.{needs}
 use Rattle.messages.proofs.load_message.Statement.{statement}
 use Rattle.messages.proofs.load_message.Tie as tie
 
-message-fields-requires : tie.Need-message-fields-requires
-message-fields-requires c κs = search needs
+place-of-requires : tie.Need-place-of-requires
+place-of-requires c κs = search needs
+
+load-header-requires : tie.Need-load-header-requires
+load-header-requires c κs = search needs
 
 returns : tie.Need-returns
-unfolding messageAt
-returns c = c .message-fields .ensures
+returns c = rw (c .load-header .ensures, c .before .place-of .ensures .0)
 
 pub load-message-spec : {M : Type 1} → statement M
-load-message-spec = tie.close (tie.spec message-fields-requires returns)
+load-message-spec = tie.close (tie.spec place-of-requires load-header-requires returns)

@@ -28,7 +28,7 @@ send-requires c κs =
     let pre = c .before .before .before .before .before .before .before .before .before .before .pre in
     let args = c .before .before .before .before .before .before .before .before .before .before .args in
     let leave = c .before .before .before .before .before .leave in
-    (omega arith, (pre .server, room-left (args .cluster) (args .step .removes) (args .step .place) (args .next .sends) _ _ _ _ _ (leave .ensures) (pre .room)))
+    (omega arith, (pre .server, room-left (args .cluster) (args .step .removes) (args .step .index) (args .next .sends) _ _ _ _ _ (leave .ensures) (pre .room)))
 
 returns : tie.Need-returns
 returns c =

@@ -27,7 +27,7 @@ cut-step-requires c κs = search needs
 receiver-requires : tie.Need-receiver-requires
 receiver-requires c κs =
     let args = c .before .before .before .before .before .args in
-    let a = args in cut-slot (a .cluster) (a .place) _ _ (c .cut-step .ensures)
+    let a = args in cut-slot (a .cluster) (a .index) _ _ (c .cut-step .ensures)
 
 cut-plan-requires : tie.Need-cut-plan-requires
 cut-plan-requires c κs = search needs
@@ -42,7 +42,7 @@ returns c =
     let load-message = c .before .before .before .load-message in
     let a = args in
     let m = memory [] (a .heads .now) (a .slots .now) [] [] [] (a .queue .now) [] in
-    told (cutAt m (a .cluster) (a .place) (a .stores)) (no-effect .result) _ (cut-at-keeps m (a .cluster) (a .place) (a .stores))
+    told (cutAt m (a .cluster) (a .index) (a .stores)) (no-effect .result) _ (cut-at-keeps m (a .cluster) (a .index) (a .stores))
     (rw (cutAt, unless-none _ _ _ (sym (message-refusal .ensures) ∙ if1 .taken), c .cut-plan .ensures, c .before .receiver .ensures, c .before .before .cut-step .ensures, load-message .ensures))
 
 refused-plan-requires : tie.Need-refused-plan-requires
@@ -55,7 +55,7 @@ returns-2 c =
     let no-effect = c .before .before .before .no-effect in
     let a = args in
     let m = memory [] (a .heads .now) (a .slots .now) [] [] [] (a .queue .now) [] in
-    told (cutAt m (a .cluster) (a .place) (a .stores)) (no-effect .result) _ (cut-at-keeps m (a .cluster) (a .place) (a .stores))
+    told (cutAt m (a .cluster) (a .index) (a .stores)) (no-effect .result) _ (cut-at-keeps m (a .cluster) (a .index) (a .stores))
     (rw (c .refused-plan .ensures, c .before .before .message-refusal .ensures) (sym (unless-some _ _ _ (λ z. c .before .if1 .left (c .before .before .message-refusal .ensures ∙ z)))))
 
 pub plan-cut-spec : {M : Type 1} → statement M

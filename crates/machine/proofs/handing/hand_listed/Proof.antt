@@ -16,7 +16,7 @@ message-step-requires c κs = search needs
 receiver-requires : tie.Need-receiver-requires
 receiver-requires c κs =
     let args = c .before .before .before .before .before .args in
-    let a = args in step-slot (a .cluster) (a .place) (a .removes) _ _ (c .before .before .message-step .ensures)
+    let a = args in step-slot (a .cluster) (a .index) (a .removes) _ _ (c .before .before .message-step .ensures)
 
 is-gone-requires : tie.Need-is-gone-requires
 is-gone-requires c κs = search needs
@@ -31,7 +31,7 @@ lose-requires c κs =
     let message-step = c .before .before .before .before .before .before .before .before .before .message-step in
     let a = args in
     let p = pre in
-    losable (a .cluster) (a .place) (a .removes) _ _ (message-step .ensures) (p .0) (p .1)
+    losable (a .cluster) (a .index) (a .removes) _ _ (message-step .ensures) (p .0) (p .1)
 
 returns : tie.Need-returns
 returns c =
@@ -42,13 +42,13 @@ returns c =
     let is-gone = c .before .before .before .before .before .before .is-gone in
     let if1 = c .before .before .before .before .before .if1 in
     let a = args in
-    listed-lost _ _ _ _ _ _ _ _ _ (a .cluster) (a .place) (a .removes) _ _ _ (load-message .ensures) (message-step .ensures) (receiver .ensures) _ (sym (is-gone .ensures) ∙ if1 .taken) (c .lose .ensures)
+    listed-lost _ _ _ _ _ _ _ _ _ (a .cluster) (a .index) (a .removes) _ _ _ (load-message .ensures) (message-step .ensures) (receiver .ensures) _ (sym (is-gone .ensures) ∙ if1 .taken) (c .lose .ensures)
 
 asked-effect-requires : tie.Need-asked-effect-requires
 asked-effect-requires c κs =
     let args = c .before .before .before .before .before .before .before .before .before .before .args in
     let message-step = c .before .before .before .before .before .before .before .message-step in
-    let a = args in step-slot (a .cluster) (a .place) (a .removes) _ _ (message-step .ensures)
+    let a = args in step-slot (a .cluster) (a .index) (a .removes) _ _ (message-step .ensures)
 
 handled-move-requires : tie.Need-handled-move-requires
 handled-move-requires c κs = search needs
@@ -69,7 +69,7 @@ carry-out-requires c κs =
     let if2 = c .before .before .before .before .before .before .before .before .if2 in
     let a = args in
     let p = pre in
-    carries (handable (a .cluster) (a .place) (a .removes) _ _ (message-step .ensures) (p .0) (p .1) _ (sym (is-gone .ensures) ∙ if1 .left)) (places-left .ensures) (if2 .taken)
+    carries (handable (a .cluster) (a .index) (a .removes) _ _ (message-step .ensures) (p .0) (p .1) _ (sym (is-gone .ensures) ∙ if1 .left)) (places-left .ensures) (if2 .taken)
 
 report-of-requires : tie.Need-report-of-requires
 report-of-requires c κs = search needs
@@ -89,7 +89,7 @@ returns-2 c =
     let a = args in
     let f = asked-effect .result in
     let q = reported f (c .before .carry-out .ensures) (c .report-of .ensures) in
-    listed-handed _ _ _ _ _ _ _ _ _ (a .cluster) (a .place) (a .removes) _ _ _ (load-message .ensures) (message-step .ensures) (receiver .ensures) f (sym (is-gone .ensures) ∙ if1 .left) (asked-effect .ensures)
+    listed-handed _ _ _ _ _ _ _ _ _ (a .cluster) (a .index) (a .removes) _ _ _ (load-message .ensures) (message-step .ensures) (receiver .ensures) f (sym (is-gone .ensures) ∙ if1 .left) (asked-effect .ensures)
     (record { is = handled _ _ _ _ _ _ f _ _ _ (handled-move .ensures) (places-left .ensures) (if2 .taken) (q .is); effect = q .effect })
 
 bare-report-requires : tie.Need-bare-report-requires
@@ -107,7 +107,7 @@ returns-3 c =
     let handled-move = c .before .before .before .handled-move in
     let a = args in
     let f = asked-effect .result in
-    listed-handed _ _ _ _ _ _ _ _ _ (a .cluster) (a .place) (a .removes) _ _ _ (load-message .ensures) (message-step .ensures) (receiver .ensures) f (sym (is-gone .ensures) ∙ if1 .left) (asked-effect .ensures)
+    listed-handed _ _ _ _ _ _ _ _ _ (a .cluster) (a .index) (a .removes) _ _ _ (load-message .ensures) (message-step .ensures) (receiver .ensures) f (sym (is-gone .ensures) ∙ if1 .left) (asked-effect .ensures)
     (record { is = no-places-left _ _ _ _ _ _ f _ _ _ (handled-move .ensures) (c .before .before .places-left .ensures) (c .before .if2 .left) (c .bare-report .ensures); effect = ap (λ r. r .effect) (c .bare-report .ensures) })
 
 pub hand-listed-spec : {M : Type 1} → statement M

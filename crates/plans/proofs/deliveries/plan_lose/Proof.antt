@@ -23,7 +23,7 @@ returns c =
     let args = c .before .before .before .before .args in
     let no-effect = c .before .before .before .no-effect in
     let a = args in
-    told (loseAt (a .cluster) (a .place)) (no-effect .result) _ (lose-at-keeps (a .cluster) (a .place)) (rw (c .unless .ensures, c .before .lost-plan .ensures, c .before .before .message-refusal .ensures))
+    told (loseAt (a .cluster) (a .index)) (no-effect .result) _ (lose-at-keeps (a .cluster) (a .index)) (rw (c .unless .ensures, c .before .lost-plan .ensures, c .before .before .message-refusal .ensures))
 
 pub plan-lose-spec : {M : Type 1} → statement M
 plan-lose-spec =
