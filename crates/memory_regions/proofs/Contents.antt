@@ -1,21 +1,24 @@
 -- A content stored in a region of the bytes and one read of it, by the region's name; and bytes of the keys and values of calls.
 use mathlib.Core.Path.{_≡_, sym, ap, _∙_}
-use mathlib.Core.List.{List}
+use mathlib.Core.List.{List, _++_}
 use Prim.Native.Nat.{ℕ, _+_, _*_, _≤_, _<_}
 use native.Mathlib.Nat.{zero-add}
 use native.Mathlib.Omega.{arith}
 use lib.ListN.{length, set, take, drop}
-use lib.Seq.{sets, paste}
+use lib.Seq.{sets, sets-eq, paste}
 use Rattle.blocks.specs.Blocks.{block}
-use Rattle.blocks.proofs.Laws.{sets-stored}
+use Rattle.blocks.proofs.Laws.{stored-list}
 use Rattle.memory.specs.Layout.{slotRoom, messageRoom, contentSize, putContent}
 use Rattle.memory_regions.specs.Cuts.{cut, region, start, size}
 use Rattle.memory_regions.specs.Contents.{byteSizes, byteCount, textsPlace, firstCopy, firstWorking, firstPayload, contents, contentsOf, withTexts, copyOf, workingOf, payloadOf, putCopy, putWorking, putPayload}
 use Rattle.memory_regions.proofs.Cuts.{cut-sets, cut-paste, region-part, length-region}
 
+-- a content stored, as a run of stores
 content-sets : (l v : List ℕ) (i : ℕ) → length v ≡ contentSize → (i + 1) * contentSize ≤ length l → putContent l i v ≡ sets l (i * contentSize) v
 unfolding putContent
-content-sets l v i whole h = sym (sets-stored contentSize i l v whole h)
+content-sets l v i whole h =
+    stored-list contentSize i l v whole h
+    ∙ sym (sets-eq v l (i * contentSize) (omega arith) ∙ ap (λ n. take (i * contentSize) l ++ v ++ drop (i * contentSize + n) l) whole)
 
 -- content i of region r, which begins with content a, is content a + i of the array
 module _ (r a i : ℕ) (b : List ℕ) (among : r < length byteSizes) (begins : start byteSizes r ≡ a * contentSize) (inside : (i + 1) * contentSize ≤ size byteSizes r) where

@@ -9,7 +9,6 @@ use lib.ListN.{length, getD, set, take, drop, length-drop, take-append-drop}
 use lib.Seq.{sets, sets-eq, paste, take-set-lt, take-set-le, drop-set-lt, drop-set-add, getD-take, getD-drop, take-nil, take-take, drop-drop, length-take-le}
 use Rattle.memory_regions.specs.Cuts.{cut, region, start, size}
 use Rattle.memory.specs.Rows.{row, putRow}
-use Rattle.memory.proofs.Rows.{putRow-sets}
 
 module _ {A : Type 0} where
   -- ---- a run of stores, in front of a place and behind it
@@ -119,6 +118,12 @@ cut-lent ns r v l among whole fits =
     rw (← e) (cut-sets ns r 0 v l among (omega arith) ∙ ap (λ x. set (cut ns l) r x) (sets-whole (region ns r l) v (whole ∙ sym (length-region ns r l among fits))))
 
 -- ---- words one by one
+
+putRow-sets : (vs l : List ℕ) (p o : ℕ) → putRow l p o vs ≡ sets l (p + o) vs
+putRow-sets [] l p o = refl
+putRow-sets (v ∷ vs) l p o =
+    let e : p + (o + 1) ≡ suc (p + o) = omega arith in
+    rw (← e) (putRow-sets vs (set l (p + o) v) p (o + 1))
 
 pub region-row : (ns : List ℕ) (r m p o : ℕ) (l : List ℕ) → r < length ns → p + o + m ≤ size ns r → row p o m (region ns r l) ≡ row (start ns r + p) o m l
 region-row ns r zero p o l among fits = refl

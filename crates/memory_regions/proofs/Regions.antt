@@ -1,13 +1,13 @@
 -- A row stored in a region of the words, and a row read of it, by the region's name. Every law is the one of cuts, at that region.
 use mathlib.Core.Path.{_≡_, ap}
 use mathlib.Core.List.{List}
-use Prim.Native.Nat.{ℕ, _+_, _≤_}
+use Prim.Native.Nat.{ℕ, _+_, _≤_, _<_}
 use native.Mathlib.Omega.{arith}
-use lib.ListN.{length}
+use lib.ListN.{length, getD}
 use Rattle.memory.specs.Rows.{row, putRow}
 use Rattle.memory_regions.specs.Cuts.{region, size}
 use Rattle.memory_regions.specs.Regions.{wordSizes, countsPlace, headsPlace, slotsPlace, queuePlace, regions, regionsOf, withCounts, withHeads, withSlots, withQueue}
-use Rattle.memory_regions.proofs.Cuts.{cut-putRow, region-row}
+use Rattle.memory_regions.proofs.Cuts.{cut-putRow, region-row, region-at}
 
 module _ (w vs : List ℕ) (p o : ℕ) where
   pub counts-stored : p + o + length vs ≤ size wordSizes 0 → regions (putRow w (countsPlace + p) o vs) ≡ withCounts (regions w) (putRow (regions w .counts) p o vs)
@@ -42,3 +42,8 @@ module _ (w : List ℕ) (m p o : ℕ) where
   pub queue-row : p + o + m ≤ size wordSizes 3 → row p o m (regions w .queue) ≡ row (queuePlace + p) o m w
   unfolding regions region
   queue-row h = region-row wordSizes 3 m p o w (omega arith) h
+
+-- one word of the queue
+pub queue-at : (w : List ℕ) (i : ℕ) → i < size wordSizes 3 → getD (regions w .queue) i 0 ≡ getD w (queuePlace + i) 0
+unfolding regions region
+queue-at w i h = region-at wordSizes 3 i w 0 (omega arith) h

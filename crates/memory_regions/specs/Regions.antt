@@ -1,17 +1,17 @@
 -- The words in regions. A region is read and written as an array of its own: the definitions of crates/memory/specs/Layout.antt speak of it.
 use mathlib.Core.List.{List, [], _∷_}
-use Prim.Native.Nat.{ℕ, _+_, _*_}
+use Prim.Native.Nat.{ℕ, _*_}
 use lib.ListN.{getD}
-use Rattle.memory.specs.Layout.{serverRoom, slotRoom, messageRoom, headSize, slotSize, messageSize}
+use Rattle.memory.specs.Layout.{serverRoom, slotRoom, headSize, slotSize, queueLength}
 use Rattle.memory_regions.specs.Cuts.{cut, start}
 use Rattle.memory_regions.specs.Lent.{Lent, was, is}
 
--- counts, heads, slots, and the queue: headers of messages, then the order of their places
+-- counts, heads, slots, and the queue, which is the headers of messages and their order
 abbrev pub countsSize : ℕ
 countsSize = 8
 
 abbrev pub wordSizes : List ℕ
-wordSizes = countsSize ∷ serverRoom * headSize ∷ slotRoom * slotSize ∷ (messageRoom * messageSize + messageRoom) ∷ []
+wordSizes = countsSize ∷ serverRoom * headSize ∷ slotRoom * slotSize ∷ queueLength ∷ []
 
 abbrev pub countsPlace : ℕ
 countsPlace = start wordSizes 0

@@ -2,16 +2,15 @@
 // The definitions of the same cuts are in specs/, the laws of stores and readings in a region in proofs/.
 use memory::CONTENTS_LEN;
 use memory::COUNTS_LEN;
-use memory::HEADER_SIZE;
 use memory::HEADS_LEN;
 use memory::MESSAGES;
 use memory::PAYLOADS_LEN;
+use memory::QUEUE_LEN;
 use memory::SLOTS;
 use memory::SLOTS_LEN;
 use memory::TEXTS_LEN;
 
-// The words: the cluster's counts, heads of servers, slots, and the queue, which is the headers of messages and behind them a word
-// for each message, the order of their places.
+// The words: the cluster's counts, heads of servers, slots, and the queue, which is the headers of messages and their order.
 pub const COUNTS_AT: usize = 0;
 
 pub const HEADS_AT: usize = COUNTS_AT + COUNTS_LEN;
@@ -20,9 +19,7 @@ pub const SLOTS_AT: usize = HEADS_AT + HEADS_LEN;
 
 pub const QUEUE_AT: usize = SLOTS_AT + SLOTS_LEN;
 
-pub const PLACES_AT: usize = QUEUE_AT + MESSAGES * HEADER_SIZE;
-
-pub const WORDS_LEN: usize = PLACES_AT + MESSAGES;
+pub const WORDS_LEN: usize = QUEUE_AT + QUEUE_LEN;
 
 pub type Words = [u32; WORDS_LEN];
 

@@ -66,8 +66,8 @@ module _ (n : ℕ) (q l : List ℕ) (m : Message) (v : List ℕ) (size : length 
       (listed-appended (sentAt q l) (sentAt (putMessage q n m) (putContent l at v)) n (orderOf q) (record { header = m; content = take contentBytes v }) (omega (arith, length-order q size)) ordered
       (ap (sentAt (putMessage q n m) (putContent l at v)) e ∙ there)
       (λ k low different.
-          let other : k ≢ at = λ s. different (s ∙ sym e) in
-          rw (header-elsewhere q at m k other, content-elsewhere messageRoom at l v whole (place-low q n) (omega arith) k low other)))
+      let other : k ≢ at = λ s. different (s ∙ sym e) in
+      rw (header-elsewhere q at m k other, content-elsewhere messageRoom at l v whole (place-low q n) (omega arith) k low other)))
 
 -- ---- one removed
 
