@@ -16,13 +16,14 @@ ghost use mathlib.Core.Path.{_≡_};
 ghost use Prim.Native.Nat.{_<_, _≤_};
 ghost use Rattle.model.specs.Measures.{maxBuckets, mostAnswers};
 ghost use Rattle.memory.specs.Layout.{serverRoom, slotRoom};
+ghost use Rattle.memory.specs.Lent.{was, is};
 ghost use Rattle.views.specs.Changes.{putAnswer, endedCalls, answered};
 ghost use Rattle.answers.specs.Answers.{EndedCall, Listed};
 
 // The answer at this place.
 fn put_answer(answers: &mut AnswerWords, place: usize, answer: Answer)
     requires { ⌜ place < mostAnswers ⌝ }
-    ensures { λ _. ⌜ now (answers .exit) ≡ putAnswer (now (answers .entry)) place answer ⌝ }
+    ensures { λ _. ⌜ is answers ≡ putAnswer (was answers) place answer ⌝ }
 {
     let base = place * ANSWER_SIZE;
     answers[base + ANSWER_CALL] = answer.call;
@@ -33,7 +34,7 @@ fn put_answer(answers: &mut AnswerWords, place: usize, answer: Answer)
 // The call of this slot ends, where one is open; `count` answers were written before.
 fn end_call(answers: &mut AnswerWords, slots: &SlotWords, slot: usize, count: usize) -> usize
     requires { ⌜ (slot < slotRoom) × (count < mostAnswers) ⌝ }
-    ensures { λ r. ⌜ EndedCall (now (slots .entry)) slot (now (answers .entry)) count (now (answers .exit)) r ⌝ }
+    ensures { λ r. ⌜ EndedCall (was slots) slot (was answers) count (is answers) r ⌝ }
 {
     let call = load_call(slots, slot);
     if is_open_call(call.kind) {
@@ -46,7 +47,7 @@ fn end_call(answers: &mut AnswerWords, slots: &SlotWords, slot: usize, count: us
 // The open calls of this server end, in bucket order.
 fn end_calls(answers: &mut AnswerWords, slots: &SlotWords, server: usize, buckets: usize) -> u32
     requires { ⌜ (server < serverRoom) × (buckets ≤ maxBuckets) ⌝ }
-    ensures { λ r. ⌜ Listed (endedCalls (now (slots .entry)) server buckets (now (answers .entry))) (now (answers .exit)) r ⌝ }
+    ensures { λ r. ⌜ Listed (endedCalls (was slots) server buckets (was answers)) (is answers) r ⌝ }
 {
     let mut count = 0;
     let mut bucket = 0;
@@ -67,7 +68,7 @@ pub fn answer(
     next: Move,
 ) -> u32
     requires { ⌜ (server < serverRoom) × (buckets ≤ maxBuckets) ⌝ }
-    ensures { λ r. ⌜ Listed (answered (now (slots .entry)) buckets server next (now (answers .entry))) (now (answers .exit)) r ⌝ }
+    ensures { λ r. ⌜ Listed (answered (was slots) buckets server next (was answers)) (is answers) r ⌝ }
 {
     let own = next.answer;
     if next.ceases {

@@ -26,8 +26,9 @@ use runs::Tally;
 use tally::change;
 ghost use mathlib.Core.Path.{_≡_};
 ghost use lib.ListN.{length};
-ghost use Rattle.tally.specs.Sums.{tallySum};
-ghost use Rattle.feed.specs.Entry.{Feeds, Finishes};
+ghost use Rattle.memory.specs.Lent.{was};
+ghost use Rattle.views.specs.Lent.{lent};
+ghost use Rattle.feed.specs.Lent.{FeedsValue, FinishesValue};
 
 // Bytes of output for what a line and the tally print.
 const FINISH_ROOM: usize = LINE_ROOM + TALLY_ROOM;
@@ -35,7 +36,7 @@ const FINISH_ROOM: usize = LINE_ROOM + TALLY_ROOM;
 // The sizes of two arrays, for the caller's proof: it does nothing.
 fn sizes(reader: &[usize], line: &[u8])
     requires { ⌜ (length (now reader) ≡ 3) × (length (now line) ≡ 121) ⌝ }
-    ensures { λ _. ⌜ (length (now (reader .entry)) ≡ 3) × (length (now (line .entry)) ≡ 121) ⌝ }
+    ensures { λ _. ⌜ (length (was reader) ≡ 3) × (length (was line) ≡ 121) ⌝ }
 {}
 
 // A part of the input.
@@ -55,7 +56,7 @@ pub fn feed_value(
     input: &[u8],
     out: &mut [u8],
 ) -> FedPart
-    ensures { λ r. ⌜ Feeds (now (counts .entry)) (now (heads .entry)) (now (slots .entry)) (now (copies .entry)) (now (working .entry)) (now (texts .entry)) (now (queue .entry)) (now (payloads .entry)) (now (answers .entry)) (now (reader .entry)) (now (line .entry)) tally (now (input .entry)) (now (out .entry)) (now (counts .exit)) (now (heads .exit)) (now (slots .exit)) (now (copies .exit)) (now (working .exit)) (now (texts .exit)) (now (queue .exit)) (now (payloads .exit)) (now (answers .exit)) (now (reader .exit)) (now (line .exit)) (tallySum tally (r .change)) (now (out .exit)) (r .taken) ⌝ }
+    ensures { λ r. ⌜ FeedsValue (lent counts heads slots copies working texts queue payloads answers) reader line tally input out r ⌝ }
 {
     sizes(reader, line);
     let lines = reader[LINES_READ];
@@ -102,7 +103,7 @@ pub fn finish_value(
     tally: Tally,
     out: &mut [u8],
 ) -> FedEnd
-    ensures { λ r. ⌜ Finishes (now (counts .entry)) (now (heads .entry)) (now (slots .entry)) (now (copies .entry)) (now (working .entry)) (now (texts .entry)) (now (queue .entry)) (now (payloads .entry)) (now (answers .entry)) (now (reader .entry)) (now (line .entry)) tally (now (out .entry)) (now (counts .exit)) (now (heads .exit)) (now (slots .exit)) (now (copies .exit)) (now (working .exit)) (now (texts .exit)) (now (queue .exit)) (now (payloads .exit)) (now (answers .exit)) (now (reader .exit)) (now (line .exit)) (tallySum tally (r .change)) (now (out .exit)) (r .written) ⌝ }
+    ensures { λ r. ⌜ FinishesValue (lent counts heads slots copies working texts queue payloads answers) reader line tally out r ⌝ }
 {
     sizes(reader, line);
     if out.len() < FINISH_ROOM {

@@ -18,9 +18,10 @@ ghost use lib.Dec.{eqb};
 ghost use Rattle.server.specs.Views.{chosen};
 ghost use Rattle.blocks.specs.Blocks.{block};
 ghost use Rattle.memory.specs.Layout.{slotRoom, messageRoom, contentSize};
+ghost use Rattle.memory.specs.Lent.{was, is};
 ghost use Rattle.refusals.specs.Refusals.{sendCount};
-ghost use Rattle.views.specs.Queue.{flight, withoutMessage, messageTo, sentTo, spread, broadcastOf, replyOf, sent};
-ghost use Rattle.flight.specs.Flown.{Flown};
+ghost use Rattle.views.specs.Queue.{withoutMessage, messageTo, sentTo, spread, broadcastOf, replyOf, sent};
+ghost use Rattle.flight.specs.Flown.{Flown, oldFlight};
 
 // The message at this place is removed.
 pub fn remove(
@@ -30,7 +31,7 @@ pub fn remove(
     place: usize,
 ) -> usize
     requires { ⌜ (place < count) × (count ≤ messageRoom) ⌝ }
-    ensures { λ r. ⌜ Flown (withoutMessage true place (flight (now (queue .entry)) (now (payloads .entry)) count)) (now (queue .exit)) (now (payloads .exit)) r ⌝ }
+    ensures { λ r. ⌜ Flown (withoutMessage true place (oldFlight queue payloads count)) (is queue) (is payloads) r ⌝ }
 {
     remove_message(queue, payloads, count, place);
     count - 1
@@ -99,7 +100,7 @@ fn send_to(
     slot: usize,
 ) -> usize
     requires { ⌜ (slot < slotRoom) × ((count ≤ messageRoom) × (receiver ≢ message .sender → count < messageRoom)) ⌝ }
-    ensures { λ r. ⌜ Flown (sentTo (block contentSize slot (now (working .entry))) message receiver (flight (now (queue .entry)) (now (payloads .entry)) count)) (now (queue .exit)) (now (payloads .exit)) r ⌝ }
+    ensures { λ r. ⌜ Flown (sentTo (block contentSize slot (was working)) message receiver (oldFlight queue payloads count)) (is queue) (is payloads) r ⌝ }
 {
     if receiver == message.sender {
         return count;
@@ -126,7 +127,7 @@ fn send_all(
     slot: usize,
 ) -> usize
     requires { ⌜ (slot < slotRoom) × ((message .sender < servers) × (count + (servers - 1) ≤ messageRoom)) ⌝ }
-    ensures { λ r. ⌜ Flown (spread (block contentSize slot (now (working .entry))) message servers (flight (now (queue .entry)) (now (payloads .entry)) count)) (now (queue .exit)) (now (payloads .exit)) r ⌝ }
+    ensures { λ r. ⌜ Flown (spread (block contentSize slot (was working)) message servers (oldFlight queue payloads count)) (is queue) (is payloads) r ⌝ }
 {
     let mut sent = count;
     let mut receiver = 0;
@@ -152,7 +153,7 @@ pub fn send(
     next: Move,
 ) -> usize
     requires { ⌜ (slot < slotRoom) × ((me < servers) × (count + sendCount servers (next .sends) ≤ messageRoom)) ⌝ }
-    ensures { λ r. ⌜ Flown (sent servers me bucket slot asked next (now (working .entry)) (now (copies .entry)) (flight (now (queue .entry)) (now (payloads .entry)) count)) (now (queue .exit)) (now (payloads .exit)) r ⌝ }
+    ensures { λ r. ⌜ Flown (sent servers me bucket slot asked next (was working) (was copies) (oldFlight queue payloads count)) (is queue) (is payloads) r ⌝ }
 {
     if next.sends == NO_MESSAGE {
         return count;

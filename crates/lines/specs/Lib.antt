@@ -2,3 +2,4 @@
 pub mod Sessions
 pub mod Lines
 pub mod Feeding
+pub mod Lent

@@ -23,9 +23,8 @@ use runs::Tally;
 ghost use Prim.Native.Nat.{_≤_, _<_};
 ghost use lib.ListN.{length};
 ghost use Rattle.model.specs.Measures.{maxLines};
-ghost use Rattle.views.specs.Memory.{memory};
-ghost use Rattle.lines.specs.Sessions.{held, session};
-ghost use Rattle.lines.specs.Feeding.{AtFeed, Advanced, PartFed};
+ghost use Rattle.views.specs.Lent.{lent};
+ghost use Rattle.lines.specs.Lent.{ReachesFeed, Advances, FeedsPart};
 
 // A line feed is reached: the line is run, if there is room for what it prints. The byte after the line feed is at `next`.
 fn at_feed(
@@ -45,7 +44,7 @@ fn at_feed(
     next: usize,
 ) -> Progress
     requires { ⌜ progress .lines < maxLines ⌝ }
-    ensures { λ r. ⌜ AtFeed (session (memory (now (counts .entry)) (now (heads .entry)) (now (slots .entry)) (now (copies .entry)) (now (working .entry)) (now (texts .entry)) (now (queue .entry)) (now (payloads .entry))) (now (answers .entry)) (progress .tally) (progress .lines) (held (now (line .entry)) (kept .held))) (now (out .entry)) (progress .written) (kept .taken) next (session (memory (now (counts .exit)) (now (heads .exit)) (now (slots .exit)) (now (copies .exit)) (now (working .exit)) (now (texts .exit)) (now (queue .exit)) (now (payloads .exit))) (now (answers .exit)) (r .tally) (r .lines) (held (now (line .entry)) (r .held))) (now (out .exit)) r ⌝ }
+    ensures { λ r. ⌜ ReachesFeed (lent counts heads slots copies working texts queue payloads answers) line out progress kept next r ⌝ }
 {
     if has_room(out.len(), progress.written) {
         let ending = end_line(
@@ -87,7 +86,7 @@ fn advance(
     progress: Progress,
 ) -> Progress
     requires { ⌜ (progress .taken ≤ length (now input)) × (progress .written ≤ length (now out)) ⌝ }
-    ensures { λ r. ⌜ Advanced (session (memory (now (counts .entry)) (now (heads .entry)) (now (slots .entry)) (now (copies .entry)) (now (working .entry)) (now (texts .entry)) (now (queue .entry)) (now (payloads .entry))) (now (answers .entry)) (progress .tally) (progress .lines) (held (now (line .entry)) (progress .held))) (now (input .entry)) (now (out .entry)) progress (session (memory (now (counts .exit)) (now (heads .exit)) (now (slots .exit)) (now (copies .exit)) (now (working .exit)) (now (texts .exit)) (now (queue .exit)) (now (payloads .exit))) (now (answers .exit)) (r .tally) (r .lines) (held (now (line .exit)) (r .held))) (now (out .exit)) r ⌝ }
+    ensures { λ r. ⌜ Advances (lent counts heads slots copies working texts queue payloads answers) line out input progress r ⌝ }
 {
     if progress.lines < MAX_LINES {
         let kept = keep(line, input, progress.held, progress.taken);
@@ -133,7 +132,7 @@ pub fn feed_part(
     lines: usize,
     count: usize,
 ) -> Progress
-    ensures { λ r. ⌜ PartFed (session (memory (now (counts .entry)) (now (heads .entry)) (now (slots .entry)) (now (copies .entry)) (now (working .entry)) (now (texts .entry)) (now (queue .entry)) (now (payloads .entry))) (now (answers .entry)) tally lines (held (now (line .entry)) count)) (now (input .entry)) (now (out .entry)) (session (memory (now (counts .exit)) (now (heads .exit)) (now (slots .exit)) (now (copies .exit)) (now (working .exit)) (now (texts .exit)) (now (queue .exit)) (now (payloads .exit))) (now (answers .exit)) (r .tally) (r .lines) (held (now (line .exit)) (r .held))) (now (out .exit)) (r .taken) (r .written) ⌝ }
+    ensures { λ r. ⌜ FeedsPart (lent counts heads slots copies working texts queue payloads answers) line out input tally lines count r ⌝ }
 {
     let mut progress = begun(tally, lines, count);
     while progress.more {

@@ -11,12 +11,13 @@ ghost use Prim.Native.Nat.{_≤_};
 ghost use lib.ListN.{length};
 ghost use Rattle.model.specs.Parse.{parse};
 ghost use Rattle.parse.specs.Meaning.{parsed};
+ghost use Rattle.memory.specs.Lent.{was, is};
 ghost use Rattle.lines.specs.Sessions.{held, put, presentLine};
 ghost use Rattle.lines.specs.Lines.{KeptFrom};
 
 // One more byte, where there is room.
 fn keep_byte(line: &mut KeptLine, count: usize, byte: u8) -> usize
-    ensures { λ r. ⌜ held (now (line .exit)) r ≡ put (held (now (line .entry)) count) byte ⌝ }
+    ensures { λ r. ⌜ held (is line) r ≡ put (held (was line) count) byte ⌝ }
 {
     if count < KEPT_LEN {
         line[count] = byte;
@@ -28,7 +29,7 @@ fn keep_byte(line: &mut KeptLine, count: usize, byte: u8) -> usize
 // The bytes of the input up to the next line feed, or to its end.
 pub fn keep(line: &mut KeptLine, input: &[u8], count: usize, from: usize) -> Kept
     requires { ⌜ from ≤ length (now input) ⌝ }
-    ensures { λ r. ⌜ KeptFrom (held (now (line .entry)) count) (now (input .entry)) from (held (now (line .exit)) (r .held)) (r .taken) ⌝ }
+    ensures { λ r. ⌜ KeptFrom (held (was line) count) (was input) from (held (is line) (r .held)) (r .taken) ⌝ }
 {
     let mut held = count;
     let mut i = from;
@@ -45,7 +46,7 @@ pub fn keep(line: &mut KeptLine, input: &[u8], count: usize, from: usize) -> Kep
 
 // The present line, read.
 pub fn read_line(line: &[u8], count: usize) -> Line
-    ensures { λ r. ⌜ r ≡ parsed (parse (presentLine (held (now (line .entry)) count))) ⌝ }
+    ensures { λ r. ⌜ r ≡ parsed (parse (presentLine (held (was line) count))) ⌝ }
 {
     let length = at_most(count, line.len());
     parse_line(&line[..length])

@@ -18,9 +18,8 @@ ghost use Prim.Native.Nat.{_≤_, _<_, _+_};
 ghost use lib.ListN.{length};
 ghost use Rattle.model.specs.Measures.{maxLines};
 ghost use Rattle.print.specs.Room.{lineRoom};
-ghost use Rattle.views.specs.Memory.{memory};
-ghost use Rattle.lines.specs.Sessions.{held, session};
-ghost use Rattle.lines.specs.Lines.{LineTold};
+ghost use Rattle.views.specs.Lent.{lent};
+ghost use Rattle.lines.specs.Lent.{EndsLine};
 
 // The present line, read, run and told: line number `lines` + 1.
 pub fn end_line(
@@ -41,7 +40,7 @@ pub fn end_line(
     at: usize,
 ) -> Ending
     requires { ⌜ (lines < maxLines) × (at + lineRoom ≤ length (now out)) ⌝ }
-    ensures { λ r. ⌜ LineTold (session (memory (now (counts .entry)) (now (heads .entry)) (now (slots .entry)) (now (copies .entry)) (now (working .entry)) (now (texts .entry)) (now (queue .entry)) (now (payloads .entry))) (now (answers .entry)) tally lines (held (now (line .entry)) count)) (session (memory (now (counts .exit)) (now (heads .exit)) (now (slots .exit)) (now (copies .exit)) (now (working .exit)) (now (texts .exit)) (now (queue .exit)) (now (payloads .exit))) (now (answers .exit)) (r .tally) (lines + 1) (held (now (line .entry)) 0)) (now (out .entry)) at (now (out .exit)) (r .written) ⌝ }
+    ensures { λ r. ⌜ EndsLine (lent counts heads slots copies working texts queue payloads answers) line out tally lines count at r ⌝ }
 {
     let parsed = read_line(line, count);
     let stepped = step(

@@ -1,3 +1,4 @@
 -- What the contracts of `machine` cite.
 pub mod Contracts
 pub mod Meaning
+pub mod Lent

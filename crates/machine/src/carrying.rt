@@ -30,13 +30,14 @@ use steps::locals::move_server;
 ghost use mathlib.Core.Path.{_≡_};
 ghost use mathlib.Core.Bool.{true};
 ghost use Prim.Native.Nat.{_<_, _≤_};
-ghost use Rattle.entries.specs.Decoded.{tableIn};
-ghost use Rattle.memory.specs.Layout.{serverRoom, bucketRoom, messageRoom, slotOf};
-ghost use Rattle.views.specs.Memory.{memory};
-ghost use Rattle.views.specs.Queue.{flight, withoutMessage, sent};
-ghost use Rattle.flight.specs.Flown.{Flown};
-ghost use Rattle.runs.specs.Runs.{carriedRun, executed, nextCounts};
-ghost use Rattle.machine.specs.Contracts.{Carriable, Losable, ServerChanged, CarriedOn, carriedReport, CarriedOut, Reported, Lost, Took, Executable};
+ghost use Rattle.memory.specs.Layout.{serverRoom, bucketRoom, messageRoom};
+ghost use Rattle.memory.specs.Lent.{was, is};
+ghost use Rattle.views.specs.Queue.{withoutMessage};
+ghost use Rattle.views.specs.Lent.{lent};
+ghost use Rattle.flight.specs.Flown.{Flown, oldFlight};
+ghost use Rattle.runs.specs.Runs.{nextCounts};
+ghost use Rattle.machine.specs.Contracts.{Carriable, Losable, carriedReport, Lost, Took, Executable};
+ghost use Rattle.machine.specs.Lent.{ChangesServer, ChangesFlight, CarriesOn, CarriesOut, Executes};
 
 // What a line came to that sends and answers nothing: refused with this number, or accepted with 0.
 pub fn bare_report(refusal: u32, effect: Effect) -> Report
@@ -78,7 +79,7 @@ fn leave(
     removes: bool,
 ) -> usize
     requires { ⌜ (count ≤ messageRoom) × (removes ≡ true → place < count) ⌝ }
-    ensures { λ r. ⌜ Flown (withoutMessage removes place (flight (now (queue .entry)) (now (payloads .entry)) count)) (now (queue .exit)) (now (payloads .exit)) r ⌝ }
+    ensures { λ r. ⌜ Flown (withoutMessage removes place (oldFlight queue payloads count)) (is queue) (is payloads) r ⌝ }
 {
     if removes {
         return remove(queue, payloads, count, place);
@@ -99,7 +100,7 @@ fn change_server(
     next: Move,
 ) -> u32
     requires { ⌜ Carriable cluster step next ⌝ }
-    ensures { λ r. ⌜ ServerChanged (now (heads .entry)) (now (slots .entry)) (now (copies .entry)) (now (working .entry)) (now (payloads .entry)) (now (answers .entry)) cluster step next (now (heads .exit)) (now (slots .exit)) (now (copies .exit)) (now (answers .exit)) r ⌝ }
+    ensures { λ r. ⌜ ChangesServer heads slots copies working payloads answers cluster step next r ⌝ }
 {
     let server = step.server as usize;
     let buckets = cluster.buckets as usize;
@@ -130,7 +131,7 @@ fn change_flight(
     next: Move,
 ) -> usize
     requires { ⌜ Carriable cluster step next ⌝ }
-    ensures { λ r. ⌜ Flown (sent (cluster .servers) (step .server) (step .bucket) (slotOf (step .server) (step .bucket)) (step .asked) next (now (working .entry)) (now (copies .entry)) (withoutMessage (step .removes) (step .place) (flight (now (queue .entry)) (now (payloads .entry)) (cluster .messages)))) (now (queue .exit)) (now (payloads .exit)) r ⌝ }
+    ensures { λ r. ⌜ ChangesFlight queue payloads working copies cluster step next r ⌝ }
 {
     let left = leave(
         queue,
@@ -170,7 +171,7 @@ fn carry_on(
     next: Move,
 ) -> Told
     requires { ⌜ Carriable cluster step next ⌝ }
-    ensures { λ r. ⌜ CarriedOn (now (counts .entry)) (now (heads .entry)) (now (slots .entry)) (now (copies .entry)) (now (working .entry)) (now (queue .entry)) (now (payloads .entry)) (now (answers .entry)) cluster step next (now (counts .exit)) (now (heads .exit)) (now (slots .exit)) (now (copies .exit)) (now (queue .exit)) (now (payloads .exit)) (now (answers .exit)) r ⌝ }
+    ensures { λ r. ⌜ CarriesOn counts heads slots copies working queue payloads answers cluster step next r ⌝ }
 {
     let written = change_server(
         heads,
@@ -225,7 +226,7 @@ pub fn carry_out(
     table: Decoded,
 ) -> Told
     requires { ⌜ Carriable cluster step next ⌝ }
-    ensures { λ r. ⌜ CarriedOut (carriedRun (memory (now (counts .entry)) (now (heads .entry)) (now (slots .entry)) (now (copies .entry)) (now (working .entry)) (now (texts .entry)) (now (queue .entry)) (now (payloads .entry))) (now (answers .entry)) cluster step next (tableIn table)) step (memory (now (counts .exit)) (now (heads .exit)) (now (slots .exit)) (now (copies .exit)) (now (working .exit)) (now (texts .entry)) (now (queue .exit)) (now (payloads .exit))) (now (answers .exit)) r ⌝ }
+    ensures { λ r. ⌜ CarriesOut (lent counts heads slots copies working texts queue payloads answers) cluster step next table r ⌝ }
 {
     let slot = slot_of(step.server as usize, step.bucket as usize);
     fill_work(
@@ -262,7 +263,7 @@ pub fn lose(
     effect: Effect,
 ) -> Report
     requires { ⌜ Losable cluster step ⌝ }
-    ensures { λ r. ⌜ Lost (now (counts .entry)) (now (queue .entry)) (now (payloads .entry)) cluster step effect (now (counts .exit)) (now (queue .exit)) (now (payloads .exit)) r ⌝ }
+    ensures { λ r. ⌜ Lost (was counts) (was queue) (was payloads) cluster step effect (is counts) (is queue) (is payloads) r ⌝ }
 {
     let count = leave(
         queue,
@@ -287,7 +288,7 @@ pub fn lose(
 // The words of a call that is taken are stored.
 fn take(slots: &mut SlotWords, texts: &mut TextBytes, plan: Plan)
     requires { ⌜ (plan .step .server < serverRoom) × (plan .step .bucket < bucketRoom) ⌝ }
-    ensures { λ _. ⌜ Took (now (slots .entry)) (now (texts .entry)) plan (now (slots .exit)) (now (texts .exit)) ⌝ }
+    ensures { λ _. ⌜ Took (was slots) (was texts) plan (is slots) (is texts) ⌝ }
 {
     let step = plan.step;
     let words = plan.words;
@@ -313,7 +314,7 @@ pub fn execute(
     plan: Plan,
 ) -> Report
     requires { ⌜ Executable cluster plan ⌝ }
-    ensures { λ r. ⌜ Reported (executed (memory (now (counts .entry)) (now (heads .entry)) (now (slots .entry)) (now (copies .entry)) (now (working .entry)) (now (texts .entry)) (now (queue .entry)) (now (payloads .entry))) (now (answers .entry)) cluster plan) (plan .effect) (memory (now (counts .exit)) (now (heads .exit)) (now (slots .exit)) (now (copies .exit)) (now (working .exit)) (now (texts .exit)) (now (queue .exit)) (now (payloads .exit))) (now (answers .exit)) r ⌝ }
+    ensures { λ r. ⌜ Executes (lent counts heads slots copies working texts queue payloads answers) cluster plan r ⌝ }
 {
     let effect = plan.effect;
     let step = plan.step;

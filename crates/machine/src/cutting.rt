@@ -13,6 +13,7 @@ use plans::parts::refused_plan;
 use refusals::codes::NONE;
 use refusals::message_refusal;
 ghost use mathlib.Core.Path.{_≡_};
+ghost use Rattle.memory.specs.Lent.{was};
 ghost use Rattle.plans.specs.Arrays.{Measured, cutIn};
 
 // 5, 7 and 18, or the cut of the message at this place after so many stores.
@@ -25,7 +26,7 @@ pub fn plan_cut(
     stores: u32,
 ) -> Plan
     requires { ⌜ Measured cluster ⌝ }
-    ensures { λ r. ⌜ r ≡ cutIn (now (heads .entry)) (now (slots .entry)) (now (queue .entry)) cluster place stores (r .effect) ⌝ }
+    ensures { λ r. ⌜ r ≡ cutIn (was heads) (was slots) (was queue) cluster place stores (r .effect) ⌝ }
 {
     let effect = no_effect();
     let refusal = message_refusal(cluster, place);

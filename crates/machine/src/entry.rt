@@ -13,12 +13,9 @@ use memory::WorkingBytes;
 use parse::Line;
 use runs::Tally;
 use runs::tally_after;
-ghost use mathlib.Core.Path.{_≡_};
-ghost use lib.ListN.{length};
-ghost use Rattle.views.specs.Memory.{memory, Sized};
-ghost use Rattle.views.specs.Changes.{answersRoom};
+ghost use Rattle.views.specs.Lent.{lent};
 ghost use Rattle.runs.specs.Meaning.{WholeLine};
-ghost use Rattle.machine.specs.Meaning.{Performed};
+ghost use Rattle.machine.specs.Lent.{Performs, LentSizes, OldSizes};
 
 // The lengths of the arrays, for the caller's proof: it does nothing.
 fn sizes(
@@ -32,8 +29,8 @@ fn sizes(
     payloads: &[u8],
     answers: &[u32],
 )
-    requires { ⌜ Sized (memory (now counts) (now heads) (now slots) (now copies) (now working) (now texts) (now queue) (now payloads)) × (length (now answers) ≡ answersRoom) ⌝ }
-    ensures { λ _. ⌜ Sized (memory (now (counts .entry)) (now (heads .entry)) (now (slots .entry)) (now (copies .entry)) (now (working .entry)) (now (texts .entry)) (now (queue .entry)) (now (payloads .entry))) × (length (now (answers .entry)) ≡ answersRoom) ⌝ }
+    requires { ⌜ LentSizes counts heads slots copies working texts queue payloads answers ⌝ }
+    ensures { λ _. ⌜ OldSizes (lent counts heads slots copies working texts queue payloads answers) ⌝ }
 {}
 
 // The lengths of a line's arrays, for the caller's proof: it does nothing.
@@ -55,7 +52,7 @@ pub fn step(
     tally: Tally,
     line: Line,
 ) -> Stepped
-    ensures { λ r. ⌜ Performed (memory (now (counts .entry)) (now (heads .entry)) (now (slots .entry)) (now (copies .entry)) (now (working .entry)) (now (texts .entry)) (now (queue .entry)) (now (payloads .entry))) (now (answers .entry)) tally line (memory (now (counts .exit)) (now (heads .exit)) (now (slots .exit)) (now (copies .exit)) (now (working .exit)) (now (texts .exit)) (now (queue .exit)) (now (payloads .exit))) (now (answers .exit)) r ⌝ }
+    ensures { λ r. ⌜ Performs (lent counts heads slots copies working texts queue payloads answers) tally line r ⌝ }
 {
     sizes(
         counts,

@@ -10,12 +10,13 @@ use memory::SlotWords;
 use records::counters::store_counts;
 ghost use mathlib.Core.Path.{_≡_};
 ghost use lib.ListN.{length, replicate};
+ghost use Rattle.memory.specs.Lent.{was, is};
 ghost use Rattle.runs.specs.Runs.{freshCounts};
 ghost use Rattle.machine.specs.Contracts.{Created};
 
 fn zero_words(dst: &mut [u32], len: usize)
     requires { ⌜ length (now dst) ≡ len ⌝ }
-    ensures { λ _. ⌜ now (dst .exit) ≡ replicate len 0 ⌝ }
+    ensures { λ _. ⌜ is dst ≡ replicate len 0 ⌝ }
 {
     let mut i = 0;
     while i < len {
@@ -26,7 +27,7 @@ fn zero_words(dst: &mut [u32], len: usize)
 
 fn zero_bytes(dst: &mut [u8], len: usize)
     requires { ⌜ length (now dst) ≡ len ⌝ }
-    ensures { λ _. ⌜ now (dst .exit) ≡ replicate len 0 ⌝ }
+    ensures { λ _. ⌜ is dst ≡ replicate len 0 ⌝ }
 {
     let mut i = 0;
     while i < len {
@@ -56,7 +57,7 @@ pub fn create(
     servers: u32,
     buckets: u32,
 )
-    ensures { λ _. ⌜ Created (now (counts .entry)) servers buckets (now (counts .exit)) (now (heads .exit)) (now (slots .exit)) (now (copies .exit)) ⌝ }
+    ensures { λ _. ⌜ Created (was counts) servers buckets (is counts) (is heads) (is slots) (is copies) ⌝ }
 {
     zero_words(heads, HEADS_LEN);
     zero_words(slots, SLOTS_LEN);

@@ -29,9 +29,9 @@ use refusals::message_refusal;
 use refusals::places_left;
 use runs::Report;
 ghost use Prim.Native.Nat.{_<_};
-ghost use Rattle.views.specs.Memory.{memory};
+ghost use Rattle.views.specs.Lent.{lent};
 ghost use Rattle.plans.specs.Arrays.{Measured};
-ghost use Rattle.machine.specs.Contracts.{HandedListed, HandRan};
+ghost use Rattle.machine.specs.Lent.{HandsListed, Hands};
 
 // A message that is in the list; to a server that is not there, or that is stopped, it is lost.
 fn hand_listed(
@@ -49,7 +49,7 @@ fn hand_listed(
     removes: bool,
 ) -> Report
     requires { ⌜ Measured cluster × (place < cluster .messages) ⌝ }
-    ensures { λ r. ⌜ HandedListed (memory (now (counts .entry)) (now (heads .entry)) (now (slots .entry)) (now (copies .entry)) (now (working .entry)) (now (texts .entry)) (now (queue .entry)) (now (payloads .entry))) (now (answers .entry)) cluster place removes (memory (now (counts .exit)) (now (heads .exit)) (now (slots .exit)) (now (copies .exit)) (now (working .exit)) (now (texts .entry)) (now (queue .exit)) (now (payloads .exit))) (now (answers .exit)) r ⌝ }
+    ensures { λ r. ⌜ HandsListed (lent counts heads slots copies working texts queue payloads answers) cluster place removes r ⌝ }
 {
     let message = load_message(queue, place as usize);
     let step = message_step(cluster, place, removes, message);
@@ -94,7 +94,7 @@ pub fn hand_line(
     place: u32,
     removes: bool,
 ) -> Report
-    ensures { λ r. ⌜ HandRan (memory (now (counts .entry)) (now (heads .entry)) (now (slots .entry)) (now (copies .entry)) (now (working .entry)) (now (texts .entry)) (now (queue .entry)) (now (payloads .entry))) (now (answers .entry)) place removes (memory (now (counts .exit)) (now (heads .exit)) (now (slots .exit)) (now (copies .exit)) (now (working .exit)) (now (texts .entry)) (now (queue .exit)) (now (payloads .exit))) (now (answers .exit)) r ⌝ }
+    ensures { λ r. ⌜ Hands (lent counts heads slots copies working texts queue payloads answers) place removes r ⌝ }
 {
     let cluster = load_counts(counts);
     if standing(cluster) {

@@ -47,10 +47,12 @@ use server::codes::SETIF;
 use server::measures::MAX_BUCKETS;
 use server::measures::MAX_SERVERS;
 ghost use mathlib.Core.Path.{_≡_};
-ghost use Rattle.views.specs.Memory.{memory};
+ghost use Rattle.memory.specs.Lent.{was, is};
+ghost use Rattle.views.specs.Lent.{lent};
 ghost use Rattle.plans.specs.Arrays.{Measured};
 ghost use Rattle.runs.specs.Runs.{wordsWith, wordsOf};
-ghost use Rattle.machine.specs.Contracts.{LinePlanned, Clustered, RanPlan, RanLine, routeOf, plannedLine};
+ghost use Rattle.machine.specs.Contracts.{LinePlanned, Clustered, routeOf, plannedLine};
+ghost use Rattle.machine.specs.Lent.{RunsPlan, RunsLine};
 
 // Ways to run a line: refused at once; a cluster made; planned, then carried out; a message handed over, which leaves the list or stays.
 const MALFORMED_LINE: u32 = 0;
@@ -121,7 +123,7 @@ fn plan_line(
     line: Line,
 ) -> Plan
     requires { ⌜ Measured cluster × (routeOf (line .kind) ≡ plannedLine) ⌝ }
-    ensures { λ p. ⌜ LinePlanned (now (heads .entry)) (now (slots .entry)) (now (copies .entry)) (now (queue .entry)) cluster line p ⌝ }
+    ensures { λ p. ⌜ LinePlanned (was heads) (was slots) (was copies) (was queue) cluster line p ⌝ }
 {
     let kind = line.kind;
     let server = line.first;
@@ -177,7 +179,7 @@ fn cluster_line(
     servers: u32,
     buckets: u32,
 ) -> u32
-    ensures { λ r. ⌜ Clustered (now (counts .entry)) (now (heads .entry)) (now (slots .entry)) (now (copies .entry)) servers buckets (now (counts .exit)) (now (heads .exit)) (now (slots .exit)) (now (copies .exit)) r ⌝ }
+    ensures { λ r. ⌜ Clustered (was counts) (was heads) (was slots) (was copies) servers buckets (is counts) (is heads) (is slots) (is copies) r ⌝ }
 {
     if standing(load_counts(counts)) {
         return CLUSTER_WRONG;
@@ -205,7 +207,7 @@ fn planned_line(
     line: Line,
 ) -> Report
     requires { ⌜ routeOf (line .kind) ≡ plannedLine ⌝ }
-    ensures { λ r. ⌜ RanPlan (memory (now (counts .entry)) (now (heads .entry)) (now (slots .entry)) (now (copies .entry)) (now (working .entry)) (now (texts .entry)) (now (queue .entry)) (now (payloads .entry))) (now (answers .entry)) line (memory (now (counts .exit)) (now (heads .exit)) (now (slots .exit)) (now (copies .exit)) (now (working .exit)) (now (texts .exit)) (now (queue .exit)) (now (payloads .exit))) (now (answers .exit)) r ⌝ }
+    ensures { λ r. ⌜ RunsPlan (lent counts heads slots copies working texts queue payloads answers) line r ⌝ }
 {
     let cluster = load_counts(counts);
     if standing(cluster) {
@@ -240,7 +242,7 @@ pub fn run_line(
     answers: &mut AnswerWords,
     line: Line,
 ) -> Report
-    ensures { λ r. ⌜ RanLine (memory (now (counts .entry)) (now (heads .entry)) (now (slots .entry)) (now (copies .entry)) (now (working .entry)) (now (texts .entry)) (now (queue .entry)) (now (payloads .entry))) (now (answers .entry)) line (memory (now (counts .exit)) (now (heads .exit)) (now (slots .exit)) (now (copies .exit)) (now (working .exit)) (now (texts .exit)) (now (queue .exit)) (now (payloads .exit))) (now (answers .exit)) r ⌝ }
+    ensures { λ r. ⌜ RunsLine (lent counts heads slots copies working texts queue payloads answers) line r ⌝ }
 {
     let kind = line.kind;
     let route = route_of(kind);

@@ -27,6 +27,7 @@ ghost use Rattle.entries.specs.Decoded.{tableIn, valueBytes};
 ghost use Rattle.model.specs.Measures.{mostAnswers};
 ghost use Rattle.model.specs.Print.{answerText, answerTexts};
 ghost use Rattle.server.specs.Views.{answerIn};
+ghost use Rattle.memory.specs.Lent.{was, is};
 ghost use Rattle.views.specs.Changes.{answerAt, answersAt};
 ghost use Rattle.print.specs.Printed.{Printed};
 ghost use Rattle.print.specs.Room.{answerRoom, lineRoom};
@@ -73,7 +74,7 @@ fn key_list(table: Decoded) -> KeyList
 // Answer i.
 fn load_answer(answers: &AnswerWords, place: usize) -> Answer
     requires { ⌜ place < mostAnswers ⌝ }
-    ensures { λ r. ⌜ r ≡ answerAt (now (answers .entry)) place ⌝ }
+    ensures { λ r. ⌜ r ≡ answerAt (was answers) place ⌝ }
 {
     answer_fields(answers, place)
 }
@@ -81,7 +82,7 @@ fn load_answer(answers: &AnswerWords, place: usize) -> Answer
 // The same, with the fields written out in the contract.
 fn answer_fields(answers: &AnswerWords, place: usize) -> Answer
     requires { ⌜ place < mostAnswers ⌝ }
-    ensures { λ r. ⌜ r ≡ answerFields (now (answers .entry)) place ⌝ }
+    ensures { λ r. ⌜ r ≡ answerFields (was answers) place ⌝ }
 {
     let base = place * ANSWER_SIZE;
     Answer {
@@ -94,7 +95,7 @@ fn answer_fields(answers: &AnswerWords, place: usize) -> Answer
 // An answer with the data of `value` and `keys`.
 fn put_one(out: &mut [u8], at: usize, answer: Answer, value: Value, table: Decoded) -> usize
     requires { ⌜ at + answerRoom ≤ length (now out) ⌝ }
-    ensures { λ r. ⌜ Printed (answerText (answerIn answer (valueBytes value) (tableIn table))) (now (out .entry)) at (now (out .exit)) r × (r ≤ at + answerRoom) ⌝ }
+    ensures { λ r. ⌜ Printed (answerText (answerIn answer (valueBytes value) (tableIn table))) (was out) at (is out) r × (r ≤ at + answerRoom) ⌝ }
 {
     let keys = key_list(table);
     let word = result_word(answer.result);
@@ -118,7 +119,7 @@ pub fn put_answers(
     table: Decoded,
 ) -> usize
     requires { ⌜ (at + lineRoom ≤ length (now out)) × (count ≤ mostAnswers) ⌝ }
-    ensures { λ r. ⌜ Told (answerTexts (answersAt count (now (answers .entry)) (valueBytes value) (tableIn table))) (now (out .entry)) at (now (out .exit)) r ⌝ }
+    ensures { λ r. ⌜ Told (answerTexts (answersAt count (was answers) (valueBytes value) (tableIn table))) (was out) at (is out) r ⌝ }
 {
     let mut next = at;
     let mut i = 0;

@@ -9,6 +9,7 @@ ghost use Prim.Native.Nat.{_≤_, _+_};
 ghost use lib.ListN.{length};
 ghost use Rattle.model.specs.Measures.{mostAnswers};
 ghost use Rattle.model.specs.Print.{outcomeText, tallyText};
+ghost use Rattle.memory.specs.Lent.{was, is};
 ghost use Rattle.runs.specs.Meaning.{outcomeIn, tallyIn};
 ghost use Rattle.print.specs.Printed.{Printed};
 ghost use Rattle.print.specs.Room.{lineRoom, tallyRoom};
@@ -25,7 +26,7 @@ pub fn put_outcome(
     answers: &AnswerWords,
 ) -> usize
     requires { ⌜ (at + lineRoom ≤ length (now out)) × (report .answers ≤ mostAnswers) ⌝ }
-    ensures { λ p. ⌜ Told (outcomeText line (outcomeIn report (now (answers .entry)))) (now (out .entry)) at (now (out .exit)) p ⌝ }
+    ensures { λ p. ⌜ Told (outcomeText line (outcomeIn report (was answers))) (was out) at (is out) p ⌝ }
 {
     if report.refusal != 0 {
         return put_refusal(out, at, line, report.refusal);
@@ -47,7 +48,7 @@ pub fn put_outcome(
 // The tally, after the last line.
 pub fn put_end(out: &mut [u8], at: usize, tally: Tally) -> usize
     requires { ⌜ at + tallyRoom ≤ length (now out) ⌝ }
-    ensures { λ p. ⌜ Printed (tallyText (tallyIn tally)) (now (out .entry)) at (now (out .exit)) p × (p ≤ at + tallyRoom) ⌝ }
+    ensures { λ p. ⌜ Printed (tallyText (tallyIn tally)) (was out) at (is out) p × (p ≤ at + tallyRoom) ⌝ }
 {
     put_tally(
         out,

@@ -49,6 +49,7 @@ ghost use Rattle.model.specs.Calls as calls;
 ghost use Rattle.server.specs.Views.{effectIn, wordsIn};
 ghost use Rattle.memory.specs.Layout.{serverRoom, bucketRoom, slotRoom, contentSize};
 ghost use Rattle.moves.specs.Reactions.{EffectNeeded};
+ghost use Rattle.memory.specs.Lent.{was};
 ghost use Rattle.views.specs.Memory.{tableAt};
 ghost use Rattle.plans.specs.Plans.{badKey, badItem, badLengths, callBucket, callStep, callRefusal, callPlan};
 ghost use Rattle.plans.specs.Arrays.{Measured, Called, CallPlanned};
@@ -177,7 +178,7 @@ fn call_plan(
 // What a call does to the table of this slot's copy.
 fn effect_on(copies: &[u8], slot: usize, words: Words) -> Effect
     requires { ⌜ (slot < slotRoom) × (length (now copies) ≡ slotRoom * contentSize) ⌝ }
-    ensures { λ r. ⌜ effectIn r ≡ calls.effect (wordsIn words) (tableAt (now (copies .entry)) slot) ⌝ }
+    ensures { λ r. ⌜ effectIn r ≡ calls.effect (wordsIn words) (tableAt (was copies) slot) ⌝ }
 {
     let from = slot * CONTENT_SIZE;
     let end = from + BUCKET_SIZE;
@@ -188,7 +189,7 @@ fn effect_on(copies: &[u8], slot: usize, words: Words) -> Effect
 // The same in the array of the copies.
 pub fn effect_of(copies: &CopyBytes, slot: usize, words: Words) -> Effect
     requires { ⌜ slot < slotRoom ⌝ }
-    ensures { λ r. ⌜ effectIn r ≡ calls.effect (wordsIn words) (tableAt (now (copies .entry)) slot) ⌝ }
+    ensures { λ r. ⌜ effectIn r ≡ calls.effect (wordsIn words) (tableAt (was copies) slot) ⌝ }
 {
     effect_on(copies, slot, words)
 }
@@ -211,7 +212,7 @@ fn call_effect(
     local: Local,
 ) -> Effect
     requires { ⌜ slot < slotRoom ⌝ }
-    ensures { λ r. ⌜ EffectNeeded (cluster .servers) local (wordsIn words) (tableAt (now (copies .entry)) slot) r ⌝ }
+    ensures { λ r. ⌜ EffectNeeded (cluster .servers) local (wordsIn words) (tableAt (was copies) slot) r ⌝ }
 {
     if needs_effect(cluster.servers, words.kind, local) {
         return effect_of(copies, slot, words);
@@ -230,7 +231,7 @@ fn plan_at(
     words: Words,
 ) -> Plan
     requires { ⌜ Measured cluster × ((server < serverRoom) × (bucket < bucketRoom)) ⌝ }
-    ensures { λ p. ⌜ Called (now (heads .entry)) (now (slots .entry)) (now (copies .entry)) cluster server bucket words p ⌝ }
+    ensures { λ p. ⌜ Called (was heads) (was slots) (was copies) cluster server bucket words p ⌝ }
 {
     let at = server as usize;
     let slot = slot_of(at, bucket as usize);
@@ -248,7 +249,7 @@ pub fn plan_call(
     words: Words,
 ) -> Plan
     requires { ⌜ Measured cluster ⌝ }
-    ensures { λ p. ⌜ CallPlanned (now (heads .entry)) (now (slots .entry)) (now (copies .entry)) cluster server words p ⌝ }
+    ensures { λ p. ⌜ CallPlanned (was heads) (was slots) (was copies) cluster server words p ⌝ }
 {
     let bucket = call_bucket(cluster, words);
     if inside(cluster, server, bucket) {

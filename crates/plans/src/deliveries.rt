@@ -32,6 +32,7 @@ ghost use Prim.Native.Nat.{_<_, min};
 ghost use Rattle.server.specs.Views.{effectIn};
 ghost use Rattle.memory.specs.Layout.{serverRoom, bucketRoom, slotOf};
 ghost use Rattle.moves.specs.Moves.{readsTable};
+ghost use Rattle.memory.specs.Lent.{was};
 ghost use Rattle.views.specs.Memory.{memory, localAt};
 ghost use Rattle.plans.specs.Plans.{messageStep, lostPlan, gone, loseAt};
 ghost use Rattle.plans.specs.Arrays.{askedAt};
@@ -87,7 +88,7 @@ fn lost_plan(cluster: Counts, index: u32, removes: bool, effect: Effect) -> Plan
 // The receiver of a message that is handed over.
 pub fn receiver(heads: &HeadWords, slots: &SlotWords, step: Step) -> Local
     requires { ⌜ (step .server < serverRoom) × (step .bucket < bucketRoom) ⌝ }
-    ensures { λ r. ⌜ r ≡ localAt (memory [] (now (heads .entry)) (now (slots .entry)) [] [] [] [] []) (step .server) (slotOf (step .server) (step .bucket)) ⌝ }
+    ensures { λ r. ⌜ r ≡ localAt (memory [] (was heads) (was slots) [] [] [] [] []) (step .server) (slotOf (step .server) (step .bucket)) ⌝ }
 {
     let server = step.server as usize;
     let slot = slot_of(server, step.bucket as usize);
@@ -106,7 +107,7 @@ pub fn is_gone(cluster: Counts, step: Step, local: Local) -> bool
 // What the call does that stands where a message is handed over.
 fn hand_effect(slots: &SlotWords, copies: &CopyBytes, texts: &TextBytes, step: Step) -> Effect
     requires { ⌜ (step .server < serverRoom) × (step .bucket < bucketRoom) ⌝ }
-    ensures { λ r. ⌜ effectIn r ≡ askedAt (memory [] [] (now (slots .entry)) (now (copies .entry)) [] (now (texts .entry)) [] []) step ⌝ }
+    ensures { λ r. ⌜ effectIn r ≡ askedAt (memory [] [] (was slots) (was copies) [] (was texts) [] []) step ⌝ }
 {
     let slot = slot_of(step.server as usize, step.bucket as usize);
     let words = load_words(slots, texts, slot);
@@ -124,7 +125,7 @@ pub fn asked_effect(
     step: Step,
 ) -> Effect
     requires { ⌜ (step .server < serverRoom) × (step .bucket < bucketRoom) ⌝ }
-    ensures { λ r. ⌜ (readsTable servers message local ≡ true → effectIn r ≡ askedAt (memory [] [] (now (slots .entry)) (now (copies .entry)) [] (now (texts .entry)) [] []) step) ⌝ }
+    ensures { λ r. ⌜ (readsTable servers message local ≡ true → effectIn r ≡ askedAt (memory [] [] (was slots) (was copies) [] (was texts) [] []) step) ⌝ }
 {
     if reads_table(servers, message, local) {
         return hand_effect(slots, copies, texts, step);

@@ -33,13 +33,14 @@ ghost use mathlib.Core.Path.{_≡_};
 ghost use Prim.Native.Nat.{_<_};
 ghost use Rattle.memory.specs.Layout.{serverRoom, slotRoom, headAt, versionAt, roundAt, callAt};
 ghost use Rattle.moves.specs.Moves.{localOf};
+ghost use Rattle.memory.specs.Lent.{was};
 ghost use Rattle.plans.specs.Plans.{electPlan, timeoutPlan, stopPlan, startPlan};
 ghost use Rattle.plans.specs.Arrays.{Measured, electIn, timeoutIn, stopIn, startIn};
 
 // The head of this server with this slot.
 pub fn load_local(heads: &HeadWords, slots: &SlotWords, server: usize, slot: usize) -> Local
     requires { ⌜ (server < serverRoom) × (slot < slotRoom) ⌝ }
-    ensures { λ r. ⌜ r ≡ localOf (headAt (now (heads .entry)) server) (versionAt (now (slots .entry)) slot) (roundAt (now (slots .entry)) slot) (callAt (now (slots .entry)) slot) ⌝ }
+    ensures { λ r. ⌜ r ≡ localOf (headAt (was heads) server) (versionAt (was slots) slot) (roundAt (was slots) slot) (callAt (was slots) slot) ⌝ }
 {
     Local {
         head: load_head(heads, server),
@@ -74,7 +75,7 @@ fn elect_plan(cluster: Counts, server: u32, local: Local, effect: Effect) -> Pla
 
 pub fn plan_elect(heads: &HeadWords, slots: &SlotWords, cluster: Counts, server: u32) -> Plan
     requires { ⌜ Measured cluster ⌝ }
-    ensures { λ r. ⌜ r ≡ electIn (now (heads .entry)) (now (slots .entry)) cluster server (r .effect) ⌝ }
+    ensures { λ r. ⌜ r ≡ electIn (was heads) (was slots) cluster server (r .effect) ⌝ }
 {
     let effect = no_effect();
     if inside(cluster, server, 0) {
@@ -115,7 +116,7 @@ pub fn plan_timeout(
     bucket: u32,
 ) -> Plan
     requires { ⌜ Measured cluster ⌝ }
-    ensures { λ r. ⌜ r ≡ timeoutIn (now (heads .entry)) (now (slots .entry)) cluster server bucket (r .effect) ⌝ }
+    ensures { λ r. ⌜ r ≡ timeoutIn (was heads) (was slots) cluster server bucket (r .effect) ⌝ }
 {
     let effect = no_effect();
     if inside(cluster, server, bucket) {
@@ -144,7 +145,7 @@ fn stop_plan(cluster: Counts, server: u32, local: Local, effect: Effect) -> Plan
 
 pub fn plan_stop(heads: &HeadWords, slots: &SlotWords, cluster: Counts, server: u32) -> Plan
     requires { ⌜ Measured cluster ⌝ }
-    ensures { λ r. ⌜ r ≡ stopIn (now (heads .entry)) (now (slots .entry)) cluster server (r .effect) ⌝ }
+    ensures { λ r. ⌜ r ≡ stopIn (was heads) (was slots) cluster server (r .effect) ⌝ }
 {
     let effect = no_effect();
     if inside(cluster, server, 0) {
@@ -173,7 +174,7 @@ fn start_plan(cluster: Counts, server: u32, local: Local, effect: Effect) -> Pla
 
 pub fn plan_start(heads: &HeadWords, slots: &SlotWords, cluster: Counts, server: u32) -> Plan
     requires { ⌜ Measured cluster ⌝ }
-    ensures { λ r. ⌜ r ≡ startIn (now (heads .entry)) (now (slots .entry)) cluster server (r .effect) ⌝ }
+    ensures { λ r. ⌜ r ≡ startIn (was heads) (was slots) cluster server (r .effect) ⌝ }
 {
     let effect = no_effect();
     if inside(cluster, server, 0) {

@@ -8,16 +8,17 @@ use memory::offsets::COUNT_MESSAGES;
 use memory::offsets::COUNT_SERVERS;
 ghost use mathlib.Core.Path.{_≡_};
 ghost use Rattle.memory.specs.Layout.{countsFields, countsStores, countsAt, putCounts};
+ghost use Rattle.memory.specs.Lent.{was, is};
 
 pub fn load_counts(counts: &CountWords) -> Counts
-    ensures { λ r. ⌜ r ≡ countsAt (now (counts .entry)) ⌝ }
+    ensures { λ r. ⌜ r ≡ countsAt (was counts) ⌝ }
 {
     counts_fields(counts)
 }
 
 // The same, with the fields written out in the contract.
 fn counts_fields(counts: &CountWords) -> Counts
-    ensures { λ r. ⌜ r ≡ countsFields (now (counts .entry)) ⌝ }
+    ensures { λ r. ⌜ r ≡ countsFields (was counts) ⌝ }
 {
     Counts {
         servers: counts[COUNT_SERVERS],
@@ -29,13 +30,13 @@ fn counts_fields(counts: &CountWords) -> Counts
 }
 
 pub fn store_counts(counts: &mut CountWords, cluster: Counts)
-    ensures { λ _. ⌜ now (counts .exit) ≡ putCounts (now (counts .entry)) cluster ⌝ }
+    ensures { λ _. ⌜ is counts ≡ putCounts (was counts) cluster ⌝ }
 {
     counts_stores(counts, cluster);
 }
 
 fn counts_stores(counts: &mut CountWords, cluster: Counts)
-    ensures { λ _. ⌜ now (counts .exit) ≡ countsStores (now (counts .entry)) cluster ⌝ }
+    ensures { λ _. ⌜ is counts ≡ countsStores (was counts) cluster ⌝ }
 {
     counts[COUNT_SERVERS] = cluster.servers;
     counts[COUNT_BUCKETS] = cluster.buckets;

@@ -17,14 +17,15 @@ use memory::offsets::VOTE_6;
 use server::Head;
 use server::measures::SERVERS;
 ghost use mathlib.Core.Path.{_≡_};
-ghost use Prim.Native.Nat.{_+_, _*_, _<_};
+ghost use Prim.Native.Nat.{_*_, _<_};
 ghost use Rattle.memory.specs.Rows.{row, putRow};
 ghost use Rattle.memory.specs.Layout.{serverRoom, headSize, headNumbers, headFields, headAt, putHead};
+ghost use Rattle.memory.specs.Lent.{was, is};
 
 // The head of this server.
 pub fn load_head(heads: &HeadWords, server: usize) -> Head
     requires { ⌜ server < serverRoom ⌝ }
-    ensures { λ r. ⌜ r ≡ headAt (now (heads .entry)) server ⌝ }
+    ensures { λ r. ⌜ r ≡ headAt (was heads) server ⌝ }
 {
     head_fields(heads, server)
 }
@@ -32,7 +33,7 @@ pub fn load_head(heads: &HeadWords, server: usize) -> Head
 // The same, with the fields written out in the contract.
 fn head_fields(heads: &HeadWords, server: usize) -> Head
     requires { ⌜ server < serverRoom ⌝ }
-    ensures { λ r. ⌜ r ≡ headFields (now (heads .entry)) server ⌝ }
+    ensures { λ r. ⌜ r ≡ headFields (was heads) server ⌝ }
 {
     let base = server * HEAD_SIZE;
     let votes = [
@@ -58,7 +59,7 @@ fn head_fields(heads: &HeadWords, server: usize) -> Head
 // This server gets this head.
 pub fn store_head(heads: &mut HeadWords, server: usize, head: Head)
     requires { ⌜ server < serverRoom ⌝ }
-    ensures { λ _. ⌜ now (heads .exit) ≡ putHead (now (heads .entry)) server head ⌝ }
+    ensures { λ _. ⌜ is heads ≡ putHead (was heads) server head ⌝ }
 {
     let votes = head.votes;
     head_numbers(heads, server, head);
@@ -67,7 +68,7 @@ pub fn store_head(heads: &mut HeadWords, server: usize, head: Head)
 
 fn head_numbers(heads: &mut HeadWords, server: usize, head: Head)
     requires { ⌜ server < serverRoom ⌝ }
-    ensures { λ _. ⌜ now (heads .exit) ≡ putRow (now (heads .entry)) (server * headSize) 0 (headNumbers head) ⌝ }
+    ensures { λ _. ⌜ is heads ≡ putRow (was heads) (server * headSize) 0 (headNumbers head) ⌝ }
 {
     let base = server * HEAD_SIZE;
     heads[base + HEAD_NUMBER] = head.number;
@@ -80,7 +81,7 @@ fn head_numbers(heads: &mut HeadWords, server: usize, head: Head)
 
 fn head_votes(heads: &mut HeadWords, server: usize, votes: [u32; SERVERS])
     requires { ⌜ server < serverRoom ⌝ }
-    ensures { λ _. ⌜ now (heads .exit) ≡ putRow (now (heads .entry)) (server * headSize) 6 (row 0 0 serverRoom votes) ⌝ }
+    ensures { λ _. ⌜ is heads ≡ putRow (was heads) (server * headSize) 6 (row 0 0 serverRoom votes) ⌝ }
 {
     let base = server * HEAD_SIZE;
     heads[base + VOTE_0] = votes[0];

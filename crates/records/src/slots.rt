@@ -25,14 +25,15 @@ use server::Round;
 use server::Version;
 use server::measures::SERVERS;
 ghost use mathlib.Core.Path.{_≡_};
-ghost use Prim.Native.Nat.{_+_, _*_, _<_};
+ghost use Prim.Native.Nat.{_*_, _<_};
 ghost use Rattle.memory.specs.Rows.{row, putRow};
 ghost use Rattle.memory.specs.Layout.{serverRoom, slotRoom, slotSize, versionFields, versionStores, versionAt, putVersion, roundNumbers, roundFields, roundAt, putRound, callFields, callStores, callAt, putCall};
+ghost use Rattle.memory.specs.Lent.{was, is};
 
 // The version of the copy at this slot.
 pub fn load_version(slots: &SlotWords, slot: usize) -> Version
     requires { ⌜ slot < slotRoom ⌝ }
-    ensures { λ r. ⌜ r ≡ versionAt (now (slots .entry)) slot ⌝ }
+    ensures { λ r. ⌜ r ≡ versionAt (was slots) slot ⌝ }
 {
     version_fields(slots, slot)
 }
@@ -40,7 +41,7 @@ pub fn load_version(slots: &SlotWords, slot: usize) -> Version
 // The same, with the fields written out in the contract: so are those of each load and store below.
 fn version_fields(slots: &SlotWords, slot: usize) -> Version
     requires { ⌜ slot < slotRoom ⌝ }
-    ensures { λ r. ⌜ r ≡ versionFields (now (slots .entry)) slot ⌝ }
+    ensures { λ r. ⌜ r ≡ versionFields (was slots) slot ⌝ }
 {
     let base = slot * SLOT_SIZE;
     Version {
@@ -52,14 +53,14 @@ fn version_fields(slots: &SlotWords, slot: usize) -> Version
 // The copy at this slot gets this version.
 pub fn store_version(slots: &mut SlotWords, slot: usize, version: Version)
     requires { ⌜ slot < slotRoom ⌝ }
-    ensures { λ _. ⌜ now (slots .exit) ≡ putVersion (now (slots .entry)) slot version ⌝ }
+    ensures { λ _. ⌜ is slots ≡ putVersion (was slots) slot version ⌝ }
 {
     version_stores(slots, slot, version);
 }
 
 fn version_stores(slots: &mut SlotWords, slot: usize, version: Version)
     requires { ⌜ slot < slotRoom ⌝ }
-    ensures { λ _. ⌜ now (slots .exit) ≡ versionStores (now (slots .entry)) slot version ⌝ }
+    ensures { λ _. ⌜ is slots ≡ versionStores (was slots) slot version ⌝ }
 {
     let base = slot * SLOT_SIZE;
     slots[base + VERSION_ELECTION] = version.election;
@@ -69,14 +70,14 @@ fn version_stores(slots: &mut SlotWords, slot: usize, version: Version)
 // The open round of this slot.
 pub fn load_round(slots: &SlotWords, slot: usize) -> Round
     requires { ⌜ slot < slotRoom ⌝ }
-    ensures { λ r. ⌜ r ≡ roundAt (now (slots .entry)) slot ⌝ }
+    ensures { λ r. ⌜ r ≡ roundAt (was slots) slot ⌝ }
 {
     round_fields(slots, slot)
 }
 
 fn round_fields(slots: &SlotWords, slot: usize) -> Round
     requires { ⌜ slot < slotRoom ⌝ }
-    ensures { λ r. ⌜ r ≡ roundFields (now (slots .entry)) slot ⌝ }
+    ensures { λ r. ⌜ r ≡ roundFields (was slots) slot ⌝ }
 {
     let base = slot * SLOT_SIZE;
     let best = Version {
@@ -104,7 +105,7 @@ fn round_fields(slots: &SlotWords, slot: usize) -> Round
 // This slot gets this open round.
 pub fn store_round(slots: &mut SlotWords, slot: usize, round: Round)
     requires { ⌜ slot < slotRoom ⌝ }
-    ensures { λ _. ⌜ now (slots .exit) ≡ putRound (now (slots .entry)) slot round ⌝ }
+    ensures { λ _. ⌜ is slots ≡ putRound (was slots) slot round ⌝ }
 {
     let marks = round.marks;
     round_numbers(slots, slot, round);
@@ -113,7 +114,7 @@ pub fn store_round(slots: &mut SlotWords, slot: usize, round: Round)
 
 fn round_numbers(slots: &mut SlotWords, slot: usize, round: Round)
     requires { ⌜ slot < slotRoom ⌝ }
-    ensures { λ _. ⌜ now (slots .exit) ≡ putRow (now (slots .entry)) (slot * slotSize) 2 (roundNumbers round) ⌝ }
+    ensures { λ _. ⌜ is slots ≡ putRow (was slots) (slot * slotSize) 2 (roundNumbers round) ⌝ }
 {
     let base = slot * SLOT_SIZE;
     let best = round.best;
@@ -126,7 +127,7 @@ fn round_numbers(slots: &mut SlotWords, slot: usize, round: Round)
 
 fn round_marks(slots: &mut SlotWords, slot: usize, marks: [u32; SERVERS])
     requires { ⌜ slot < slotRoom ⌝ }
-    ensures { λ _. ⌜ now (slots .exit) ≡ putRow (now (slots .entry)) (slot * slotSize) 7 (row 0 0 serverRoom marks) ⌝ }
+    ensures { λ _. ⌜ is slots ≡ putRow (was slots) (slot * slotSize) 7 (row 0 0 serverRoom marks) ⌝ }
 {
     let base = slot * SLOT_SIZE;
     slots[base + MARK_0] = marks[0];
@@ -141,14 +142,14 @@ fn round_marks(slots: &mut SlotWords, slot: usize, marks: [u32; SERVERS])
 // The open call of this slot, without its words.
 pub fn load_call(slots: &SlotWords, slot: usize) -> Call
     requires { ⌜ slot < slotRoom ⌝ }
-    ensures { λ r. ⌜ r ≡ callAt (now (slots .entry)) slot ⌝ }
+    ensures { λ r. ⌜ r ≡ callAt (was slots) slot ⌝ }
 {
     call_fields(slots, slot)
 }
 
 fn call_fields(slots: &SlotWords, slot: usize) -> Call
     requires { ⌜ slot < slotRoom ⌝ }
-    ensures { λ r. ⌜ r ≡ callFields (now (slots .entry)) slot ⌝ }
+    ensures { λ r. ⌜ r ≡ callFields (was slots) slot ⌝ }
 {
     let base = slot * SLOT_SIZE;
     Call {
@@ -162,14 +163,14 @@ fn call_fields(slots: &SlotWords, slot: usize) -> Call
 // This slot gets this open call, without its words.
 pub fn store_call(slots: &mut SlotWords, slot: usize, call: Call)
     requires { ⌜ slot < slotRoom ⌝ }
-    ensures { λ _. ⌜ now (slots .exit) ≡ putCall (now (slots .entry)) slot call ⌝ }
+    ensures { λ _. ⌜ is slots ≡ putCall (was slots) slot call ⌝ }
 {
     call_stores(slots, slot, call);
 }
 
 fn call_stores(slots: &mut SlotWords, slot: usize, call: Call)
     requires { ⌜ slot < slotRoom ⌝ }
-    ensures { λ _. ⌜ now (slots .exit) ≡ callStores (now (slots .entry)) slot call ⌝ }
+    ensures { λ _. ⌜ is slots ≡ callStores (was slots) slot call ⌝ }
 {
     let base = slot * SLOT_SIZE;
     slots[base + CALL_KIND] = call.kind;

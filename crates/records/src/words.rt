@@ -25,11 +25,12 @@ ghost use mathlib.Core.Path.{_≡_};
 ghost use Prim.Native.Nat.{_+_, _-_, _*_, _<_, _≤_};
 ghost use lib.Seq.{paste};
 ghost use Rattle.memory.specs.Layout.{slotRoom, textSize, keyRoom, valueRoom, numbersFields, numbersStores, numbersIn, itemWord, keyFrom, valueFrom, itemFrom, wordsAt, putWords, putTexts};
+ghost use Rattle.memory.specs.Lent.{was, is};
 
 // The words of the call of this slot.
 pub fn load_words(slots: &SlotWords, texts: &TextBytes, slot: usize) -> Words
     requires { ⌜ slot < slotRoom ⌝ }
-    ensures { λ r. ⌜ r ≡ wordsAt (now (slots .entry)) (now (texts .entry)) slot ⌝ }
+    ensures { λ r. ⌜ r ≡ wordsAt (was slots) (was texts) slot ⌝ }
 {
     let numbers = numbers_fields(slots, slot);
     let base = slot * TEXT_SIZE;
@@ -47,7 +48,7 @@ pub fn load_words(slots: &SlotWords, texts: &TextBytes, slot: usize) -> Words
 
 fn numbers_fields(slots: &SlotWords, slot: usize) -> Numbers
     requires { ⌜ slot < slotRoom ⌝ }
-    ensures { λ r. ⌜ r ≡ numbersFields (now (slots .entry)) slot ⌝ }
+    ensures { λ r. ⌜ r ≡ numbersFields (was slots) slot ⌝ }
 {
     let base = slot * SLOT_SIZE;
     Numbers {
@@ -62,7 +63,7 @@ fn numbers_fields(slots: &SlotWords, slot: usize) -> Numbers
 // A key whose eight bytes begin at this place, and a value whose sixteen do.
 fn key_from(texts: &TextBytes, at: usize, len: usize) -> Key
     requires { ⌜ at + keyRoom ≤ slotRoom * textSize ⌝ }
-    ensures { λ r. ⌜ r ≡ keyFrom (now (texts .entry)) at len ⌝ }
+    ensures { λ r. ⌜ r ≡ keyFrom (was texts) at len ⌝ }
 {
     let mut bytes = [0u8; KEY_ROOM];
     copy_part_bytes(&mut bytes, 0, texts, at, KEY_ROOM);
@@ -71,7 +72,7 @@ fn key_from(texts: &TextBytes, at: usize, len: usize) -> Key
 
 fn value_from(texts: &TextBytes, at: usize, len: usize) -> Value
     requires { ⌜ at + valueRoom ≤ slotRoom * textSize ⌝ }
-    ensures { λ r. ⌜ r ≡ valueFrom (now (texts .entry)) at len ⌝ }
+    ensures { λ r. ⌜ r ≡ valueFrom (was texts) at len ⌝ }
 {
     let mut bytes = [0u8; VALUE_ROOM];
     copy_part_bytes(&mut bytes, 0, texts, at, VALUE_ROOM);
@@ -91,7 +92,7 @@ fn one_less(number: usize) -> usize
 // A value by its word: none for 0, else of a length one below it.
 fn item_from(texts: &TextBytes, at: usize, word: usize) -> Item
     requires { ⌜ at + valueRoom ≤ slotRoom * textSize ⌝ }
-    ensures { λ r. ⌜ r ≡ itemFrom (now (texts .entry)) at word ⌝ }
+    ensures { λ r. ⌜ r ≡ itemFrom (was texts) at word ⌝ }
 {
     let value = value_from(texts, at, one_less(word));
     Item {
@@ -103,7 +104,7 @@ fn item_from(texts: &TextBytes, at: usize, word: usize) -> Item
 // The call of this slot gets these words.
 pub fn store_words(slots: &mut SlotWords, texts: &mut TextBytes, slot: usize, words: Words)
     requires { ⌜ slot < slotRoom ⌝ }
-    ensures { λ _. ⌜ (now (slots .exit) ≡ putWords (now (slots .entry)) slot words) × (now (texts .exit) ≡ putTexts (now (texts .entry)) slot words) ⌝ }
+    ensures { λ _. ⌜ (is slots ≡ putWords (was slots) slot words) × (is texts ≡ putTexts (was texts) slot words) ⌝ }
 {
     let numbers = numbers_in(words);
     numbers_stores(slots, slot, numbers);
@@ -136,7 +137,7 @@ fn numbers_in(words: Words) -> Numbers
 
 fn numbers_stores(slots: &mut SlotWords, slot: usize, numbers: Numbers)
     requires { ⌜ slot < slotRoom ⌝ }
-    ensures { λ _. ⌜ now (slots .exit) ≡ numbersStores (now (slots .entry)) slot numbers ⌝ }
+    ensures { λ _. ⌜ is slots ≡ numbersStores (was slots) slot numbers ⌝ }
 {
     let base = slot * SLOT_SIZE;
     slots[base + WORDS_KIND] = numbers.kind;
@@ -148,7 +149,7 @@ fn numbers_stores(slots: &mut SlotWords, slot: usize, numbers: Numbers)
 
 fn store_texts(texts: &mut TextBytes, slot: usize, words: Words)
     requires { ⌜ slot < slotRoom ⌝ }
-    ensures { λ _. ⌜ now (texts .exit) ≡ putTexts (now (texts .entry)) slot words ⌝ }
+    ensures { λ _. ⌜ is texts ≡ putTexts (was texts) slot words ⌝ }
 {
     let base = slot * TEXT_SIZE;
     let key = words.key;
@@ -167,14 +168,14 @@ fn store_texts(texts: &mut TextBytes, slot: usize, words: Words)
 // The bytes of a key, or of a value, are stored from this place on.
 fn put_key(texts: &mut TextBytes, at: usize, bytes: &[u8; KEY_ROOM])
     requires { ⌜ at + keyRoom ≤ slotRoom * textSize ⌝ }
-    ensures { λ _. ⌜ now (texts .exit) ≡ paste (now (texts .entry)) at (now (bytes .entry)) keyRoom ⌝ }
+    ensures { λ _. ⌜ is texts ≡ paste (was texts) at (was bytes) keyRoom ⌝ }
 {
     copy_part_bytes(texts, at, bytes, 0, KEY_ROOM);
 }
 
 fn put_value(texts: &mut TextBytes, at: usize, bytes: &[u8; VALUE_ROOM])
     requires { ⌜ at + valueRoom ≤ slotRoom * textSize ⌝ }
-    ensures { λ _. ⌜ now (texts .exit) ≡ paste (now (texts .entry)) at (now (bytes .entry)) valueRoom ⌝ }
+    ensures { λ _. ⌜ is texts ≡ paste (was texts) at (was bytes) valueRoom ⌝ }
 {
     copy_part_bytes(texts, at, bytes, 0, VALUE_ROOM);
 }

@@ -15,7 +15,8 @@ use progress::KeptLine;
 use progress::ReaderWords;
 use runs::Tally;
 use tally::add;
-ghost use Rattle.feed.specs.Entry.{Feeds, Finishes};
+ghost use Rattle.views.specs.Lent.{lent};
+ghost use Rattle.feed.specs.Lent.{FeedsScript, FinishesScript};
 
 // A part of the input: how many bytes of it were taken. Bytes are left only from a line feed on, where the output has no room for what
 // a line can print (1,024 bytes); the bytes written are counted in `reader[2]`.
@@ -36,7 +37,7 @@ pub extern "C" fn script_feed(
     input: &[u8],
     out: &mut [u8],
 ) -> usize
-    ensures { λ r. ⌜ Feeds (now (counts .entry)) (now (heads .entry)) (now (slots .entry)) (now (copies .entry)) (now (working .entry)) (now (texts .entry)) (now (queue .entry)) (now (payloads .entry)) (now (answers .entry)) (now (reader .entry)) (now (line .entry)) (now (tally .entry)) (now (input .entry)) (now (out .entry)) (now (counts .exit)) (now (heads .exit)) (now (slots .exit)) (now (copies .exit)) (now (working .exit)) (now (texts .exit)) (now (queue .exit)) (now (payloads .exit)) (now (answers .exit)) (now (reader .exit)) (now (line .exit)) (now (tally .exit)) (now (out .exit)) r ⌝ }
+    ensures { λ r. ⌜ FeedsScript (lent counts heads slots copies working texts queue payloads answers) reader line tally input out r ⌝ }
 {
     let fed = feed_value(
         counts,
@@ -77,7 +78,7 @@ pub extern "C" fn script_finish(
     tally: &mut Tally,
     out: &mut [u8],
 ) -> usize
-    ensures { λ r. ⌜ Finishes (now (counts .entry)) (now (heads .entry)) (now (slots .entry)) (now (copies .entry)) (now (working .entry)) (now (texts .entry)) (now (queue .entry)) (now (payloads .entry)) (now (answers .entry)) (now (reader .entry)) (now (line .entry)) (now (tally .entry)) (now (out .entry)) (now (counts .exit)) (now (heads .exit)) (now (slots .exit)) (now (copies .exit)) (now (working .exit)) (now (texts .exit)) (now (queue .exit)) (now (payloads .exit)) (now (answers .exit)) (now (reader .exit)) (now (line .exit)) (now (tally .exit)) (now (out .exit)) r ⌝ }
+    ensures { λ r. ⌜ FinishesScript (lent counts heads slots copies working texts queue payloads answers) reader line tally out r ⌝ }
 {
     let fed = finish_value(
         counts,

@@ -16,12 +16,13 @@ ghost use Prim.Native.Nat.{_<_, _*_};
 ghost use lib.ListN.{length};
 ghost use Rattle.entries.specs.Decoded.{tableIn};
 ghost use Rattle.memory.specs.Layout.{slotRoom, messageRoom, contentSize};
+ghost use Rattle.memory.specs.Lent.{was, is};
 ghost use Rattle.views.specs.Changes.{putTable, filledFrom, keptFrom};
 
 // The bucket form of a table becomes the content of this slot.
 fn put_table(working: &mut [u8], slot: usize, table: Decoded)
     requires { ⌜ (slot < slotRoom) × (length (now working) ≡ slotRoom * contentSize) ⌝ }
-    ensures { λ _. ⌜ now (working .exit) ≡ putTable (now (working .entry)) slot (tableIn table) ⌝ }
+    ensures { λ _. ⌜ is working ≡ putTable (was working) slot (tableIn table) ⌝ }
 {
     let from = slot * CONTENT_SIZE;
     let end = from + CONTENT_SIZE;
@@ -39,7 +40,7 @@ pub fn fill_work(
     table: Decoded,
 )
     requires { ⌜ (slot < slotRoom) × (place < messageRoom) ⌝ }
-    ensures { λ _. ⌜ now (working .exit) ≡ filledFrom (now (working .entry)) (now (copies .entry)) (now (payloads .entry)) slot place (tableIn table) fills ⌝ }
+    ensures { λ _. ⌜ is working ≡ filledFrom (was working) (was copies) (was payloads) slot place (tableIn table) fills ⌝ }
 {
     if fills == FILLS_COPY {
         copy_content(working, slot, copies, slot);
@@ -65,7 +66,7 @@ pub fn keep_copy(
     keeps: u32,
 )
     requires { ⌜ (slot < slotRoom) × (place < messageRoom) ⌝ }
-    ensures { λ _. ⌜ now (copies .exit) ≡ keptFrom (now (copies .entry)) (now (working .entry)) (now (payloads .entry)) slot place keeps ⌝ }
+    ensures { λ _. ⌜ is copies ≡ keptFrom (was copies) (was working) (was payloads) slot place keeps ⌝ }
 {
     if keeps == KEEPS_WORK {
         copy_content(copies, slot, working, slot);

@@ -24,8 +24,9 @@ use server::codes::NO_ROUND;
 ghost use mathlib.Core.Path.{_≡_};
 ghost use Prim.Native.Nat.{_<_, _≤_};
 ghost use Rattle.memory.specs.Layout.{serverRoom, bucketRoom, slotRoom, messageRoom};
+ghost use Rattle.memory.specs.Lent.{was, is};
 ghost use Rattle.views.specs.Changes.{isIdle, clearedSlot, clearedSlots};
-ghost use Rattle.steps.specs.Stored.{Stored, putSlot, Settled, MovedServer};
+ghost use Rattle.steps.specs.Stored.{Stored, putSlot, Settled, MovesServer};
 
 // This server gets the head, this slot the rest.
 pub fn store_local(
@@ -36,7 +37,7 @@ pub fn store_local(
     local: Local,
 )
     requires { ⌜ (server < serverRoom) × (slot < slotRoom) ⌝ }
-    ensures { λ _. ⌜ Stored (now (heads .entry)) (now (slots .entry)) server slot local (now (heads .exit)) (now (slots .exit)) ⌝ }
+    ensures { λ _. ⌜ Stored (was heads) (was slots) server slot local (is heads) (is slots) ⌝ }
 {
     store_head(heads, server, local.head);
     store_slot(slots, slot, local.version, local.round, local.call);
@@ -44,7 +45,7 @@ pub fn store_local(
 
 fn store_slot(slots: &mut SlotWords, slot: usize, version: Version, round: Round, call: Call)
     requires { ⌜ slot < slotRoom ⌝ }
-    ensures { λ _. ⌜ now (slots .exit) ≡ putSlot (now (slots .entry)) slot version round call ⌝ }
+    ensures { λ _. ⌜ is slots ≡ putSlot (was slots) slot version round call ⌝ }
 {
     store_version(slots, slot, version);
     store_round(slots, slot, round);
@@ -64,7 +65,7 @@ fn is_idle(round: Round, call: Call) -> bool
 // This slot has no round and no call any more.
 fn clear_slot(slots: &mut SlotWords, slot: usize)
     requires { ⌜ slot < slotRoom ⌝ }
-    ensures { λ _. ⌜ now (slots .exit) ≡ clearedSlot (now (slots .entry)) slot ⌝ }
+    ensures { λ _. ⌜ is slots ≡ clearedSlot (was slots) slot ⌝ }
 {
     let round = load_round(slots, slot);
     let call = load_call(slots, slot);
@@ -78,7 +79,7 @@ fn clear_slot(slots: &mut SlotWords, slot: usize)
 // The slots of this server have no round and no call any more.
 pub fn clear_slots(slots: &mut SlotWords, server: usize, buckets: usize)
     requires { ⌜ (server < serverRoom) × (buckets ≤ bucketRoom) ⌝ }
-    ensures { λ _. ⌜ now (slots .exit) ≡ clearedSlots (now (slots .entry)) server buckets ⌝ }
+    ensures { λ _. ⌜ is slots ≡ clearedSlots (was slots) server buckets ⌝ }
 {
     let mut bucket = 0;
     while bucket < buckets {
@@ -97,7 +98,7 @@ fn settle(
     next: Move,
 )
     requires { ⌜ (server < serverRoom) × ((slot < slotRoom) × (buckets ≤ bucketRoom)) ⌝ }
-    ensures { λ _. ⌜ Settled (now (heads .entry)) (now (slots .entry)) buckets server slot next (now (heads .exit)) (now (slots .exit)) ⌝ }
+    ensures { λ _. ⌜ Settled (was heads) (was slots) buckets server slot next (is heads) (is slots) ⌝ }
 {
     store_local(heads, slots, server, slot, next.local);
     if next.ceases {
@@ -120,7 +121,7 @@ pub fn move_server(
     next: Move,
 )
     requires { ⌜ (server < serverRoom) × ((bucket < bucketRoom) × ((buckets ≤ bucketRoom) × (place < messageRoom))) ⌝ }
-    ensures { λ _. ⌜ MovedServer (now (heads .entry)) (now (slots .entry)) (now (copies .entry)) (now (working .entry)) (now (payloads .entry)) buckets server bucket place next (now (heads .exit)) (now (slots .exit)) (now (copies .exit)) ⌝ }
+    ensures { λ _. ⌜ MovesServer heads slots copies working payloads buckets server bucket place next ⌝ }
 {
     let slot = slot_of(server, bucket);
     keep_copy(copies, working, payloads, slot, place, next.keeps);

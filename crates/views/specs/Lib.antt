@@ -1,4 +1,5 @@
 -- What the contracts of the machine cite.
 pub mod Memory
+pub mod Lent
 pub mod Changes
 pub mod Queue
