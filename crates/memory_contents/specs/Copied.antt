@@ -5,7 +5,7 @@ use Prim.Native.Nat.{ℕ}
 use lib.ListN.{length}
 use Rattle.blocks.specs.Blocks.{block}
 use Rattle.memory.specs.Layout.{contentSize, putContent}
-use Rattle.memory_regions.specs.Lent.{Lent, was, is}
+use Rattle.memory.specs.Lent.{Lent, was, is}
 use Rattle.memory_regions.specs.Contents.{byteCount}
 
 -- content j became content i

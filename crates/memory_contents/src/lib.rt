@@ -1,4 +1,5 @@
-// Contents of buckets in the lent bytes, copied from one block to another: those of copies, working contents, and those of messages.
+// Contents of buckets in the lent bytes: those of copies, working contents, and those of messages. One is copied to another here; a
+// table is written as one in `tables`.
 use memory::CONTENT_SIZE;
 use memory_regions::Bytes;
 use memory_regions::FIRST_COPY;
@@ -9,9 +10,11 @@ ghost use Prim.Native.Nat.{_+_, _*_, _<_, _≤_};
 ghost use lib.ListN.{length, drop};
 ghost use lib.Seq.{paste};
 ghost use Rattle.memory.specs.Layout.{slotRoom, messageRoom};
-ghost use Rattle.memory_regions.specs.Lent.{was, is};
+ghost use Rattle.memory.specs.Lent.{was, is};
 ghost use Rattle.memory_regions.specs.Contents.{contentRoom, oldContents, newContents, copyOf, workingOf, payloadOf, putCopy, putWorking, putPayload};
 ghost use Rattle.memory_contents.specs.Copied.{CopiesContent};
+
+pub mod tables;
 
 // The part that begins at `from` and has this length is copied to `to`, which does not lie within it.
 fn copy_within(list: &mut [u8], to: usize, from: usize, len: usize)

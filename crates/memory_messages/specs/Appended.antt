@@ -4,7 +4,7 @@ use mathlib.Core.List.{List}
 use Prim.Native.Nat.{ℕ, _<_}
 use Rattle.server.specs.declared.Message.{Message}
 use Rattle.memory.specs.Layout.{messageRoom, placeAt, putMessage}
-use Rattle.memory_regions.specs.Lent.{Lent}
+use Rattle.memory.specs.Lent.{Lent}
 use Rattle.memory_regions.specs.Regions.{Regions, oldRegions, newRegions, withQueue}
 use Rattle.memory_regions.specs.Contents.{Contents, oldContents, newContents, putPayload}
 

@@ -20,12 +20,11 @@ use memory_regions::Words;
 use server::Message;
 use server::Version;
 ghost use mathlib.Core.Path.{_≡_};
-ghost use Prim.Native.Nat.{_+_, _*_, _<_, _≤_};
+ghost use Prim.Native.Nat.{_+_, _*_, _%_, _<_, _≤_};
 ghost use lib.ListN.{length, getD};
-ghost use Rattle.blocks.specs.Order.{place};
 ghost use Rattle.memory.specs.Rows.{row, putRow};
 ghost use Rattle.memory.specs.Layout.{slotRoom, messageRoom, messageSize, orderPlace, placeAt, withoutPlace, messageRow, messageOf, headerAt, messageAt, putHeader};
-ghost use Rattle.memory_regions.specs.Lent.{was, is};
+ghost use Rattle.memory.specs.Lent.{was, is};
 ghost use Rattle.memory_regions.specs.Regions.{wordCount, queuePlace, oldRegions, newRegions, withQueue};
 ghost use Rattle.memory_regions.specs.Contents.{oldContents, copyOf, workingOf};
 ghost use Rattle.memory_messages.specs.Appended.{AppendsHeader, Appends};
@@ -47,7 +46,7 @@ pub fn place_of(words: &Words, index: usize) -> usize
 // The same, with the word written out in the contract, as one of the whole array.
 fn place_field(words: &Words, index: usize) -> usize
     requires { ⌜ index < messageRoom ⌝ }
-    ensures { λ r. ⌜ r ≡ place (getD (was words) (queuePlace + (orderPlace + index)) 0) ⌝ }
+    ensures { λ r. ⌜ r ≡ getD (was words) (queuePlace + (orderPlace + index)) 0 % messageRoom ⌝ }
 {
     wide(words[QUEUE_AT + (ORDER_AT + index)]) % MESSAGES
 }
@@ -57,24 +56,24 @@ pub fn load_message(words: &Words, index: usize) -> Message
     requires { ⌜ index < messageRoom ⌝ }
     ensures { λ r. ⌜ r ≡ messageAt (oldRegions words .queue) index ⌝ }
 {
-    let at = place_of(words, index);
-    load_header(words, at)
+    let place = place_of(words, index);
+    load_header(words, place)
 }
 
 // The header at this place.
-fn load_header(words: &Words, at: usize) -> Message
-    requires { ⌜ at < messageRoom ⌝ }
-    ensures { λ r. ⌜ r ≡ headerAt (oldRegions words .queue) at ⌝ }
+fn load_header(words: &Words, place: usize) -> Message
+    requires { ⌜ place < messageRoom ⌝ }
+    ensures { λ r. ⌜ r ≡ headerAt (oldRegions words .queue) place ⌝ }
 {
-    message_fields(words, at)
+    message_fields(words, place)
 }
 
 // The same, with the fields written out in the contract, as words of the whole array.
-fn message_fields(words: &Words, at: usize) -> Message
-    requires { ⌜ at < messageRoom ⌝ }
-    ensures { λ r. ⌜ r ≡ messageOf (row (queuePlace + at * messageSize) 0 messageSize (was words)) ⌝ }
+fn message_fields(words: &Words, place: usize) -> Message
+    requires { ⌜ place < messageRoom ⌝ }
+    ensures { λ r. ⌜ r ≡ messageOf (row (queuePlace + place * messageSize) 0 messageSize (was words)) ⌝ }
 {
-    let base = QUEUE_AT + at * HEADER_SIZE;
+    let base = QUEUE_AT + place * HEADER_SIZE;
     let version = Version {
         election: words[base + WRITTEN_ELECTION],
         counter: words[base + WRITTEN_COUNTER],
@@ -91,18 +90,18 @@ fn message_fields(words: &Words, at: usize) -> Message
 }
 
 // The header at this place is replaced.
-fn store_header(words: &mut Words, at: usize, message: Message)
-    requires { ⌜ at < messageRoom ⌝ }
-    ensures { λ _. ⌜ newRegions words ≡ withQueue (oldRegions words) (putHeader (oldRegions words .queue) at message) ⌝ }
+fn store_header(words: &mut Words, place: usize, message: Message)
+    requires { ⌜ place < messageRoom ⌝ }
+    ensures { λ _. ⌜ newRegions words ≡ withQueue (oldRegions words) (putHeader (oldRegions words .queue) place message) ⌝ }
 {
-    message_stores(words, at, message);
+    message_stores(words, place, message);
 }
 
-fn message_stores(words: &mut Words, at: usize, message: Message)
-    requires { ⌜ at < messageRoom ⌝ }
-    ensures { λ _. ⌜ is words ≡ putRow (was words) (queuePlace + at * messageSize) 0 (messageRow message) ⌝ }
+fn message_stores(words: &mut Words, place: usize, message: Message)
+    requires { ⌜ place < messageRoom ⌝ }
+    ensures { λ _. ⌜ is words ≡ putRow (was words) (queuePlace + place * messageSize) 0 (messageRow message) ⌝ }
 {
-    let base = QUEUE_AT + at * HEADER_SIZE;
+    let base = QUEUE_AT + place * HEADER_SIZE;
     let version = message.version;
     words[base + MESSAGE_KIND] = message.kind;
     words[base + MESSAGE_SENDER] = message.sender;
@@ -119,9 +118,9 @@ fn append_header(words: &mut Words, count: usize, message: Message) -> usize
     requires { ⌜ count < messageRoom ⌝ }
     ensures { λ r. ⌜ AppendsHeader words count message r ⌝ }
 {
-    let at = place_of(words, count);
-    store_header(words, at, message);
-    at
+    let place = place_of(words, count);
+    store_header(words, place, message);
+    place
 }
 
 // A message is appended at the first free place, with the working content of this slot.
@@ -135,8 +134,8 @@ pub fn append_working(
     requires { ⌜ (count < messageRoom) × (slot < slotRoom) ⌝ }
     ensures { λ _. ⌜ Appends words bytes count message (workingOf (oldContents bytes) slot) ⌝ }
 {
-    let at = append_header(words, count, message);
-    payload_from_working(bytes, at, slot);
+    let place = append_header(words, count, message);
+    payload_from_working(bytes, place, slot);
 }
 
 // A message is appended at the first free place, with the content of the copy at this slot.
@@ -150,8 +149,8 @@ pub fn append_copy(
     requires { ⌜ (count < messageRoom) × (slot < slotRoom) ⌝ }
     ensures { λ _. ⌜ Appends words bytes count message (copyOf (oldContents bytes) slot) ⌝ }
 {
-    let at = append_header(words, count, message);
-    payload_from_copy(bytes, at, slot);
+    let place = append_header(words, count, message);
+    payload_from_copy(bytes, place, slot);
 }
 
 // The message with this index is removed: its place is the first free one then.

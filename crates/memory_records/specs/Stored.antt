@@ -3,7 +3,7 @@ use mathlib.Core.Path.{_≡_}
 use Prim.Native.Nat.{ℕ}
 use Rattle.server.specs.declared.Words.{Words}
 use Rattle.memory.specs.Layout.{putWords, putTexts}
-use Rattle.memory_regions.specs.Lent.{Lent}
+use Rattle.memory.specs.Lent.{Lent}
 use Rattle.memory_regions.specs.Regions.{Regions, oldRegions, newRegions, withSlots}
 use Rattle.memory_regions.specs.Contents.{Contents, oldContents, newContents, withTexts}
 

@@ -10,7 +10,7 @@ use memory_regions::Words;
 ghost use mathlib.Core.Path.{_≡_};
 ghost use Rattle.memory.specs.Rows.{row, putRow};
 ghost use Rattle.memory.specs.Layout.{countsWords, countsRow, countsOf, countsAt, putCounts};
-ghost use Rattle.memory_regions.specs.Lent.{was, is};
+ghost use Rattle.memory.specs.Lent.{was, is};
 ghost use Rattle.memory_regions.specs.Regions.{countsPlace, oldRegions, newRegions, withCounts};
 
 pub fn load_counts(words: &Words) -> Counts

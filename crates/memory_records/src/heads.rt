@@ -21,7 +21,7 @@ ghost use mathlib.Core.Path.{_≡_};
 ghost use Prim.Native.Nat.{_+_, _*_, _<_};
 ghost use Rattle.memory.specs.Rows.{row, putRow};
 ghost use Rattle.memory.specs.Layout.{serverRoom, headSize, headWords, headNumbers, headOf, headAt, putHead};
-ghost use Rattle.memory_regions.specs.Lent.{was, is};
+ghost use Rattle.memory.specs.Lent.{was, is};
 ghost use Rattle.memory_regions.specs.Regions.{headsPlace, oldRegions, newRegions, withHeads};
 
 // The head of this server.

@@ -29,7 +29,7 @@ ghost use mathlib.Core.Path.{_≡_};
 ghost use Prim.Native.Nat.{_+_, _*_, _<_};
 ghost use Rattle.memory.specs.Rows.{row, putRow};
 ghost use Rattle.memory.specs.Layout.{serverRoom, slotRoom, slotSize, versionPlace, versionWords, versionRow, versionOf, versionAt, putVersion, roundPlace, roundWords, roundNumbers, roundOf, roundAt, putRound, callPlace, callWords, callRow, callOf, callAt, putCall};
-ghost use Rattle.memory_regions.specs.Lent.{was, is};
+ghost use Rattle.memory.specs.Lent.{was, is};
 ghost use Rattle.memory_regions.specs.Regions.{slotsPlace, oldRegions, newRegions, withSlots};
 
 // The version of the copy at this slot.

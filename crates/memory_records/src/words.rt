@@ -27,7 +27,7 @@ ghost use Prim.Native.Nat.{_+_, _-_, _*_, _<_, _≤_};
 ghost use lib.Seq.{paste};
 ghost use Rattle.memory.specs.Rows.{row, putRow};
 ghost use Rattle.memory.specs.Layout.{slotRoom, slotSize, textSize, keyRoom, valueRoom, numbersPlace, numbersWords, numbersRow, numbersOf, numbersAt, numbersIn, itemWord, keyFrom, valueFrom, itemFrom, wordsAt, putTexts};
-ghost use Rattle.memory_regions.specs.Lent.{was, is};
+ghost use Rattle.memory.specs.Lent.{was, is};
 ghost use Rattle.memory_regions.specs.Regions.{slotsPlace, oldRegions};
 ghost use Rattle.memory_regions.specs.Contents.{oldContents, newContents, withTexts};
 ghost use Rattle.memory_records.specs.Stored.{StoresWords};

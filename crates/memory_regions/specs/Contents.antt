@@ -5,7 +5,7 @@ use lib.ListN.{getD}
 use Rattle.blocks.specs.Blocks.{block}
 use Rattle.memory.specs.Layout.{slotRoom, messageRoom, contentSize, textSize, putContent}
 use Rattle.memory_regions.specs.Cuts.{cut, start}
-use Rattle.memory_regions.specs.Lent.{Lent, was, is}
+use Rattle.memory.specs.Lent.{Lent, was, is}
 
 -- contents of copies, working contents, contents of messages, keys and values of calls
 abbrev pub byteSizes : List ℕ

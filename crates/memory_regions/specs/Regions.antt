@@ -4,7 +4,7 @@ use Prim.Native.Nat.{ℕ, _*_}
 use lib.ListN.{getD}
 use Rattle.memory.specs.Layout.{serverRoom, slotRoom, headSize, slotSize, queueLength}
 use Rattle.memory_regions.specs.Cuts.{cut, start}
-use Rattle.memory_regions.specs.Lent.{Lent, was, is}
+use Rattle.memory.specs.Lent.{Lent, was, is}
 
 -- counts, heads, slots, and the queue, which is the headers of messages and their order
 abbrev pub countsSize : ℕ

@@ -1,4 +1,4 @@
--- `copy_within` meets its contract. The invariant: the first j bytes are copied.
+-- `memory_contents::copy_within` meets its contract. The invariant: the first j bytes are copied.
 use Prim.Native.Nat.{_-_}
 use native.Mathlib.Omega.{arith}
 use lib.ListN.{drop}
@@ -34,7 +34,9 @@ loop-less : tie.Need-loop-less Inv-loop μ-loop
 loop-less c = omega arith
 
 loop-again : tie.Need-loop-again Inv-loop μ-loop
-loop-again c = turns-within _ _ _ _ (omega arith) (omega arith) (c .before .before .before .pre .1 .1) 0 (c .before .before .loop .inv) (omega arith)
+loop-again c =
+    let pre = c .before .before .before .pre in
+    turns-within _ _ _ _ (omega arith) (omega arith) (pre .1 .1) 0 (c .before .before .loop .inv) (omega arith)
 
 same-length : tie.Need-same-length Inv-loop μ-loop
 same-length c = omega arith

@@ -14,7 +14,7 @@ returns : tie.Need-returns
 unfolding headerAt
 returns c =
     let args = c .before .args in
-    c .message-fields .ensures ∙ ap messageOf (sym (queue-row (args .words .now) messageSize (args .at * messageSize) 0 (search needs)))
+    c .message-fields .ensures ∙ ap messageOf (sym (queue-row (args .words .now) messageSize (args .place * messageSize) 0 (search needs)))
 
 pub load-header-spec : {M : Type 1} → statement M
 load-header-spec = tie.close (tie.spec message-fields-requires returns)

@@ -1,10 +1,9 @@
 -- `memory_messages::place_of` meets its contract: the word that its callee reads, as one of the region.
 use mathlib.Core.Path.{sym, ap, _∙_}
-use Prim.Native.Nat.{_+_}
+use Prim.Native.Nat.{_+_, _%_}
 use native.Mathlib.Nat.{mod-lt}
 use native.Mathlib.Omega.{arith}
-use Rattle.blocks.specs.Order.{place}
-use Rattle.memory.specs.Layout.{orderPlace, placeAt}
+use Rattle.memory.specs.Layout.{messageRoom, orderPlace, placeAt}
 use Rattle.memory_regions.proofs.Regions.{queue-at}
 use borrow.Author.Needs.{needs}
 use Rattle.memory_messages.proofs.place_of.Statement.{statement}
@@ -17,7 +16,7 @@ returns : tie.Need-returns
 unfolding placeAt
 returns c =
     let args = c .before .args in (
-      c .place-field .ensures ∙ ap place (sym (queue-at (args .words .now) (orderPlace + args .index) (search needs))),
+      c .place-field .ensures ∙ ap (λ x. x % messageRoom) (sym (queue-at (args .words .now) (orderPlace + args .index) (search needs))),
       rw (c .place-field .ensures) (mod-lt _ (omega arith)),
     )
 

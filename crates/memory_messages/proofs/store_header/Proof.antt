@@ -13,7 +13,7 @@ returns : tie.Need-returns
 unfolding putHeader
 returns c =
     let args = c .before .before .args in
-    rw (c .message-stores .ensures) (queue-stored (args .words .now) (messageRow (args .message)) (args .at * messageSize) 0 (search needs))
+    rw (c .message-stores .ensures) (queue-stored (args .words .now) (messageRow (args .message)) (args .place * messageSize) 0 (search needs))
 
 pub store-header-spec : {M : Type 1} → statement M
 store-header-spec = tie.close (tie.spec message-stores-requires returns)
