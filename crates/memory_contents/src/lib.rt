@@ -1,0 +1,86 @@
+// Contents of buckets in the lent bytes: those of copies, working contents, and those of messages. One is copied to another here; a
+// table is written as one in `tables`.
+use memory::CONTENT_SIZE;
+use memory_regions::Bytes;
+use memory_regions::FIRST_COPY;
+use memory_regions::FIRST_PAYLOAD;
+use memory_regions::FIRST_WORKING;
+ghost use mathlib.Core.Path.{_≡_};
+ghost use Prim.Native.Nat.{_+_, _*_, _<_, _≤_};
+ghost use lib.ListN.{length, drop};
+ghost use lib.Seq.{paste};
+ghost use Rattle.memory.specs.Layout.{slotRoom, messageRoom};
+ghost use Rattle.memory.specs.Lent.{was, is};
+ghost use Rattle.memory_regions.specs.Contents.{contentRoom, oldContents, newContents, copyOf, workingOf, payloadOf, putCopy, putWorking, putPayload};
+ghost use Rattle.memory_contents.specs.Copied.{CopiesContent};
+
+pub mod tables;
+
+// The part that begins at `from` and has this length is copied to `to`, which does not lie within it.
+fn copy_within(list: &mut [u8], to: usize, from: usize, len: usize)
+    requires { ⌜ (to + len ≤ length (now list)) × ((from + len ≤ length (now list)) × (from < to → from + len ≤ to)) ⌝ }
+    ensures { λ _. ⌜ is list ≡ paste (was list) to (drop from (was list)) len ⌝ }
+{
+    let mut j = 0; // bytes copied
+    while j < len {
+        let byte = list[from + j];
+        list[to + j] = byte;
+        j += 1;
+    }
+}
+
+// Content `from` becomes content `to`; both are numbers of blocks of the whole array.
+pub fn copy_content(bytes: &mut Bytes, to: usize, from: usize)
+    requires { ⌜ (to < contentRoom) × (from < contentRoom) ⌝ }
+    ensures { λ _. ⌜ CopiesContent bytes to from ⌝ }
+{
+    copy_within(bytes, to * CONTENT_SIZE, from * CONTENT_SIZE, CONTENT_SIZE);
+}
+
+// The working content of this slot becomes the content of its copy.
+pub fn working_from_copy(bytes: &mut Bytes, slot: usize)
+    requires { ⌜ slot < slotRoom ⌝ }
+    ensures { λ _. ⌜ newContents bytes ≡ putWorking (oldContents bytes) slot (copyOf (oldContents bytes) slot) ⌝ }
+{
+    copy_content(bytes, FIRST_WORKING + slot, FIRST_COPY + slot);
+}
+
+// The working content of this slot becomes that of the message at this place.
+pub fn working_from_payload(bytes: &mut Bytes, slot: usize, place: usize)
+    requires { ⌜ (slot < slotRoom) × (place < messageRoom) ⌝ }
+    ensures { λ _. ⌜ newContents bytes ≡ putWorking (oldContents bytes) slot (payloadOf (oldContents bytes) place) ⌝ }
+{
+    copy_content(bytes, FIRST_WORKING + slot, FIRST_PAYLOAD + place);
+}
+
+// The content of the copy at this slot becomes the working content.
+pub fn copy_from_working(bytes: &mut Bytes, slot: usize)
+    requires { ⌜ slot < slotRoom ⌝ }
+    ensures { λ _. ⌜ newContents bytes ≡ putCopy (oldContents bytes) slot (workingOf (oldContents bytes) slot) ⌝ }
+{
+    copy_content(bytes, FIRST_COPY + slot, FIRST_WORKING + slot);
+}
+
+// The content of the copy at this slot becomes that of the message at this place.
+pub fn copy_from_payload(bytes: &mut Bytes, slot: usize, place: usize)
+    requires { ⌜ (slot < slotRoom) × (place < messageRoom) ⌝ }
+    ensures { λ _. ⌜ newContents bytes ≡ putCopy (oldContents bytes) slot (payloadOf (oldContents bytes) place) ⌝ }
+{
+    copy_content(bytes, FIRST_COPY + slot, FIRST_PAYLOAD + place);
+}
+
+// The content of the message at this place becomes the working content of a slot.
+pub fn payload_from_working(bytes: &mut Bytes, place: usize, slot: usize)
+    requires { ⌜ (place < messageRoom) × (slot < slotRoom) ⌝ }
+    ensures { λ _. ⌜ newContents bytes ≡ putPayload (oldContents bytes) place (workingOf (oldContents bytes) slot) ⌝ }
+{
+    copy_content(bytes, FIRST_PAYLOAD + place, FIRST_WORKING + slot);
+}
+
+// The content of the message at this place becomes that of the copy at a slot.
+pub fn payload_from_copy(bytes: &mut Bytes, place: usize, slot: usize)
+    requires { ⌜ (place < messageRoom) × (slot < slotRoom) ⌝ }
+    ensures { λ _. ⌜ newContents bytes ≡ putPayload (oldContents bytes) place (copyOf (oldContents bytes) slot) ⌝ }
+{
+    copy_content(bytes, FIRST_PAYLOAD + place, FIRST_COPY + slot);
+}

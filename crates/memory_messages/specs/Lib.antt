@@ -1,0 +1,2 @@
+-- What the contracts of `memory_messages` cite.
+pub mod Appended

@@ -1,0 +1,2 @@
+-- What the contracts of `memory_records` cite.
+pub mod Stored
