@@ -26,6 +26,18 @@ pub fn bench() -> PathBuf {
     path
 }
 
+/// The independent bench, built beside the program that asks.
+pub fn independent() -> PathBuf {
+    let own = std::env::current_exe().expect("it has a path");
+    let path = own.with_file_name("reference_bench");
+    let there = path.is_file();
+    assert!(
+        there,
+        "no {path:?}: `cargo build --release -p reference` first"
+    );
+    path
+}
+
 /// What a program left behind.
 pub struct Ran {
     pub out: Vec<u8>,

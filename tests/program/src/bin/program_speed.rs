@@ -13,7 +13,7 @@
 //! run of its own, which waits for more input when all lines have been run.
 
 use program::compare::expected;
-use program::process::{bench, run_fed};
+use program::process::{bench, independent, run_fed};
 use reference::scripts::{generate, Kind};
 use std::fs::{self, File};
 use std::path::{Path, PathBuf};
@@ -22,18 +22,6 @@ use std::time::{Duration, Instant};
 
 const LINES: usize = 1_000_000;
 const REPETITIONS: usize = 41;
-
-/// The independent bench, built beside this program.
-fn independent() -> PathBuf {
-    let own = std::env::current_exe().expect("it has a path");
-    let path = own.with_file_name("reference_bench");
-    let there = path.is_file();
-    assert!(
-        there,
-        "no {path:?}: `cargo build --release -p reference` first"
-    );
-    path
-}
 
 /// The time from the start of the process to its end.
 fn time(program: &Path, input: &Path, output: &Path) -> Duration {
