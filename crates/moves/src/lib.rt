@@ -11,7 +11,7 @@ pub mod handling;
 pub mod leading;
 pub mod nothing;
 mod parts;
-mod replicas;
+pub mod replicas;
 mod replies;
 pub mod roles;
 

@@ -36,7 +36,7 @@ ghost use Rattle.server.specs.Views.{roleIn};
 ghost use Rattle.moves.specs.Moves.{steppedDown, voteMove, readRequestMove, writeRequestMove, requestMove, votingMove};
 
 // Whether a role is that of a leader or a candidate.
-fn role_acts(role: u32) -> bool
+pub fn role_acts(role: u32) -> bool
     ensures { λ r. ⌜ r ≡ acts (roleIn role) ⌝ }
 {
     if role == CANDIDATE {

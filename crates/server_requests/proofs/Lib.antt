@@ -1,0 +1,3 @@
+-- Laws that belong to no one function: the moves that an answer to a request, and what comes of a reply, stand for.
+pub mod RequestMoves
+pub mod ReplyOutcomes

@@ -1,0 +1,3 @@
+-- What the contracts of `server_requests` cite.
+pub mod Requests
+pub mod Replies
