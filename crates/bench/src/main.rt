@@ -98,8 +98,8 @@ fn rest(input: &[u8], end: usize, left: usize) -> &[u8] {
 }
 
 // The first bytes of the output, so many as are named, are written out: false where that fails, as where nobody reads them any more.
-fn write_out(out: &[u8], n: usize) -> bool {
-    let written = at_most(n, out.len());
+fn write_out(out: &[u8], count: usize) -> bool {
+    let written = at_most(count, out.len());
     io::write_all(STDOUT_FILENO, &out[..written])
 }
 

@@ -12,10 +12,10 @@ use table::ENTRY_SIZE;
 ghost use mathlib.Core.Path.{_≡_};
 ghost use mathlib.Core.List.{_∷_, [], _++_};
 ghost use Prim.Native.Nat.{_≤_, _<_, _+_, _-_, _*_};
-ghost use lib.ListN.{length, take, drop, replicate};
+ghost use lib.ListN.{length, drop, replicate};
 ghost use lib.Seq.{sets};
 ghost use Rattle.entries.specs.Decoded.{keyBytes, valueBytes, tableIn};
-ghost use Rattle.table.specs.Form.{header, body, bucketBytes};
+ghost use Rattle.table.specs.Form.{header, bucketBytes};
 ghost use Rattle.table.specs.Steps.{Offsets, Entered, Bodied};
 
 // Four bytes from `at` on.

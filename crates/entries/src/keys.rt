@@ -5,7 +5,7 @@ use crate::Order;
 use crate::VALUE_ROOM;
 use crate::Value;
 ghost use mathlib.Core.Path.{_≡_};
-ghost use Prim.Native.Nat.{_≤_, min};
+ghost use Prim.Native.Nat.{min};
 ghost use lib.ListN.{length, take};
 ghost use Rattle.entries.specs.Entries.{order};
 ghost use Rattle.entries.specs.Decoded.{Cut, keyBytes, valueBytes, noKey, noValue};
