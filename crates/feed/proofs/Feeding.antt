@@ -102,9 +102,10 @@ whole-line : (v : Session) (l : List ℕ) (u : Session) (more : List ℕ) → Re
 whole-line v l u more r h n e =
     let k = line-kept (readingIn v) l h n in
     let j = line-means v l u more r e in
-    let f = line-feed (reached v l) h in
-    (fed-append (readingIn v) l (10 ∷ []) ∙ ap (λ (y : Reading). fed y (10 ∷ [])) k ∙ f .0 ∙ j .0,
-    fedText-append (readingIn v) l (10 ∷ []) ∙ rw (line-silent (readingIn v) l h n, k) (f .1 ∙ j .1))
+    let f = line-feed (reached v l) h in (
+      fed-append (readingIn v) l (10 ∷ []) ∙ ap (λ (y : Reading). fed y (10 ∷ [])) k ∙ f .0 ∙ j .0,
+      fedText-append (readingIn v) l (10 ∷ []) ∙ rw (line-silent (readingIn v) l h n, k) (f .1 ∙ j .1),
+    )
 
 pub lines-mean : (w : Session) (room : ℕ) {input text : List ℕ} {v : Session} → Ready w → LinesFed w room input text v → Means w input text v
 unfolding fed fedText

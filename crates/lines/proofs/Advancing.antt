@@ -1,5 +1,5 @@
 -- The steps of feeding, one after the other, are the whole part.
-use mathlib.Core.Path.{_≡_, refl, sym, ap, subst, _∙_}
+use mathlib.Core.Path.{_≡_, refl, sym, subst, _∙_}
 use mathlib.Core.Bool.{Bool, true, false}
 use mathlib.Core.List.{List, [], _∷_, _++_, append-assoc, append-nil}
 use Prim.Native.Nat.{ℕ, _+_, _-_, _≤_, _<_}
@@ -9,17 +9,16 @@ use native.Mathlib.Decide.{decLe}
 use lib.ListN.{length, take, drop, length-append, length-drop, take-append-drop}
 use lib.Seq.{take-length, take-suc, take-append-seam, drop-append-add, drop-drop}
 use Rattle.model.specs.Measures.{maxLines}
-use Rattle.print.specs.Printed.{Printed}
 use Rattle.print.specs.Room.{lineRoom}
 use Rattle.print.proofs.Printing.{printed-none}
 use Rattle.views.specs.Memory.{Memory}
 use Rattle.runs.specs.declared.Tally.{Tally}
 use Rattle.progress.specs.declared.Ending.{Ending}
 use Rattle.progress.specs.declared.Progress.{Progress}
-use Rattle.progress.specs.Progress.{begunAt, stoppedAt, waitingAt, endedAt, passedAt}
-use Rattle.lines.specs.Sessions.{Held, held, putAll, Session, session, keeping}
+use Rattle.progress.specs.Progress.{begunAt, stoppedAt, endedAt}
+use Rattle.lines.specs.Sessions.{Held, held, putAll, Session, session}
 use Rattle.lines.specs.Lines.{between, Plain, FeedAt, LineTold}
-use Rattle.lines.specs.Feeding.{LinesFed, nothing, line, Fed, bytes, past, PartFed, NextFeed, found, full, Advanced, RestKept, waits, passes}
+use Rattle.lines.specs.Feeding.{LinesFed, nothing, line, bytes, past, PartFed, NextFeed, found, full, Advanced, RestKept, waits, passes}
 use Rattle.lines.proofs.Finding.{take-between, none-found}
 
 absurd-more : {A : Type 0} {x : Bool} → x ≡ false → x ≡ true → A
@@ -98,18 +97,6 @@ module _ (m : Memory) (l buffer input out : List ℕ) (p r : Progress) (feed : �
         rests = λ y n q. no-line k i n q;
       })
 
--- ---- the bytes after the lines
-
-module _ (m : Memory) (l buffer input : List ℕ) (p r : Progress) where
-  pub rest-waits : (buffer′ : List ℕ) (n feed : ℕ) → p .lines < maxLines → FeedAt input (p .taken) feed → held buffer′ n ≡ putAll (held buffer (p .held)) (between input (p .taken) feed)
-      → r ≡ waitingAt p n feed
-      → RestKept (session m l (p .tally) (p .lines) (held buffer (p .held))) input p (session m l (r .tally) (r .lines) (held buffer′ (r .held))) r
-  rest-waits buffer′ n feed h k e d = rw d (waits h k (ap (session m l (p .tally) (p .lines)) e) refl)
-
-  pub rest-passes : maxLines ≤ p .lines → r ≡ passedAt p (length input)
-      → RestKept (session m l (p .tally) (p .lines) (held buffer (p .held))) input p (session m l (r .tally) (r .lines) (held buffer (r .held))) r
-  rest-passes h e = rw e (passes h refl refl refl)
-
 -- ---- all steps
 
 -- so far
@@ -169,40 +156,50 @@ going-on w input out v mid p w′ out′ p′ g a =
       rests = λ e n q. a .rests e n (omega (arith, q, g .size));
     }
 
--- and then the rest
-rest-ends : (w : Session) (input out : List ℕ) (v : Session) (out′ : List ℕ) (p : Progress) (w′ : Session) (p′ : Progress)
-    → Going w input out v out′ p → p .more ≡ false → v .lines ≡ p .lines → RestKept v input p w′ p′ → PartFed w input out w′ out′ (p′ .taken) (p′ .written)
-rest-ends w input out v out′ p w′ p′ g f s (waits h k e d) =
-    let l = between input (p .taken) (p′ .taken) in
-    let kept : Fed w (length out) (take (p .taken) input ++ l) (g .text) (keeping v l) = bytes (g .feeds) h l (k .bytes .plain) in
-    record {
-      text = g .text;
-      feeds = rw (e, take-between input (p .taken) (p′ .taken) (k .bytes .onward)) kept;
-      wrote = g .wrote;
-      count = d ∙ g .count;
-      within = k .bytes .within;
-      stops = λ i. record { feed = k .stops i; short = short i (decLe (p .written + lineRoom) (length out)); early = rw e h };
-    }
-  where
-    short : p′ .taken < length input → Dec (p .written + lineRoom ≤ length out) → length out < p′ .written + lineRoom
-    short i (yes q) = none-found input (p .taken) (p′ .taken) (g .rests f (omega (arith, h, s)) q) (k .bytes .onward) i (k .stops i)
-    short i (no q) = omega arith
-rest-ends w input out v out′ p w′ p′ g f s (passes h e t d) =
-    let all : take (p′ .taken) input ≡ take (p .taken) input ++ drop (p .taken) input = rw (t, take-length input) (sym (take-append-drop (p .taken) input)) in
-    record {
-      text = g .text;
-      feeds = rw (e, all) (past (g .feeds) h (drop (p .taken) input));
-      wrote = g .wrote;
-      count = d ∙ g .count;
-      within = omega arith;
-      stops = λ i. absurd (omega arith);
-    }
+-- and then the bytes after the lines
+module _ (w : Session) (input out : List ℕ) (m : Memory) (l buffer out′ : List ℕ) (p : Progress) (g : Going w input out (session m l (p .tally) (p .lines) (held buffer (p .held))) out′ p) where
+  -- a line feed after them has no room for its line
+  no-room : (feed : ℕ) → p .more ≡ false → p .lines < maxLines → FeedAt input (p .taken) feed → feed < length input → length out < p .written + lineRoom
+  no-room feed f h k i = go (decLe (p .written + lineRoom) (length out))
+    where
+      go : Dec (p .written + lineRoom ≤ length out) → length out < p .written + lineRoom
+      go (yes q) = none-found input (p .taken) feed (g .rests f h q) (k .bytes .onward) i (k .stops i)
+      go (no q) = omega arith
 
-pub going-ends : (m : Memory) (l : List ℕ) (u t : Tally) (n : ℕ) (h : Held) (input out : List ℕ) (m′ : Memory) (l′ : List ℕ) (h′ : Held) (out′ : List ℕ) (p : Progress) (w′ : Session) (p′ : Progress)
-    → u ≡ t → Going (session m l u n h) input out (session m′ l′ (p .tally) (p .lines) h′) out′ p → p .more ≡ false
-    → RestKept (session m′ l′ (p .tally) (p .lines) h′) input p w′ p′ → PartFed (session m l t n h) input out w′ out′ (p′ .taken) (p′ .written)
-going-ends m l u t n h input out m′ l′ h′ out′ p w′ p′ e g f k =
-    subst (λ (x : Tally). PartFed (session m l x n h) input out w′ out′ (p′ .taken) (p′ .written)) e (rest-ends (session m l u n h) input out (session m′ l′ (p .tally) (p .lines) h′) out′ p w′ p′ g f refl k)
+  rest-kept : (buffer′ : List ℕ) (n feed : ℕ) → p .more ≡ false → p .lines < maxLines → FeedAt input (p .taken) feed → held buffer′ n ≡ putAll (held buffer (p .held)) (between input (p .taken) feed)
+      → PartFed w input out (session m l (p .tally) (p .lines) (held buffer′ n)) out′ feed (p .written)
+  rest-kept buffer′ n feed f h k e =
+      record {
+        text = g .text;
+        feeds = rw (e, take-between input (p .taken) feed (k .bytes .onward)) (bytes (g .feeds) h (between input (p .taken) feed) (k .bytes .plain));
+        wrote = g .wrote;
+        count = g .count;
+        within = k .bytes .within;
+        stops = λ i. record { feed = k .stops i; short = no-room feed f h k i; early = h };
+      }
+
+  rest-passed : maxLines ≤ p .lines → PartFed w input out (session m l (p .tally) (p .lines) (held buffer (p .held))) out′ (length input) (p .written)
+  rest-passed h =
+      record {
+        text = g .text;
+        feeds = rw (take-length input, ← take-append-drop (p .taken) input) (past (g .feeds) h (drop (p .taken) input));
+        wrote = g .wrote;
+        count = g .count;
+        within = omega arith;
+        stops = λ i. absurd (omega arith);
+      }
+
+  rest-ends : (buffer′ : List ℕ) (p′ : Progress) → p .more ≡ false → RestKept p buffer input p′ buffer′
+      → PartFed w input out (session m l (p′ .tally) (p′ .lines) (held buffer′ (p′ .held))) out′ (p′ .taken) (p′ .written)
+  rest-ends buffer′ p′ f (waits n feed h k e d) = rw d (rest-kept buffer′ n feed f h k e)
+  rest-ends buffer′ p′ f (passes h e d) = rw (d, e) (rest-passed h)
+
+pub going-ends : (m : Memory) (l : List ℕ) (u t : Tally) (n : ℕ) (h : Held) (input out : List ℕ) (m′ : Memory) (l′ buffer out′ : List ℕ) (p : Progress) (buffer′ : List ℕ) (p′ : Progress)
+    → u ≡ t → Going (session m l u n h) input out (session m′ l′ (p .tally) (p .lines) (held buffer (p .held))) out′ p → p .more ≡ false → RestKept p buffer input p′ buffer′
+    → PartFed (session m l t n h) input out (session m′ l′ (p′ .tally) (p′ .lines) (held buffer′ (p′ .held))) out′ (p′ .taken) (p′ .written)
+going-ends m l u t n h input out m′ l′ buffer out′ p buffer′ p′ e g f k =
+    subst (λ (x : Tally). PartFed (session m l x n h) input out (session m′ l′ (p′ .tally) (p′ .lines) (held buffer′ (p′ .held))) out′ (p′ .taken) (p′ .written)) e
+    (rest-ends (session m l u n h) input out m′ l′ buffer out′ p g buffer′ p′ f k)
 
 -- ---- the steps end: each of them takes a byte, or is the last
 

@@ -1,6 +1,6 @@
 -- Bytes of the input up to a line feed.
-use mathlib.Core.Path.{_≡_, refl, sym, ap, subst, _∙_}
-use mathlib.Core.Bool.{Bool, true, false}
+use mathlib.Core.Path.{_≡_, sym, ap, subst, _∙_}
+use mathlib.Core.Bool.{Bool, false}
 use mathlib.Core.List.{List, [], _∷_, _++_}
 use Prim.Native.Nat.{ℕ, zero, suc, _+_, _-_, _≤_, _<_}
 use native.Mathlib.Omega.{arith}
@@ -9,7 +9,7 @@ use lib.ListN.{length, take, drop, getD, length-drop}
 use lib.Seq.{take-suc, take-add, getD-take, getD-drop, length-take-le}
 use Rattle.input.specs.Reading.{NoFeed}
 use Rattle.input.proofs.Parts.{no-feed-append}
-use Rattle.lines.specs.Lines.{between, Plain, FeedAt}
+use Rattle.lines.specs.Lines.{between, Plain}
 
 -- the bytes before `to` are those before `from` and those from there on
 pub take-between : (l : List ℕ) (from to : ℕ) → from ≤ to → take to l ≡ take from l ++ between l from to

@@ -7,9 +7,10 @@ use lib.ListN.{length, take, drop, getD}
 use Rattle.model.specs.Measures.{maxLines}
 use Rattle.print.specs.Printed.{Printed}
 use Rattle.input.specs.Reading.{NoFeed}
-use Rattle.lines.specs.Sessions.{Session, keeping}
+use Rattle.lines.specs.Sessions.{held, putAll, Session, keeping}
 use Rattle.lines.specs.Lines.{between, Plain, FeedAt, LineEnded}
 use Rattle.progress.specs.declared.Progress.{Progress}
+use Rattle.progress.specs.Progress.{waitingAt, passedAt}
 use Rattle.print.specs.Room.{lineRoom}
 
 -- ---- a part of the input
@@ -59,7 +60,7 @@ pub record Advanced (w : Session) (input out : List ℕ) (p : Progress) (w′ : 
   pub goes : p′ .more ≡ true → p .taken < p′ .taken
   pub rests : p′ .more ≡ false → p′ .lines < maxLines → p′ .written + lineRoom ≤ length out → Plain input (p′ .taken) (length input)
 
--- what follows the lines that were run: bytes up to a line feed are kept, or all are passed over
-pub data RestKept (w : Session) (input : List ℕ) (p : Progress) (w′ : Session) (p′ : Progress) : Type 0 where
-  waits : w .lines < maxLines → FeedAt input (p .taken) (p′ .taken) → w′ ≡ keeping w (between input (p .taken) (p′ .taken)) → p′ .written ≡ p .written → RestKept w input p w′ p′
-  passes : maxLines ≤ w .lines → w′ ≡ w → p′ .taken ≡ length input → p′ .written ≡ p .written → RestKept w input p w′ p′
+-- the bytes after the lines that were run: those up to a line feed are kept in the array of the present line, or all are passed over
+pub data RestKept (p : Progress) (line input : List ℕ) (p′ : Progress) (line′ : List ℕ) : Type 0 where
+  waits : (n feed : ℕ) → p .lines < maxLines → FeedAt input (p .taken) feed → held line′ n ≡ putAll (held line (p .held)) (between input (p .taken) feed) → p′ ≡ waitingAt p n feed → RestKept p line input p′ line′
+  passes : maxLines ≤ p .lines → line′ ≡ line → p′ ≡ passedAt p (length input) → RestKept p line input p′ line′

@@ -1,20 +1,18 @@
 -- The contracts of `lines` over the lent arrays, the bytes kept of the present line, the input and the output. The records are those of
 -- Lines.antt and Feeding.antt.
 use mathlib.Core.Path.{_≡_}
-use mathlib.Core.List.{List}
 use Prim.Native.Nat.{ℕ, _+_}
 use Rattle.model.specs.Parse.{parse}
 use Rattle.parse.specs.Meaning.{parsed}
 use Rattle.parse.specs.declared.Line.{Line}
 use Rattle.memory.specs.Lent.{Lent, was, is}
-use Rattle.views.specs.Memory.{Memory}
 use Rattle.views.specs.Lent.{Lents, old, new, oldAnswers, newAnswers}
 use Rattle.runs.specs.declared.Tally.{Tally}
 use Rattle.progress.specs.declared.Ending.{Ending}
 use Rattle.progress.specs.declared.Progress.{Progress}
 use Rattle.lines.specs.Sessions.{Held, held, Session, session, endedLine, heldAfter}
 use Rattle.lines.specs.Lines.{LineTold}
-use Rattle.lines.specs.Feeding.{Advanced, RestKept, PartFed}
+use Rattle.lines.specs.Feeding.{Advanced, PartFed}
 
 -- the session before and after, with a tally, the lines read and the present line
 abbrev pub oldSession : Lents → Tally → ℕ → Held → Session
@@ -49,17 +47,6 @@ Advances a line out input p r =
     (newSession a (r .tally) (r .lines) (held (is line) (r .held)))
     (is out)
     r
-
--- of the session only the present line changes: the rest of it is named with any memory, answers and tally
-abbrev pub KeepsRest : (line input : Lent) → Progress → Progress → Type 0
-KeepsRest line input p r =
-    (m : Memory) (answers : List ℕ)
-    → RestKept
-      (session m answers (p .tally) (p .lines) (held (was line) (p .held)))
-      (was input)
-      p
-      (session m answers (r .tally) (r .lines) (held (is line) (r .held)))
-      r
 
 abbrev pub FeedsPart : Lents → (line out input : Lent) → Tally → (lines count : ℕ) → Progress → Type 0
 FeedsPart a line out input t lines count r =

@@ -24,9 +24,9 @@ use runs::Tally;
 ghost use Prim.Native.Nat.{_≤_};
 ghost use lib.ListN.{length};
 ghost use Rattle.views.specs.Lent.{lent};
-ghost use Rattle.memory.specs.Lent.{was};
-ghost use Rattle.lines.specs.Feeding.{NextFeed};
-ghost use Rattle.lines.specs.Lent.{Advances, KeepsRest, FeedsPart};
+ghost use Rattle.memory.specs.Lent.{was, is};
+ghost use Rattle.lines.specs.Feeding.{NextFeed, RestKept};
+ghost use Rattle.lines.specs.Lent.{Advances, FeedsPart};
 
 // The line feed that ends the next line, if there is room for what the line prints; else the end of the input. Nothing after line
 // 4,294,967,295 is read.
@@ -88,7 +88,7 @@ fn advance(
 // The bytes after the last line that was run are kept, up to a line feed.
 fn keep_rest(line: &mut KeptLine, input: &[u8], progress: Progress) -> Progress
     requires { ⌜ progress .taken ≤ length (now input) ⌝ }
-    ensures { λ r. ⌜ KeepsRest line input progress r ⌝ }
+    ensures { λ r. ⌜ RestKept progress (was line) (was input) r (is line) ⌝ }
 {
     if progress.lines < MAX_LINES {
         let from = progress.taken;

@@ -8,8 +8,6 @@ use progress::LINE_FEED;
 ghost use mathlib.Core.Path.{_≡_};
 ghost use Prim.Native.Nat.{_≤_};
 ghost use lib.ListN.{length};
-ghost use Rattle.model.specs.Parse.{parse};
-ghost use Rattle.parse.specs.Meaning.{parsed};
 ghost use Rattle.memory.specs.Lent.{was, is};
 ghost use Rattle.lines.specs.Sessions.{held, put, putAll, presentLine};
 ghost use Rattle.lines.specs.Lines.{FeedAt};

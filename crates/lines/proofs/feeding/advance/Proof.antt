@@ -1,5 +1,4 @@
 -- `feeding::advance` meets its contract.
-use native.Mathlib.Omega.{arith}
 use borrow.Author.Needs.{needs}
 use Rattle.lines.proofs.Advancing.{next-line, advanced-line, advanced-stopped}
 use Rattle.lines.proofs.feeding.advance.Statement.{statement}
@@ -60,9 +59,7 @@ returns-2 : tie.Need-returns-2
 returns-2 c =
     let args = c .before .before .before .before .before .args in
     let pre = c .before .before .before .before .before .pre in
-    let next-feed = c .before .before .next-feed in
-    let if1 = c .before .if1 in
-    advanced-stopped _ _ _ _ _ (args .progress) _ _ (pre .0) (pre .1) (next-feed .ensures) (if1 .left) (c .stopped .ensures)
+    advanced-stopped _ _ _ _ _ (args .progress) _ _ (pre .0) (pre .1) (c .before .before .next-feed .ensures) (c .before .if1 .left) (c .stopped .ensures)
 
 pub advance-spec : {M : Type 1} → statement M
 advance-spec =

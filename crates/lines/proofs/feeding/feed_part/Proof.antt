@@ -48,9 +48,7 @@ returns : tie.Need-returns Inv-loop μ-loop
 returns c =
     let begun = c .before .before .before .before .begun in
     let loop = c .before .before .before .loop in
-    let loop-test = c .before .before .loop-test in
-    let keep-rest = c .keep-rest in
-    going-ends _ _ _ _ _ _ _ _ _ _ _ _ _ _ _ (ap (λ x. x .tally) (begun .ensures)) (loop .inv) (loop-test .left) (keep-rest .ensures _ _)
+    going-ends _ _ _ _ _ _ _ _ _ _ _ _ _ _ _ (ap (λ x. x .tally) (begun .ensures)) (loop .inv) (c .before .before .loop-test .left) (c .keep-rest .ensures)
 
 pub feed-part-spec : {M : Type 1} → statement M
 feed-part-spec =

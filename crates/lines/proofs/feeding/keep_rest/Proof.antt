@@ -1,6 +1,7 @@
 -- `feeding::keep_rest` meets its contract.
+use mathlib.Core.Path.{refl}
 use borrow.Author.Needs.{needs}
-use Rattle.lines.proofs.Advancing.{rest-waits, rest-passes}
+use Rattle.lines.specs.Feeding.{waits, passes}
 use Rattle.lines.proofs.feeding.keep_rest.Statement.{statement}
 use Rattle.lines.proofs.feeding.keep_rest.Tie as tie
 
@@ -24,20 +25,15 @@ waiting-requires c κs = search needs
 
 returns : tie.Need-returns
 returns c =
-    let args = c .before .before .before .before .before .before .before .before .args in
     let if1 = c .before .before .before .before .before .if1 in
     let line-feed = c .before .before .before .before .line-feed in
-    let keep = c .before .keep in
-    λ m answers. rest-waits m answers (args .line .now) _ (args .progress) _ _ _ _ (if1 .taken) (line-feed .ensures) (keep .ensures) (c .waiting .ensures)
+    waits _ _ (if1 .taken) (line-feed .ensures) (c .before .keep .ensures) (c .waiting .ensures)
 
 passed-requires : tie.Need-passed-requires
 passed-requires c κs = search needs
 
 returns-2 : tie.Need-returns-2
-returns-2 c =
-    let args = c .before .before .before .before .args in
-    let if1 = c .before .if1 in
-    λ m answers. rest-passes m answers (args .line .now) _ (args .progress) _ (if1 .left) (c .passed .ensures)
+returns-2 c = passes (c .before .if1 .left) refl (c .passed .ensures)
 
 pub keep-rest-spec : {M : Type 1} → statement M
 keep-rest-spec =

@@ -16,20 +16,13 @@ line-feed-requires c κs = search needs
 returns : tie.Need-returns
 returns c =
     let if1 = c .before .before .before .if1 in
-    let has-room = c .before .before .has-room in
-    let if2 = c .before .if2 in
-    found (if1 .taken) (leb-true _ _ (sym (has-room .ensures) ∙ if2 .taken)) (c .line-feed .ensures)
+    found (if1 .taken) (leb-true _ _ (sym (c .before .before .has-room .ensures) ∙ c .before .if2 .taken)) (c .line-feed .ensures)
 
 returns-2 : tie.Need-returns-2
-returns-2 c =
-    let has-room = c .before .has-room in
-    let if2 = c .if2 in
-    full (λ h. leb-false _ _ (sym (has-room .ensures) ∙ if2 .left)) refl
+returns-2 c = full (λ h. leb-false _ _ (sym (c .before .has-room .ensures) ∙ c .if2 .left)) refl
 
 returns-3 : tie.Need-returns-3
-returns-3 c =
-    let if1 = c .if1 in
-    full (λ h. absurd (omega (arith, if1 .left))) refl
+returns-3 c = full (λ h. absurd (omega (arith, c .if1 .left))) refl
 
 pub next-feed-spec : {M : Type 1} → statement M
 next-feed-spec = tie.close (tie.spec has-room-requires line-feed-requires returns returns-2 returns-3)

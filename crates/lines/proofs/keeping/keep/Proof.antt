@@ -1,8 +1,8 @@
 -- `keeping::keep` meets its contract.
 use Prim.Native.Nat.{_-_, _≤_}
-use mathlib.Core.Path.{_≡_, refl, sym, ap, _∙_}
+use mathlib.Core.Path.{_≡_, refl, ap, _∙_}
 use native.Mathlib.Omega.{arith}
-use lib.ListN.{length, take, getD}
+use lib.ListN.{length, take}
 use lib.Seq.{take-all}
 use borrow.Author.Needs.{needs}
 use Rattle.lines.specs.Sessions.{held, putAll}
@@ -42,8 +42,7 @@ loop-again c =
 returns : tie.Need-returns Inv-loop μ-loop
 returns c =
     let args = c .before .before .before .args in
-    let loop = c .before .loop in
-    loop .inv .0 ∙ ap (putAll (held (args .line .now) (args .count))) (take-all (loop .i) (args .bytes .now) (omega (arith, c .loop-test .left)))
+    c .before .loop .inv .0 ∙ ap (putAll (held (args .line .now) (args .count))) (take-all (c .before .loop .i) (args .bytes .now) (omega (arith, c .loop-test .left)))
 
 pub keep-spec : {M : Type 1} → statement M
 keep-spec =

@@ -35,8 +35,7 @@ loop-less c = search needs
 loop-again : tie.Need-loop-again Inv-loop μ-loop
 loop-again c =
     let loop = c .before .before .before .loop in
-    let loop-test = c .before .before .loop-test in
-    plain-more _ _ (loop .i) (loop .inv) (loop-test .taken) (ne-eqb _ 10 (c .if1 .left))
+    plain-more _ _ (loop .i) (loop .inv) (c .before .before .loop-test .taken) (ne-eqb _ 10 (c .if1 .left))
 
 returns-2 : tie.Need-returns-2 Inv-loop μ-loop
 returns-2 c = record { bytes = c .before .loop .inv; stops = λ h. absurd (omega (arith, c .loop-test .left)) }

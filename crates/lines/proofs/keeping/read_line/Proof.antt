@@ -1,7 +1,6 @@
 -- `keeping::read_line` meets its contract: where the line lies, or from the bytes kept of it.
-use mathlib.Core.Path.{refl, sym, ap, _∙_}
 use borrow.Author.Needs.{needs}
-use Rattle.lines.specs.Sessions.{Held, held}
+use Rattle.lines.specs.Sessions.{held}
 use Rattle.lines.proofs.Holding.{ended-whole, ended-rest, after-whole, after-rest}
 use Rattle.lines.proofs.keeping.read_line.Statement.{statement}
 use Rattle.lines.proofs.keeping.read_line.Tie as tie
@@ -12,9 +11,8 @@ parse-line-requires c κs = search needs
 returns : tie.Need-returns
 returns c =
     let args = c .before .before .before .args in
-    let if1 = c .before .if1 in
     let h = held (args .line .now) (args .count) in
-    (rw (ended-whole h (args .bytes .now) (if1 .taken)) (c .parse-line .ensures), rw (after-whole h (args .bytes .now) (if1 .taken), if1 .taken))
+    (rw (ended-whole h (args .bytes .now) (c .before .if1 .taken)) (c .parse-line .ensures), rw (after-whole h (args .bytes .now) (c .before .if1 .taken), c .before .if1 .taken))
 
 keep-requires : tie.Need-keep-requires
 keep-requires c κs = search needs
