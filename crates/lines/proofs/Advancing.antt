@@ -5,23 +5,21 @@ use mathlib.Core.List.{List, [], _∷_, _++_, append-assoc, append-nil}
 use Prim.Native.Nat.{ℕ, _+_, _-_, _≤_, _<_}
 use native.Mathlib.Omega.{arith}
 use native.Mathlib.Numerals.{add-one}
-use lib.Dec.{leb}
-use lib.ListN.{length, take, drop, getD, length-append, length-drop, take-append-drop}
+use native.Mathlib.Decide.{decLe}
+use lib.ListN.{length, take, drop, length-append, length-drop, take-append-drop}
 use lib.Seq.{take-length, take-suc, take-append-seam, drop-append-add, drop-drop}
-use borrow.Author.Tests.{leb-true, leb-false}
 use Rattle.model.specs.Measures.{maxLines}
-use Rattle.print.specs.Printed.{Printed}
+use Rattle.print.specs.Room.{lineRoom}
 use Rattle.print.proofs.Printing.{printed-none}
 use Rattle.views.specs.Memory.{Memory}
 use Rattle.runs.specs.declared.Tally.{Tally}
-use Rattle.lines.specs.Sessions.{Held, held, Session, session}
-use Rattle.lines.specs.Lines.{KeptFrom, LineTold}
-use Rattle.lines.specs.Feeding.{Stops, Fed, nothing, bytes, line, past, PartFed, AtFeed, waits, ends, Advanced}
-use Rattle.progress.specs.declared.Kept.{Kept}
 use Rattle.progress.specs.declared.Ending.{Ending}
 use Rattle.progress.specs.declared.Progress.{Progress}
-use Rattle.print.specs.Room.{lineRoom}
-use Rattle.progress.specs.Progress.{begunAt, waitingAt, endedAt, passedAt}
+use Rattle.progress.specs.Progress.{begunAt, stoppedAt, endedAt}
+use Rattle.lines.specs.Sessions.{Held, held, putAll, Session, session}
+use Rattle.lines.specs.Lines.{between, Plain, FeedAt, LineTold}
+use Rattle.lines.specs.Feeding.{LinesFed, nothing, line, bytes, past, PartFed, NextFeed, found, full, Advanced, RestKept, waits, passes}
+use Rattle.lines.proofs.Finding.{take-between, none-found}
 
 absurd-more : {A : Type 0} {x : Bool} → x ≡ false → x ≡ true → A
 absurd-more e f =
@@ -32,127 +30,85 @@ absurd-more e f =
 -- ---- one part after the other
 
 -- the same bytes and the same text
-same-fed : (w : Session) (room : ℕ) {a b x y : List ℕ} {u : Session} → a ≡ b → x ≡ y → Fed w room a x u → Fed w room b y u
-same-fed w room {a} {b} {x} {y} {u} e d f = subst (λ (i : List ℕ). Fed w room i y u) e (subst (λ (t : List ℕ). Fed w room a t u) d f)
+same-fed : (w : Session) (room : ℕ) {a b x y : List ℕ} {u : Session} → a ≡ b → x ≡ y → LinesFed w room a x u → LinesFed w room b y u
+same-fed w room {a} {b} {x} {y} {u} e d f = subst (λ (i : List ℕ). LinesFed w room i y u) e (subst (λ (t : List ℕ). LinesFed w room a t u) d f)
 
--- one part after the other, in the room that the first leaves
-pub fed-on : (w : Session) (room : ℕ) {a x b y : List ℕ} {v u : Session} → Fed w room a x v → Fed v (room - length x) b y u → Fed w room (a ++ b) (x ++ y) u
+-- some lines after the others, in the room that the first leave
+pub fed-on : (w : Session) (room : ℕ) {a x b y : List ℕ} {v u : Session} → LinesFed w room a x v → LinesFed v (room - length x) b y u → LinesFed w room (a ++ b) (x ++ y) u
 fed-on w room {a} {x} f nothing = same-fed w room (sym (append-nil a)) (sym (append-nil x)) f
-fed-on w room {a} {x} f (bytes {input = b} g h l n) = same-fed w room (append-assoc a b l) refl (bytes (fed-on w room f g) h l n)
-fed-on w room {a} {x} f (line {input = b} {text = y} g h r u more e) =
-    same-fed w room (append-assoc a b (10 ∷ [])) (append-assoc x y more) (line (fed-on w room f g) h (omega (arith, r, length-append x y)) u more e)
-fed-on w room {a} {x} f (past {input = b} g h l) = same-fed w room (append-assoc a b l) refl (past (fed-on w room f g) h l)
-
--- ---- at a line feed
-
-module _ (m : Memory) (l buffer out : List ℕ) (p : Progress) (k : Kept) (next : ℕ) (r : Progress) where
-  pub feed-waits : leb (p .written + lineRoom) (length out) ≡ false → r ≡ waitingAt p k
-      → AtFeed (session m l (p .tally) (p .lines) (held buffer (k .held))) out (p .written) (k .taken) next (session m l (r .tally) (r .lines) (held buffer (r .held))) out r
-  feed-waits h e = rw e (waits (leb-false _ _ h) refl refl refl refl refl)
-
-  pub feed-ends : (m′ : Memory) (l′ out′ : List ℕ) (x : Ending) → leb (p .written + lineRoom) (length out) ≡ true
-      → LineTold (session m l (p .tally) (p .lines) (held buffer (k .held))) (session m′ l′ (x .tally) (p .lines + 1) (held buffer 0)) out (p .written) out′ (x .written)
-      → r ≡ endedAt p x next
-      → AtFeed (session m l (p .tally) (p .lines) (held buffer (k .held))) out (p .written) (k .taken) next (session m′ l′ (r .tally) (r .lines) (held buffer (r .held))) out′ r
-  feed-ends m′ l′ out′ x h t e =
-      let room : p .written + lineRoom ≤ length out = leb-true _ _ h in
-      rw e (ends room t (omega (arith, t .told .within)) refl refl)
+fed-on w room {a} {x} f (line {input = b} {text = y} g h r l n u more e) =
+    same-fed w room (append-assoc a b (l ++ (10 ∷ []))) (append-assoc x y more) (line (fed-on w room f g) h (omega (arith, r, length-append x y)) l n u more e)
 
 -- ---- one step
 
--- nothing after the last line is read
-past-all : (w : Session) (input out : List ℕ) (p p′ : Progress) → maxLines ≤ w .lines → p .taken ≤ length input → p .written ≤ length out
-    → p′ .taken ≡ length input → p′ .written ≡ p .written → p′ .more ≡ false → Advanced w input out p w out p′
-past-all w input out p p′ h i o t u m =
-    record {
-      bytes = drop (p .taken) input;
-      text = [];
-      feeds = past nothing h (drop (p .taken) input);
-      read = rw (t, take-length input) (sym (take-append-drop (p .taken) input));
-      printed = subst (λ (n : ℕ). Printed [] out (p .written) out n) (sym u) (printed-none out (p .written) refl);
-      within = omega arith;
-      room = omega arith;
-      goes = λ e. absurd-more m e;
-      stops = λ e f. absurd (omega arith);
-    }
+-- a line feed before the end of the input ends a line that may be run
+pub next-line : (input : List ℕ) (size : ℕ) (p : Progress) (feed : ℕ) → NextFeed input size p feed → feed < length input
+    → (p .lines < maxLines) × (p .written + lineRoom ≤ size) × FeedAt input (p .taken) feed
+next-line input size p feed (found h o k) i = (h, o, k)
+next-line input size p feed (full h e) i = absurd (omega arith)
 
--- the part ends in the middle of a line
-kept-all : (w : Session) (input out : List ℕ) (h′ : Held) (p p′ : Progress) → w .lines < maxLines → p .written ≤ length out
-    → KeptFrom (w .held) input (p .taken) h′ (p′ .taken) → length input ≤ p′ .taken → p′ .written ≡ p .written → p′ .more ≡ false
-    → Advanced w input out p (session (w .memory) (w .answers) (w .tally) (w .lines) h′) out p′
-kept-all w input out h′ p p′ h o k e u m =
-    let x = k .keeps in
+-- a line ends at a line feed
+line-run : (w : Session) (input out : List ℕ) (p : Progress) (feed : ℕ) (w′ : Session) (out′ : List ℕ) (p′ : Progress) → w .lines < maxLines → p .written + lineRoom ≤ length out
+    → FeedAt input (p .taken) feed → feed < length input → LineTold w (between input (p .taken) feed) w′ out (p .written) out′ (p′ .written)
+    → p′ .taken ≡ feed + 1 → p′ .more ≡ true → Advanced w input out p w′ out′ p′
+line-run w input out p feed w′ out′ p′ h o k i t q m =
+    let l = between input (p .taken) feed in
     record {
-      bytes = x .bytes;
-      text = [];
-      feeds = subst (λ (y : Held). Fed w (length out - p .written) (x .bytes) [] (session (w .memory) (w .answers) (w .tally) (w .lines) y)) (sym (x .keeps)) (bytes nothing h (x .bytes) (x .plain));
-      read = x .read;
-      printed = subst (λ (n : ℕ). Printed [] out (p .written) out n) (sym u) (printed-none out (p .written) refl);
-      within = x .within;
-      room = omega arith;
-      goes = λ y. absurd-more m y;
-      stops = λ y f. absurd (omega arith);
-    }
-
-module _ (m : Memory) (l input out : List ℕ) (p r : Progress) (o : p .written ≤ length out) where
-  pub advanced-past : (buffer : List ℕ) → maxLines ≤ p .lines → p .taken ≤ length input → r ≡ passedAt p (length input)
-      → Advanced (session m l (p .tally) (p .lines) (held buffer (p .held))) input out p (session m l (r .tally) (r .lines) (held buffer (r .held))) out r
-  advanced-past buffer n t e = rw e (past-all (session m l (p .tally) (p .lines) (held buffer (p .held))) input out p (passedAt p (length input)) n t o refl refl refl)
-
-  pub advanced-kept : (h : Held) (buffer′ : List ℕ) (k : Kept) → p .lines < maxLines
-      → KeptFrom h input (p .taken) (held buffer′ (k .held)) (k .taken) → length input ≤ k .taken → r ≡ waitingAt p k
-      → Advanced (session m l (p .tally) (p .lines) h) input out p (session m l (r .tally) (r .lines) (held buffer′ (r .held))) out r
-  advanced-kept h buffer′ k n t i e = rw e (kept-all (session m l (p .tally) (p .lines) h) input out (held buffer′ (k .held)) p (waitingAt p k) n o t i refl refl)
-
--- the part has a line feed
-pub advanced-feed : (w : Session) (input out : List ℕ) (h′ : Held) (taken : ℕ) (w′ : Session) (out′ : List ℕ) (p p′ : Progress) → w .lines < maxLines → p .written ≤ length out
-    → KeptFrom (w .held) input (p .taken) h′ taken → taken < length input
-    → AtFeed (session (w .memory) (w .answers) (w .tally) (w .lines) h′) out (p .written) taken (taken + 1) w′ out′ p′
-    → Advanced w input out p w′ out′ p′
-advanced-feed w input out h′ taken w′ out′ p p′ h o k i (waits r e d q u m) =
-    let x = k .keeps in
-    let f : Fed w (length out - p .written) (x .bytes) [] (session (w .memory) (w .answers) (w .tally) (w .lines) h′) =
-    subst (λ (y : Held). Fed w (length out - p .written) (x .bytes) [] (session (w .memory) (w .answers) (w .tally) (w .lines) y)) (sym (x .keeps)) (bytes nothing h (x .bytes) (x .plain)) in
-    record {
-      bytes = x .bytes;
-      text = [];
-      feeds = subst (λ (y : Session). Fed w (length out - p .written) (x .bytes) [] y) (sym e) f;
-      read = rw q (x .read);
-      printed = rw (d, u) (printed-none out (p .written) refl);
-      within = omega (arith, x .within);
-      room = omega arith;
-      goes = λ y. absurd-more m y;
-      stops = λ y g. record { feed = rw q (k .stops i); short = omega arith; early = rw e h };
-    }
-advanced-feed w input out h′ taken w′ out′ p p′ h o k i (ends s t r q m) =
-    let x = k .keeps in
-    let f : Fed w (length out - p .written) (x .bytes) [] (session (w .memory) (w .answers) (w .tally) (w .lines) h′) =
-    subst (λ (y : Held). Fed w (length out - p .written) (x .bytes) [] (session (w .memory) (w .answers) (w .tally) (w .lines) y)) (sym (x .keeps)) (bytes nothing h (x .bytes) (x .plain)) in
-    let feed : getD input taken 0 ≡ 10 = k .stops i in
-    record {
-      bytes = x .bytes ++ (10 ∷ []);
+      bytes = l ++ (10 ∷ []);
       text = t .text;
-      feeds = line f h (omega arith) w′ (t .text) (t .ends);
-      read = rw (q, add-one, take-suc input taken 0 i, feed, x .read) (append-assoc (take (p .taken) input) (x .bytes) (10 ∷ []));
+      feeds = line nothing h (omega arith) l (k .bytes .plain) w′ (t .text) (t .ends);
+      read = rw (q, add-one, take-suc input feed 0 i, k .stops i, take-between input (p .taken) feed (k .bytes .onward)) (append-assoc (take (p .taken) input) l (10 ∷ []));
       printed = t .told .printed;
       within = omega arith;
-      room = r;
-      goes = λ y. omega (arith, x .onward);
-      stops = λ y. absurd-more y m;
+      room = omega (arith, t .told .within);
+      goes = λ y. omega (arith, k .bytes .onward);
+      rests = λ y. absurd-more y m;
     }
+
+module _ (m : Memory) (l buffer input out : List ℕ) (p r : Progress) (feed : ℕ) where
+  pub advanced-line : (m′ : Memory) (l′ buffer′ out′ : List ℕ) (x : Ending) → NextFeed input (length out) p feed → feed < length input
+      → LineTold (session m l (p .tally) (p .lines) (held buffer (p .held))) (between input (p .taken) feed) (session m′ l′ (x .tally) (p .lines + 1) (held buffer′ 0)) out (p .written) out′ (x .written)
+      → r ≡ endedAt p x (feed + 1)
+      → Advanced (session m l (p .tally) (p .lines) (held buffer (p .held))) input out p (session m′ l′ (r .tally) (r .lines) (held buffer′ (r .held))) out′ r
+  advanced-line m′ l′ buffer′ out′ x (found h o k) i t e =
+      rw e (line-run (session m l (p .tally) (p .lines) (held buffer (p .held))) input out p feed (session m′ l′ (x .tally) (p .lines + 1) (held buffer′ 0)) out′ (endedAt p x (feed + 1)) h o k i t refl refl)
+  advanced-line m′ l′ buffer′ out′ x (full h e) i t d = absurd (omega arith)
+
+  -- nothing is done where no line can be run
+  no-line : NextFeed input (length out) p feed → length input ≤ feed → p .lines < maxLines → p .written + lineRoom ≤ length out → Plain input (p .taken) (length input)
+  no-line (found h o k) i n q =
+      let e : feed ≡ length input = omega (arith, k .bytes .within) in
+      subst (λ (to : ℕ). Plain input (p .taken) to) e (k .bytes)
+  no-line (full h e) i n q = absurd (omega (arith, h n))
+
+  pub advanced-stopped : p .taken ≤ length input → p .written ≤ length out → NextFeed input (length out) p feed → length input ≤ feed → r ≡ stoppedAt p
+      → Advanced (session m l (p .tally) (p .lines) (held buffer (p .held))) input out p (session m l (r .tally) (r .lines) (held buffer (r .held))) out r
+  advanced-stopped t o k i e =
+      rw e
+      (record {
+        bytes = [];
+        text = [];
+        feeds = nothing;
+        read = sym (append-nil (take (p .taken) input));
+        printed = printed-none out (p .written) refl;
+        within = t;
+        room = o;
+        goes = λ y. absurd-more refl y;
+        rests = λ y n q. no-line k i n q;
+      })
 
 -- ---- all steps
 
 -- so far
 pub record Going (w : Session) (input out : List ℕ) (w′ : Session) (out′ : List ℕ) (p : Progress) : Type 0 where
   pub text : List ℕ
-  pub feeds : Fed w (length out) (take (p .taken) input) text w′
+  pub feeds : LinesFed w (length out) (take (p .taken) input) text w′
   pub wrote : out′ ≡ text ++ drop (length text) out
   pub count : p .written ≡ length text
   pub within : p .taken ≤ length input
   pub room : p .written ≤ length out
   pub size : length out′ ≡ length out
-  pub stops : p .more ≡ false → p .taken < length input → Stops w′ input out (p .taken) (p .written)
+  pub rests : p .more ≡ false → p .lines < maxLines → p .written + lineRoom ≤ length out → Plain input (p .taken) (length input)
 
 pub going-starts : (m : Memory) (l : List ℕ) (n : ℕ) (buffer : List ℕ) (count : ℕ) (input out : List ℕ) (t : Tally) (p : Progress)
     → p ≡ begunAt t n count
@@ -167,7 +123,7 @@ going-starts m l n buffer count input out t p e =
       within = omega arith;
       room = omega arith;
       size = refl;
-      stops = λ f. absurd-more f refl;
+      rests = λ f. absurd-more f refl;
     })
 
 -- what is written behind what was written
@@ -191,26 +147,59 @@ going-on w input out v mid p w′ out′ p′ g a =
     let left : length mid - p .written ≡ length out - length (g .text) = omega (arith, g .size, g .count) in
     record {
       text = g .text ++ a .text;
-      feeds = subst (λ (l : List ℕ). Fed w (length out) l (g .text ++ a .text) w′) (sym (a .read)) (fed-on w (length out) (g .feeds) (subst (λ (n : ℕ). Fed v n (a .bytes) (a .text) w′) left (a .feeds)));
+      feeds = subst (λ (l : List ℕ). LinesFed w (length out) l (g .text ++ a .text) w′) (sym (a .read)) (fed-on w (length out) (g .feeds) (subst (λ (n : ℕ). LinesFed v n (a .bytes) (a .text) w′) left (a .feeds)));
       wrote = wrote;
       count = count;
       within = a .within;
       room = room;
       size = written-size (g .text ++ a .text) out out′ wrote (omega arith);
-      stops = λ e h. record { feed = a .stops e h .feed; short = omega (arith, a .stops e h .short, g .size); early = a .stops e h .early };
+      rests = λ e n q. a .rests e n (omega (arith, q, g .size));
     }
 
-pub going-ends : (m : Memory) (l : List ℕ) (u t : Tally) (n : ℕ) (h : Held) (input out : List ℕ) (w′ : Session) (out′ : List ℕ) (p : Progress)
-    → u ≡ t → Going (session m l u n h) input out w′ out′ p → p .more ≡ false → PartFed (session m l t n h) input out w′ out′ (p .taken) (p .written)
-going-ends m l u t n h input out w′ out′ p e g f =
-    record {
-      text = g .text;
-      feeds = subst (λ (x : Tally). Fed (session m l x n h) (length out) (take (p .taken) input) (g .text) w′) e (g .feeds);
-      wrote = g .wrote;
-      count = g .count;
-      within = g .within;
-      stops = g .stops f;
-    }
+-- and then the bytes after the lines
+module _ (w : Session) (input out : List ℕ) (m : Memory) (l buffer out′ : List ℕ) (p : Progress) (g : Going w input out (session m l (p .tally) (p .lines) (held buffer (p .held))) out′ p) where
+  -- a line feed after them has no room for its line
+  no-room : (feed : ℕ) → p .more ≡ false → p .lines < maxLines → FeedAt input (p .taken) feed → feed < length input → length out < p .written + lineRoom
+  no-room feed f h k i = go (decLe (p .written + lineRoom) (length out))
+    where
+      go : Dec (p .written + lineRoom ≤ length out) → length out < p .written + lineRoom
+      go (yes q) = none-found input (p .taken) feed (g .rests f h q) (k .bytes .onward) i (k .stops i)
+      go (no q) = omega arith
+
+  rest-kept : (buffer′ : List ℕ) (n feed : ℕ) → p .more ≡ false → p .lines < maxLines → FeedAt input (p .taken) feed → held buffer′ n ≡ putAll (held buffer (p .held)) (between input (p .taken) feed)
+      → PartFed w input out (session m l (p .tally) (p .lines) (held buffer′ n)) out′ feed (p .written)
+  rest-kept buffer′ n feed f h k e =
+      record {
+        text = g .text;
+        feeds = rw (e, take-between input (p .taken) feed (k .bytes .onward)) (bytes (g .feeds) h (between input (p .taken) feed) (k .bytes .plain));
+        wrote = g .wrote;
+        count = g .count;
+        within = k .bytes .within;
+        stops = λ i. record { feed = k .stops i; short = no-room feed f h k i; early = h };
+      }
+
+  rest-passed : maxLines ≤ p .lines → PartFed w input out (session m l (p .tally) (p .lines) (held buffer (p .held))) out′ (length input) (p .written)
+  rest-passed h =
+      record {
+        text = g .text;
+        feeds = rw (take-length input, ← take-append-drop (p .taken) input) (past (g .feeds) h (drop (p .taken) input));
+        wrote = g .wrote;
+        count = g .count;
+        within = omega arith;
+        stops = λ i. absurd (omega arith);
+      }
+
+  rest-ends : (buffer′ : List ℕ) (p′ : Progress) → p .more ≡ false → RestKept p buffer input p′ buffer′
+      → PartFed w input out (session m l (p′ .tally) (p′ .lines) (held buffer′ (p′ .held))) out′ (p′ .taken) (p′ .written)
+  rest-ends buffer′ p′ f (waits n feed h k e d) = rw d (rest-kept buffer′ n feed f h k e)
+  rest-ends buffer′ p′ f (passes h e d) = rw (d, e) (rest-passed h)
+
+pub going-ends : (m : Memory) (l : List ℕ) (u t : Tally) (n : ℕ) (h : Held) (input out : List ℕ) (m′ : Memory) (l′ buffer out′ : List ℕ) (p : Progress) (buffer′ : List ℕ) (p′ : Progress)
+    → u ≡ t → Going (session m l u n h) input out (session m′ l′ (p .tally) (p .lines) (held buffer (p .held))) out′ p → p .more ≡ false → RestKept p buffer input p′ buffer′
+    → PartFed (session m l t n h) input out (session m′ l′ (p′ .tally) (p′ .lines) (held buffer′ (p′ .held))) out′ (p′ .taken) (p′ .written)
+going-ends m l u t n h input out m′ l′ buffer out′ p buffer′ p′ e g f k =
+    subst (λ (x : Tally). PartFed (session m l x n h) input out (session m′ l′ (p′ .tally) (p′ .lines) (held buffer′ (p′ .held))) out′ (p′ .taken) (p′ .written)) e
+    (rest-ends (session m l u n h) input out m′ l′ buffer out′ p g buffer′ p′ f k)
 
 -- ---- the steps end: each of them takes a byte, or is the last
 

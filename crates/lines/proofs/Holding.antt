@@ -1,44 +1,32 @@
 -- The bytes of the present line, one after the other.
+use mathlib.Core.Logic.{_≢_}
 use mathlib.Core.Path.{_≡_, refl, sym, ap, _∙_}
 use mathlib.Core.Bool.{Bool, true, false}
-use mathlib.Core.List.{List, [], _∷_, _++_, append-assoc, append-nil}
+use mathlib.Core.List.{List, [], _∷_, _++_}
 use Prim.Native.Nat.{ℕ, _+_, _≤_, _<_, min}
 use native.Mathlib.Omega.{arith}
 use native.Mathlib.Numerals.{add-one}
 use native.Mathlib.Decide.{decLe}
 use native.Mathlib.Nat.{min-eq-left, min-eq-right, le-refl}
-use lib.Dec.{eqb, ltb}
+use lib.Dec.{ltb}
 use lib.ListN.{length, take, getD, length-set}
 use lib.Seq.{take-suc, take-all, take-suc-set, length-take-le}
-use borrow.Author.Tests.{lt-leb, le-leb, ltb-true, ltb-false}
+use borrow.Author.Tests.{lt-leb, le-leb, ltb-true, ltb-false, eq-eqb, ne-eqb}
 use Rattle.model.specs.Measures.{maxLineBytes}
 use Rattle.input.specs.Reading.{kept, keptAll}
-use Rattle.input.proofs.Parts.{no-feed-append}
-use Rattle.lines.specs.Sessions.{Held, held, presentLine, put, putAll}
-use Rattle.lines.specs.Lines.{KeptTo}
+use Rattle.lines.specs.Sessions.{Held, held, presentLine, put, putAll, endedLine, heldAfter}
 
 pub putAll-append : (h : Held) (a b : List ℕ) → putAll h (a ++ b) ≡ putAll (putAll h a) b
 unfolding putAll
 putAll-append h [] b = refl
 putAll-append h (x ∷ a) b = putAll-append (put h x) a b
 
-pub starts : (h : Held) (input : List ℕ) (from : ℕ) → from ≤ length input → KeptTo h input from h from
+-- one more byte of them
+pub put-next : (h : Held) (l : List ℕ) (i : ℕ) (h′ : Held) → h′ ≡ putAll h (take i l) → i < length l → put h′ (getD l i 0) ≡ putAll h (take (i + 1) l)
 unfolding putAll
-starts h input from w = record { bytes = []; read = sym (append-nil (take from input)); plain = tt; keeps = refl; within = w; onward = omega arith }
-
-pub goes : (h : Held) (input : List ℕ) (from : ℕ) (h′ : Held) (i : ℕ) → KeptTo h input from h′ i → i < length input → eqb (getD input i 0) 10 ≡ false → KeptTo h input from (put h′ (getD input i 0)) (i + 1)
-unfolding putAll
-goes h input from h′ i k w e =
-    let b : ℕ = getD input i 0 in
-    let next : take (i + 1) input ≡ take i input ++ (b ∷ []) = rw add-one (take-suc input i 0 w) in
-    record {
-      bytes = k .bytes ++ (b ∷ []);
-      read = next ∙ ap (λ (l : List ℕ). l ++ (b ∷ [])) (k .read) ∙ append-assoc (take from input) (k .bytes) (b ∷ []);
-      plain = no-feed-append (k .bytes) (b ∷ []) (k .plain) (e, tt);
-      keeps = ap (λ (x : Held). put x b) (k .keeps) ∙ sym (putAll-append h (k .bytes) (b ∷ []));
-      within = omega arith;
-      onward = omega (arith, k .onward);
-    }
+put-next h l i h′ e w =
+    let next : take (i + 1) l ≡ take i l ++ (getD l i 0 ∷ []) = rw add-one (take-suc l i 0 w) in
+    ap (λ (x : Held). put x (getD l i 0)) e ∙ sym (putAll-append h (take i l) (getD l i 0 ∷ [])) ∙ ap (putAll h) (sym next)
 
 -- a count above the room counts as all of it
 pub present-cut : (l : List ℕ) (count : ℕ) → take (min (length l) count) l ≡ presentLine (held l count)
@@ -88,3 +76,21 @@ pub putAll-size : (h : Held) (l : List ℕ) → length (putAll h l .bytes) ≡ l
 unfolding putAll
 putAll-size h [] = refl
 putAll-size h (b ∷ l) = putAll-size (put h b) l ∙ put-size h b
+
+-- ---- a line at its end: nothing is held before it, or some bytes
+
+pub ended-whole : (h : Held) (l : List ℕ) → h .count ≡ 0 → endedLine h l ≡ l
+unfolding endedLine
+ended-whole h l e = rw (endedLine, eq-eqb (h .count) 0 e)
+
+pub ended-rest : (h : Held) (l : List ℕ) → h .count ≢ 0 → endedLine h l ≡ presentLine (putAll h l)
+unfolding endedLine
+ended-rest h l n = rw (endedLine, ne-eqb (h .count) 0 n)
+
+pub after-whole : (h : Held) (l : List ℕ) → h .count ≡ 0 → heldAfter h l ≡ h
+unfolding heldAfter
+after-whole h l e = rw (heldAfter, eq-eqb (h .count) 0 e)
+
+pub after-rest : (h : Held) (l : List ℕ) → h .count ≢ 0 → heldAfter h l ≡ held (putAll h l .bytes) 0
+unfolding heldAfter
+after-rest h l n = rw (heldAfter, ne-eqb (h .count) 0 n)

@@ -1,4 +1,5 @@
 -- Laws that belong to no one function.
 pub mod Holding
+pub mod Finding
 pub mod Told
 pub mod Advancing

@@ -7,20 +7,24 @@ use lib.ListN.{length, take, drop, getD}
 use Rattle.model.specs.Measures.{maxLines}
 use Rattle.print.specs.Printed.{Printed}
 use Rattle.input.specs.Reading.{NoFeed}
-use Rattle.lines.specs.Sessions.{Session, keeping}
-use Rattle.lines.specs.Lines.{LineEnded, LineTold}
+use Rattle.lines.specs.Sessions.{held, putAll, Session, keeping}
+use Rattle.lines.specs.Lines.{between, Plain, FeedAt, LineEnded}
 use Rattle.progress.specs.declared.Progress.{Progress}
+use Rattle.progress.specs.Progress.{waitingAt, passedAt}
 use Rattle.print.specs.Room.{lineRoom}
 
 -- ---- a part of the input
 
--- w is fed the input, prints the text into an output with `room` bytes left and becomes v: bytes of a line are kept, and a line is
--- run where it ends and as long as there is room; nothing after line 4,294,967,295 is read
+-- the lines that end in the input are run, one after the other, as long as an output with `room` bytes has room for what they print: from
+-- w to v, with this text. Each has bytes l in this part, before its line feed
+pub data LinesFed (w : Session) (room : ℕ) : List ℕ → List ℕ → Session → Type 0 where
+  nothing : LinesFed w room [] [] w
+  line : {input text : List ℕ} {v : Session} → LinesFed w room input text v → v .lines < maxLines → length text + lineRoom ≤ room → (l : List ℕ) → NoFeed l → (u : Session) (more : List ℕ) → LineEnded v l u more → LinesFed w room (input ++ (l ++ (10 ∷ []))) (text ++ more) u
+
+-- and the bytes after them are kept; nothing after line 4,294,967,295 is read
 pub data Fed (w : Session) (room : ℕ) : List ℕ → List ℕ → Session → Type 0 where
-  nothing : Fed w room [] [] w
-  bytes : {input text : List ℕ} {v : Session} → Fed w room input text v → v .lines < maxLines → (l : List ℕ) → NoFeed l → Fed w room (input ++ l) text (keeping v l)
-  line : {input text : List ℕ} {v : Session} → Fed w room input text v → v .lines < maxLines → length text + lineRoom ≤ room → (u : Session) (more : List ℕ) → LineEnded v u more → Fed w room (input ++ (10 ∷ [])) (text ++ more) u
-  past : {input text : List ℕ} {v : Session} → Fed w room input text v → maxLines ≤ v .lines → (l : List ℕ) → Fed w room (input ++ l) text v
+  bytes : {input text : List ℕ} {v : Session} → LinesFed w room input text v → v .lines < maxLines → (l : List ℕ) → NoFeed l → Fed w room (input ++ l) text (keeping v l)
+  past : {input text : List ℕ} {v : Session} → LinesFed w room input text v → maxLines ≤ v .lines → (l : List ℕ) → Fed w room (input ++ l) text v
 
 -- bytes are left only from a line feed on, where the output has no room for a line
 pub record Stops (w′ : Session) (input out : List ℕ) (taken written : ℕ) : Type 0 where
@@ -39,19 +43,24 @@ pub record PartFed (w : Session) (input out : List ℕ) (w′ : Session) (out′
 
 -- ---- parts of it
 
--- at a line feed: nothing where there is no room, else the line; the next byte is at `next`
-pub data AtFeed (w : Session) (out : List ℕ) (at taken next : ℕ) (w′ : Session) (out′ : List ℕ) (r : Progress) : Type 0 where
-  waits : length out < at + lineRoom → w′ ≡ w → out′ ≡ out → r .taken ≡ taken → r .written ≡ at → r .more ≡ false → AtFeed w out at taken next w′ out′ r
-  ends : at + lineRoom ≤ length out → LineTold w w′ out at out′ (r .written) → r .written ≤ length out → r .taken ≡ next → r .more ≡ true → AtFeed w out at taken next w′ out′ r
+-- the end of the next line, where there is room for what it prints; else the end of the input
+pub data NextFeed (input : List ℕ) (size : ℕ) (p : Progress) (r : ℕ) : Type 0 where
+  found : p .lines < maxLines → p .written + lineRoom ≤ size → FeedAt input (p .taken) r → NextFeed input size p r
+  full : (p .lines < maxLines → size < p .written + lineRoom) → r ≡ length input → NextFeed input size p r
 
--- one step of feeding: bytes up to the end of the part, or a line, or nothing more
+-- one step of feeding: a line, or nothing where no line that ends in the part can be run
 pub record Advanced (w : Session) (input out : List ℕ) (p : Progress) (w′ : Session) (out′ : List ℕ) (p′ : Progress) : Type 0 where
   pub bytes : List ℕ
   pub text : List ℕ
-  pub feeds : Fed w (length out - p .written) bytes text w′
+  pub feeds : LinesFed w (length out - p .written) bytes text w′
   pub read : take (p′ .taken) input ≡ take (p .taken) input ++ bytes
   pub printed : Printed text out (p .written) out′ (p′ .written)
   pub within : p′ .taken ≤ length input
   pub room : p′ .written ≤ length out
   pub goes : p′ .more ≡ true → p .taken < p′ .taken
-  pub stops : p′ .more ≡ false → p′ .taken < length input → Stops w′ input out (p′ .taken) (p′ .written)
+  pub rests : p′ .more ≡ false → p′ .lines < maxLines → p′ .written + lineRoom ≤ length out → Plain input (p′ .taken) (length input)
+
+-- the bytes after the lines that were run: those up to a line feed are kept in the array of the present line, or all are passed over
+pub data RestKept (p : Progress) (line input : List ℕ) (p′ : Progress) (line′ : List ℕ) : Type 0 where
+  waits : (n feed : ℕ) → p .lines < maxLines → FeedAt input (p .taken) feed → held line′ n ≡ putAll (held line (p .held)) (between input (p .taken) feed) → p′ ≡ waitingAt p n feed → RestKept p line input p′ line′
+  passes : maxLines ≤ p .lines → line′ ≡ line → p′ ≡ passedAt p (length input) → RestKept p line input p′ line′

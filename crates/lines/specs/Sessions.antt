@@ -2,7 +2,7 @@
 use mathlib.Core.Bool.{true, false}
 use mathlib.Core.List.{List, [], _∷_}
 use Prim.Native.Nat.{ℕ, _+_}
-use lib.Dec.{ltb}
+use lib.Dec.{eqb, ltb}
 use lib.ListN.{take, set}
 use Rattle.views.specs.Memory.{Memory}
 use Rattle.runs.specs.Meaning.{stateIn}
@@ -31,6 +31,14 @@ put h b = elim (ltb (h .count) heldRoom) [ true ↦ held (set (h .bytes) (h .cou
 unfoldable pub putAll : Held → List ℕ → Held
 putAll h [] = h
 putAll h (b ∷ l) = putAll (put h b) l
+
+-- the line that ends after the bytes l: they are all of it where nothing is held, else they follow what is held
+unfoldable pub endedLine : Held → List ℕ → List ℕ
+endedLine h l = elim (eqb (h .count) 0) [ true ↦ l | false ↦ presentLine (putAll h l) ]
+
+-- nothing is held after it; the array has its bytes only where some were held before
+unfoldable pub heldAfter : Held → List ℕ → Held
+heldAfter h l = elim (eqb (h .count) 0) [ true ↦ h | false ↦ held (putAll h l .bytes) 0 ]
 
 -- the cluster's memory, the answers of the last line, the tally, the lines read, and the present line
 pub record Session : Type 0 where

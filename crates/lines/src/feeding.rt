@@ -1,5 +1,6 @@
-// A part of the input: bytes are kept, and lines run where they end, as long as the output has room.
+// A part of the input: lines are run where they end, as long as the output has room; the bytes after them are kept.
 use crate::keeping::keep;
+use crate::keeping::line_feed;
 use crate::running::end_line;
 use memory::AnswerWords;
 use memory::CopyBytes;
@@ -10,7 +11,6 @@ use memory::QueueWords;
 use memory::SlotWords;
 use memory::TextBytes;
 use memory::WorkingBytes;
-use progress::Kept;
 use progress::KeptLine;
 use progress::MAX_LINES;
 use progress::Progress;
@@ -18,58 +18,31 @@ use progress::begun;
 use progress::ended;
 use progress::has_room;
 use progress::passed;
+use progress::stopped;
 use progress::waiting;
 use runs::Tally;
-ghost use Prim.Native.Nat.{_≤_, _<_};
+ghost use Prim.Native.Nat.{_≤_};
 ghost use lib.ListN.{length};
-ghost use Rattle.model.specs.Measures.{maxLines};
 ghost use Rattle.views.specs.Lent.{lent};
-ghost use Rattle.lines.specs.Lent.{ReachesFeed, Advances, FeedsPart};
+ghost use Rattle.memory.specs.Lent.{was, is};
+ghost use Rattle.lines.specs.Feeding.{NextFeed, RestKept};
+ghost use Rattle.lines.specs.Lent.{Advances, FeedsPart};
 
-// A line feed is reached: the line is run, if there is room for what it prints. The byte after the line feed is at `next`.
-fn at_feed(
-    counts: &mut CountWords,
-    heads: &mut HeadWords,
-    slots: &mut SlotWords,
-    copies: &mut CopyBytes,
-    working: &mut WorkingBytes,
-    texts: &mut TextBytes,
-    queue: &mut QueueWords,
-    payloads: &mut PayloadBytes,
-    answers: &mut AnswerWords,
-    line: &KeptLine,
-    out: &mut [u8],
-    progress: Progress,
-    kept: Kept,
-    next: usize,
-) -> Progress
-    requires { ⌜ progress .lines < maxLines ⌝ }
-    ensures { λ r. ⌜ ReachesFeed (lent counts heads slots copies working texts queue payloads answers) line out progress kept next r ⌝ }
+// The line feed that ends the next line, if there is room for what the line prints; else the end of the input. Nothing after line
+// 4,294,967,295 is read.
+fn next_feed(input: &[u8], size: usize, progress: Progress) -> usize
+    requires { ⌜ progress .taken ≤ length (now input) ⌝ }
+    ensures { λ r. ⌜ NextFeed (was input) size progress r ⌝ }
 {
-    if has_room(out.len(), progress.written) {
-        let ending = end_line(
-            counts,
-            heads,
-            slots,
-            copies,
-            working,
-            texts,
-            queue,
-            payloads,
-            answers,
-            line,
-            out,
-            progress.tally,
-            progress.lines,
-            kept.held,
-            progress.written,
-        );
-        return ended(progress, ending, next);
+    if progress.lines < MAX_LINES {
+        if has_room(size, progress.written) {
+            return line_feed(input, progress.taken);
+        }
     }
-    waiting(progress, kept)
+    input.len()
 }
 
-// Bytes up to the next line feed, and the line that it ends. Nothing after line 4,294,967,295 is read.
+// The next line that ends in the part is run, if there is one and room for what it prints.
 fn advance(
     counts: &mut CountWords,
     heads: &mut HeadWords,
@@ -88,28 +61,40 @@ fn advance(
     requires { ⌜ (progress .taken ≤ length (now input)) × (progress .written ≤ length (now out)) ⌝ }
     ensures { λ r. ⌜ Advances (lent counts heads slots copies working texts queue payloads answers) line out input progress r ⌝ }
 {
+    let from = progress.taken;
+    let feed = next_feed(input, out.len(), progress);
+    if feed < input.len() {
+        let next = feed + 1;
+        let ending = end_line(
+            counts,
+            heads,
+            slots,
+            copies,
+            working,
+            texts,
+            queue,
+            payloads,
+            answers,
+            line,
+            out,
+            &input[from..feed],
+            progress,
+        );
+        return ended(progress, ending, next);
+    }
+    stopped(progress)
+}
+
+// The bytes after the last line that was run are kept, up to a line feed.
+fn keep_rest(line: &mut KeptLine, input: &[u8], progress: Progress) -> Progress
+    requires { ⌜ progress .taken ≤ length (now input) ⌝ }
+    ensures { λ r. ⌜ RestKept progress (was line) (was input) r (is line) ⌝ }
+{
     if progress.lines < MAX_LINES {
-        let kept = keep(line, input, progress.held, progress.taken);
-        if kept.taken < input.len() {
-            let next = kept.taken + 1;
-            return at_feed(
-                counts,
-                heads,
-                slots,
-                copies,
-                working,
-                texts,
-                queue,
-                payloads,
-                answers,
-                line,
-                out,
-                progress,
-                kept,
-                next,
-            );
-        }
-        return waiting(progress, kept);
+        let from = progress.taken;
+        let feed = line_feed(input, from);
+        let held = keep(line, &input[from..feed], progress.held);
+        return waiting(progress, held, feed);
     }
     passed(progress, input.len())
 }
@@ -152,5 +137,5 @@ pub fn feed_part(
             progress,
         );
     }
-    progress
+    keep_rest(line, input, progress)
 }

@@ -3,17 +3,15 @@ use entries::keys::at_most;
 use parse::Line;
 use parse::parse_line;
 use progress::KEPT_LEN;
-use progress::Kept;
 use progress::KeptLine;
 use progress::LINE_FEED;
 ghost use mathlib.Core.Path.{_≡_};
 ghost use Prim.Native.Nat.{_≤_};
 ghost use lib.ListN.{length};
-ghost use Rattle.model.specs.Parse.{parse};
-ghost use Rattle.parse.specs.Meaning.{parsed};
 ghost use Rattle.memory.specs.Lent.{was, is};
-ghost use Rattle.lines.specs.Sessions.{held, put, presentLine};
-ghost use Rattle.lines.specs.Lines.{KeptFrom};
+ghost use Rattle.lines.specs.Sessions.{held, put, putAll, presentLine};
+ghost use Rattle.lines.specs.Lines.{FeedAt};
+ghost use Rattle.lines.specs.Lent.{ReadsLine};
 
 // One more byte, where there is room.
 fn keep_byte(line: &mut KeptLine, count: usize, byte: u8) -> usize
@@ -26,28 +24,49 @@ fn keep_byte(line: &mut KeptLine, count: usize, byte: u8) -> usize
     count
 }
 
-// The bytes of the input up to the next line feed, or to its end.
-pub fn keep(line: &mut KeptLine, input: &[u8], count: usize, from: usize) -> Kept
-    requires { ⌜ from ≤ length (now input) ⌝ }
-    ensures { λ r. ⌜ KeptFrom (held (was line) count) (was input) from (held (is line) (r .held)) (r .taken) ⌝ }
+// Bytes of the present line, behind those that are kept already.
+pub fn keep(line: &mut KeptLine, bytes: &[u8], count: usize) -> usize
+    ensures { λ r. ⌜ held (is line) r ≡ putAll (held (was line) count) (was bytes) ⌝ }
 {
     let mut held = count;
-    let mut i = from;
-    while i < input.len() {
-        let byte = input[i];
-        if byte == LINE_FEED {
-            return Kept { held, taken: i };
-        }
-        held = keep_byte(line, held, byte);
+    let mut i = 0;
+    while i < bytes.len() {
+        held = keep_byte(line, held, bytes[i]);
         i += 1;
     }
-    Kept { held, taken: i }
+    held
 }
 
-// The present line, read.
-pub fn read_line(line: &[u8], count: usize) -> Line
-    ensures { λ r. ⌜ r ≡ parsed (parse (presentLine (held (was line) count))) ⌝ }
+// The bytes that are kept; a count above the room counts as all of it.
+fn kept_bytes(line: &[u8], count: usize) -> &[u8]
+    ensures { λ r. ⌜ now r ≡ presentLine (held (was line) count) ⌝ }
 {
     let length = at_most(count, line.len());
-    parse_line(&line[..length])
+    &line[..length]
+}
+
+// The present line, read; these are its last bytes. Where nothing of it is kept they are all of it, and it is read where it lies.
+pub fn read_line(line: &mut KeptLine, bytes: &[u8], count: usize) -> Line
+    ensures { λ r. ⌜ ReadsLine line bytes count r ⌝ }
+{
+    if count == 0 {
+        return parse_line(bytes);
+    }
+    let kept = keep(line, bytes, count);
+    parse_line(kept_bytes(line, kept))
+}
+
+// The place of the next line feed, or the end of the input.
+pub fn line_feed(input: &[u8], from: usize) -> usize
+    requires { ⌜ from ≤ length (now input) ⌝ }
+    ensures { λ r. ⌜ FeedAt (was input) from r ⌝ }
+{
+    let mut i = from;
+    while i < input.len() {
+        if input[i] == LINE_FEED {
+            return i;
+        }
+        i += 1;
+    }
+    i
 }

@@ -1,5 +1,6 @@
-// A part of the input on the lent arrays: the bytes of a line are kept until it ends; then it is read, run and told, as long as the
-// output has room. What one line leaves is said in specs/Lines.antt, and what a part leaves in specs/Feeding.antt.
+// A part of the input on the lent arrays: a line is read where it lies, run and told, as long as the output has room; bytes are kept only
+// of a line that lies across parts or waits for room. What one line leaves is said in specs/Lines.antt, and what a part leaves in
+// specs/Feeding.antt.
 pub mod feeding;
 mod keeping;
 mod running;

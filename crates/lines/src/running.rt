@@ -13,7 +13,7 @@ use memory::WorkingBytes;
 use output::put_outcome;
 use progress::Ending;
 use progress::KeptLine;
-use runs::Tally;
+use progress::Progress;
 ghost use Prim.Native.Nat.{_≤_, _<_, _+_};
 ghost use lib.ListN.{length};
 ghost use Rattle.model.specs.Measures.{maxLines};
@@ -21,7 +21,7 @@ ghost use Rattle.print.specs.Room.{lineRoom};
 ghost use Rattle.views.specs.Lent.{lent};
 ghost use Rattle.lines.specs.Lent.{EndsLine};
 
-// The present line, read, run and told: line number `lines` + 1.
+// The present line, of which these are the last bytes: read, run and told.
 pub fn end_line(
     counts: &mut CountWords,
     heads: &mut HeadWords,
@@ -32,17 +32,16 @@ pub fn end_line(
     queue: &mut QueueWords,
     payloads: &mut PayloadBytes,
     answers: &mut AnswerWords,
-    line: &KeptLine,
+    line: &mut KeptLine,
     out: &mut [u8],
-    tally: Tally,
-    lines: usize,
-    count: usize,
-    at: usize,
+    bytes: &[u8],
+    progress: Progress,
 ) -> Ending
-    requires { ⌜ (lines < maxLines) × (at + lineRoom ≤ length (now out)) ⌝ }
-    ensures { λ r. ⌜ EndsLine (lent counts heads slots copies working texts queue payloads answers) line out tally lines count at r ⌝ }
+    requires { ⌜ (progress .lines < maxLines) × (progress .written + lineRoom ≤ length (now out)) ⌝ }
+    ensures { λ r. ⌜ EndsLine (lent counts heads slots copies working texts queue payloads answers) line out bytes progress r ⌝ }
 {
-    let parsed = read_line(line, count);
+    let parsed = read_line(line, bytes, progress.held);
+    let tally = progress.tally;
     let stepped = step(
         counts,
         heads,
@@ -57,8 +56,8 @@ pub fn end_line(
         parsed,
     );
     let report = stepped.report;
-    let number = (lines + 1) as u32;
-    let written = put_outcome(out, at, number, report, answers);
+    let number = (progress.lines + 1) as u32;
+    let written = put_outcome(out, progress.written, number, report, answers);
     let after = stepped.tally;
     Ending {
         tally: after,

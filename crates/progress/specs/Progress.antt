@@ -4,7 +4,6 @@ use mathlib.Core.List.{List, [], _∷_}
 use Prim.Native.Nat.{ℕ, _+_}
 use lib.Dec.{eqb}
 use Rattle.runs.specs.declared.Tally.{Tally}
-use Rattle.progress.specs.declared.Kept.{Kept}
 use Rattle.progress.specs.declared.Ending.{Ending}
 use Rattle.progress.specs.declared.Progress.{Progress}
 
@@ -12,9 +11,13 @@ use Rattle.progress.specs.declared.Progress.{Progress}
 abbrev pub begunAt : Tally → ℕ → ℕ → Progress
 begunAt t lines count = record { tally = t; lines = lines; held = count; taken = 0; written = 0; more = true }
 
+-- no line is run any more
+abbrev pub stoppedAt : Progress → Progress
+stoppedAt p = record { tally = p .tally; lines = p .lines; held = p .held; taken = p .taken; written = p .written; more = false }
+
 -- the present line is not run: its bytes are kept
-abbrev pub waitingAt : Progress → Kept → Progress
-waitingAt p k = record { tally = p .tally; lines = p .lines; held = k .held; taken = k .taken; written = p .written; more = false }
+abbrev pub waitingAt : Progress → (held taken : ℕ) → Progress
+waitingAt p held taken = record { tally = p .tally; lines = p .lines; held = held; taken = taken; written = p .written; more = false }
 
 -- the present line was run
 abbrev pub endedAt : Progress → Ending → ℕ → Progress

@@ -9,7 +9,7 @@ ghost use lib.Dec.{leb};
 ghost use lib.ListN.{take, set};
 ghost use Rattle.model.specs.Measures.{maxLines};
 ghost use Rattle.print.specs.Room.{lineRoom};
-ghost use Rattle.progress.specs.Progress.{begunAt, waitingAt, endedAt, passedAt, lastFeed};
+ghost use Rattle.progress.specs.Progress.{begunAt, stoppedAt, waitingAt, endedAt, passedAt, lastFeed};
 
 // What ends a line.
 pub const LINE_FEED: u8 = 10;
@@ -33,12 +33,6 @@ pub type ReaderWords = [usize; READER_LEN];
 pub const KEPT_LEN: usize = MAX_LINE + 1;
 
 pub type KeptLine = [u8; KEPT_LEN];
-
-// The bytes kept of the present line, and how far the input was read for it.
-pub struct Kept {
-    pub held: usize,
-    pub taken: usize,
-}
 
 // The tally after a line, and where its text ends in the output.
 pub struct Ending {
@@ -71,16 +65,25 @@ pub fn begun(tally: Tally, lines: usize, count: usize) -> Progress
     }
 }
 
+// No line that ends in the part can be run any more.
+pub fn stopped(progress: Progress) -> Progress
+    ensures { λ r. ⌜ r ≡ stoppedAt progress ⌝ }
+{
+    let mut after = progress;
+    after.more = false;
+    after
+}
+
 // The present line is not at its end, or has no room for what it prints: its bytes are kept.
-pub fn waiting(progress: Progress, kept: Kept) -> Progress
-    ensures { λ r. ⌜ r ≡ waitingAt progress kept ⌝ }
+pub fn waiting(progress: Progress, held: usize, taken: usize) -> Progress
+    ensures { λ r. ⌜ r ≡ waitingAt progress held taken ⌝ }
 {
     let tally = progress.tally;
     Progress {
         tally,
         lines: progress.lines,
-        held: kept.held,
-        taken: kept.taken,
+        held,
+        taken,
         written: progress.written,
         more: false,
     }

@@ -1,57 +1,78 @@
 -- `feeding::advance` meets its contract.
-use Rattle.lines.proofs.Advancing.{advanced-past, advanced-kept, advanced-feed}
 use borrow.Author.Needs.{needs}
+use Rattle.lines.proofs.Advancing.{next-line, advanced-line, advanced-stopped}
 use Rattle.lines.proofs.feeding.advance.Statement.{statement}
 use Rattle.lines.proofs.feeding.advance.Tie as tie
 
-keep-requires : tie.Need-keep-requires
-keep-requires c κs = search needs
+next-feed-requires : tie.Need-next-feed-requires
+next-feed-requires c κs = search needs
 
 add-next : tie.Need-add-next
 add-next c = search needs
 
-at-feed-requires : tie.Need-at-feed-requires
-at-feed-requires c κs = search needs
+sub-end-line : tie.Need-sub-end-line
+sub-end-line c =
+    let next-feed = c .before .before .before .before .before .before .before .before .before .before .before .before .next-feed in
+    let if1 = c .before .before .before .before .before .before .before .before .before .before .before .if1 in
+    next-line _ _ _ _ (next-feed .ensures) (if1 .taken) .2 .bytes .onward
+
+part-end-line-start : tie.Need-part-end-line-start
+part-end-line-start c =
+    let next-feed = c .before .before .before .before .before .before .before .before .before .before .before .before .next-feed in
+    let if1 = c .before .before .before .before .before .before .before .before .before .before .before .if1 in
+    next-line _ _ _ _ (next-feed .ensures) (if1 .taken) .2 .bytes .onward
+
+part-end-line-end : tie.Need-part-end-line-end
+part-end-line-end c =
+    let next-feed = c .before .before .before .before .before .before .before .before .before .before .before .before .next-feed in
+    let if1 = c .before .before .before .before .before .before .before .before .before .before .before .if1 in
+    next-line _ _ _ _ (next-feed .ensures) (if1 .taken) .2 .bytes .within
+
+end-line-requires : tie.Need-end-line-requires
+end-line-requires c κs =
+    let next-feed = c .before .before .before .before .before .before .before .before .before .before .before .before .before .next-feed in
+    let if1 = c .before .before .before .before .before .before .before .before .before .before .before .before .if1 in
+    let k = next-line _ _ _ _ (next-feed .ensures) (if1 .taken) in
+    (k .0, k .1)
+
+ended-requires : tie.Need-ended-requires
+ended-requires c κs =
+    let next-feed = c .before .before .before .before .before .before .before .before .before .before .before .before .before .before .before .before .next-feed in
+    let if1 = c .before .before .before .before .before .before .before .before .before .before .before .before .before .before .before .if1 in
+    next-line _ _ _ _ (next-feed .ensures) (if1 .taken) .0
 
 same-length : tie.Need-same-length
 same-length c = search needs
 
 returns : tie.Need-returns
 returns c =
-    let pre = c .before .before .before .before .before .before .before .before .before .before .before .before .before .before .before .before .before .before .before .before .before .before .before .pre in
-    let if1 = c .before .before .before .before .before .before .before .before .before .before .before .before .before .before .before .before .before .before .before .if1 in
-    let keep = c .before .before .before .before .before .before .before .before .before .before .before .before .before .before .before .before .before .keep in
-    let if2 = c .before .before .before .before .before .before .before .before .before .before .before .before .before .before .before .if2 in
-    advanced-feed _ _ _ _ _ _ _ _ _ (if1 .taken) (pre .1) (keep .ensures) (if2 .taken) (c .before .before .at-feed .ensures)
+    let args = c .before .before .before .before .before .before .before .before .before .before .before .before .before .before .before .before .before .before .before .before .args in
+    let next-feed = c .before .before .before .before .before .before .before .before .before .before .before .before .before .before .before .before .before .next-feed in
+    let if1 = c .before .before .before .before .before .before .before .before .before .before .before .before .before .before .before .before .if1 in
+    let end-line = c .before .before .before .end-line in
+    advanced-line _ _ _ _ _ (args .progress) _ _ _ _ _ _ (end-line .result) (next-feed .ensures) (if1 .taken) (end-line .ensures) (c .ended .ensures)
 
-waiting-requires : tie.Need-waiting-requires
-waiting-requires c κs = search needs
+stopped-requires : tie.Need-stopped-requires
+stopped-requires c κs = search needs
 
 returns-2 : tie.Need-returns-2
 returns-2 c =
-    let pre = c .before .before .before .before .before .before .before .before .before .pre in
-    let if1 = c .before .before .before .before .before .if1 in
-    let keep = c .before .before .before .keep in
-    advanced-kept _ _ _ _ _ _ (pre .1) _ _ _ (if1 .taken) (keep .ensures) (c .before .if2 .left) (c .waiting .ensures)
-
-passed-requires : tie.Need-passed-requires
-passed-requires c κs = search needs
-
-returns-3 : tie.Need-returns-3
-returns-3 c =
+    let args = c .before .before .before .before .before .args in
     let pre = c .before .before .before .before .before .pre in
-    advanced-past _ _ _ _ _ _ (pre .1) _ (c .before .if1 .left) (pre .0) (c .passed .ensures)
+    advanced-stopped _ _ _ _ _ (args .progress) _ _ (pre .0) (pre .1) (c .before .before .next-feed .ensures) (c .before .if1 .left) (c .stopped .ensures)
 
 pub advance-spec : {M : Type 1} → statement M
 advance-spec =
     tie.close
     (tie.spec
-    keep-requires
+    next-feed-requires
     add-next
-    at-feed-requires
+    sub-end-line
+    part-end-line-start
+    part-end-line-end
+    end-line-requires
+    ended-requires
     same-length
     returns
-    waiting-requires
-    returns-2
-    passed-requires
-    returns-3)
+    stopped-requires
+    returns-2)

@@ -1,4 +1,4 @@
--- `feeding::feed_part` meets its contract: the steps, one after the other.
+-- `feeding::feed_part` meets its contract: the steps, one after the other, then the rest.
 use mathlib.Core.Path.{ap}
 use native.Mathlib.Omega.{arith}
 use lib.ListN.{length}
@@ -38,11 +38,17 @@ loop-again c =
     let loop = c .before .before .before .before .before .before .before .before .before .before .before .before .before .before .before .loop in
     going-on _ _ _ _ _ _ _ _ _ (loop .inv) (c .before .before .advance .ensures)
 
+keep-rest-requires : tie.Need-keep-rest-requires Inv-loop μ-loop
+keep-rest-requires c κs = c .before .before .loop .inv .within
+
 same-length : tie.Need-same-length Inv-loop μ-loop
 same-length c = search needs
 
 returns : tie.Need-returns Inv-loop μ-loop
-returns c = going-ends _ _ _ _ _ _ _ _ _ _ _ (ap (λ x. x .tally) (c .before .before .begun .ensures)) (c .before .loop .inv) (c .loop-test .left)
+returns c =
+    let begun = c .before .before .before .before .begun in
+    let loop = c .before .before .before .loop in
+    going-ends _ _ _ _ _ _ _ _ _ _ _ _ _ _ _ (ap (λ x. x .tally) (begun .ensures)) (loop .inv) (c .before .before .loop-test .left) (c .keep-rest .ensures)
 
 pub feed-part-spec : {M : Type 1} → statement M
 feed-part-spec =
@@ -55,5 +61,6 @@ feed-part-spec =
     advance-requires
     loop-less
     loop-again
+    keep-rest-requires
     same-length
     returns)

@@ -1,32 +1,27 @@
 -- `keeping::keep` meets its contract.
-use Prim.Native.Nat.{_-_, _+_}
-use lib.ListN.{length}
+use Prim.Native.Nat.{_-_, _≤_}
+use mathlib.Core.Path.{_≡_, refl, ap, _∙_}
 use native.Mathlib.Omega.{arith}
-use borrow.Author.Tests.{ne-eqb}
+use lib.ListN.{length, take}
+use lib.Seq.{take-all}
 use borrow.Author.Needs.{needs}
-use mathlib.Core.Path.{sym, subst}
-use Rattle.lines.specs.Sessions.{Held, held}
-use Rattle.lines.specs.Lines.{KeptTo}
-use Rattle.lines.proofs.Holding.{starts, goes}
+use Rattle.lines.specs.Sessions.{held, putAll}
+use Rattle.lines.proofs.Holding.{put-next}
 use Rattle.lines.proofs.keeping.keep.Statement.{statement}
 use Rattle.lines.proofs.keeping.keep.Tie as tie
 
 abbrev Inv-loop : tie.InvT-loop
-Inv-loop line₀ input count from h₀ i₀ line h i = KeptTo (held line₀ count) input from (held line h) i
+Inv-loop line₀ bytes count h₀ i₀ line h i = (held line h ≡ putAll (held line₀ count) (take i bytes)) × (i ≤ length bytes)
 
 abbrev μ-loop : tie.MeasureT-loop
-μ-loop line₀ input count from h₀ i₀ line h i = length input - i
+μ-loop line₀ bytes count h₀ i₀ line h i = length bytes - i
 
 loop-holds : tie.Need-loop-holds Inv-loop μ-loop
-loop-holds c = starts _ _ _ (c .before .pre)
+unfolding putAll
+loop-holds c = (refl, omega arith)
 
-shared-slice-read-byte : tie.Need-shared-slice-read-byte Inv-loop μ-loop
-shared-slice-read-byte c = search needs
-
-returns : tie.Need-returns Inv-loop μ-loop
-returns c =
-    let loop = c .before .before .before .loop in
-    record { keeps = loop .inv; stops = λ h. c .if1 .taken }
+shared-slice-read-keep-byte : tie.Need-shared-slice-read-keep-byte Inv-loop μ-loop
+shared-slice-read-keep-byte c = search needs
 
 keep-byte-requires : tie.Need-keep-byte-requires Inv-loop μ-loop
 keep-byte-requires c κs = tt
@@ -39,16 +34,15 @@ loop-less c = search needs
 
 loop-again : tie.Need-loop-again Inv-loop μ-loop
 loop-again c =
-    let args = c .before .before .before .before .before .before .before .args in
-    let loop = c .before .before .before .before .before .loop in
-    let loop-test = c .before .before .before .before .loop-test in
-    let a = args in
-    let l = loop in
-    let k = goes (held (a .line .now) (a .count)) (a .input .now) (a .from) (held (l .line) (l .held)) (l .i) (l .inv) (loop-test .taken) (ne-eqb _ 10 (c .before .before .if1 .left)) in
-    subst (λ (h : Held). KeptTo (held (a .line .now) (a .count)) (a .input .now) (a .from) h (l .i + 1)) (sym (c .keep-byte .ensures)) k
+    let args = c .before .before .before .before .before .before .args in
+    let loop = c .before .before .before .before .loop in
+    let loop-test = c .before .before .before .loop-test in
+    (c .keep-byte .ensures ∙ put-next (held (args .line .now) (args .count)) (args .bytes .now) (loop .i) (held (loop .line) (loop .held)) (loop .inv .0) (loop-test .taken), omega (arith, loop-test .taken))
 
-returns-2 : tie.Need-returns-2 Inv-loop μ-loop
-returns-2 c = record { keeps = c .before .loop .inv; stops = λ h. absurd (omega (arith, c .loop-test .left)) }
+returns : tie.Need-returns Inv-loop μ-loop
+returns c =
+    let args = c .before .before .before .args in
+    c .before .loop .inv .0 ∙ ap (putAll (held (args .line .now) (args .count))) (take-all (c .before .loop .i) (args .bytes .now) (omega (arith, c .loop-test .left)))
 
 pub keep-spec : {M : Type 1} → statement M
 keep-spec =
@@ -57,10 +51,9 @@ keep-spec =
     Inv-loop
     μ-loop
     loop-holds
-    shared-slice-read-byte
-    returns
+    shared-slice-read-keep-byte
     keep-byte-requires
     add-i
     loop-less
     loop-again
-    returns-2)
+    returns)

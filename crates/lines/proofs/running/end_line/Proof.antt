@@ -14,18 +14,18 @@ step-requires c κs = search needs
 
 add-number : tie.Need-add-number
 add-number c =
-    let pre = c .before .before .before .before .before .before .before .before .before .before .before .before .before .before .pre in
+    let pre = c .before .before .before .before .before .before .before .before .before .before .before .before .before .before .before .before .before .pre in
     omega (arith, pre .0)
 
 cast-number : tie.Need-cast-number
 cast-number c =
-    let pre = c .before .before .before .before .before .before .before .before .before .before .before .before .before .before .pre in
+    let pre = c .before .before .before .before .before .before .before .before .before .before .before .before .before .before .before .before .before .pre in
     omega (arith, pre .0)
 
 put-outcome-requires : tie.Need-put-outcome-requires
 put-outcome-requires c κs =
-    let pre = c .before .before .before .before .before .before .before .before .before .before .before .before .before .before .before .before .pre in
-    let step = c .before .before .before .step in
+    let pre = c .before .before .before .before .before .before .before .before .before .before .before .before .before .before .before .before .before .before .before .pre in
+    let step = c .before .before .before .before .step in
     (pre .1, few-answers (step .ensures))
 
 same-length : tie.Need-same-length
@@ -33,8 +33,8 @@ same-length c = search needs
 
 returns : tie.Need-returns
 returns c =
-    let read-line = c .before .before .before .before .before .before .before .before .before .before .before .before .before .before .before .before .before .read-line in
-    let step = c .before .before .before .before .before .before .before .step in
+    let read-line = c .before .before .before .before .before .before .before .before .before .before .before .before .before .before .before .before .before .before .before .read-line in
+    let step = c .before .before .before .before .before .before .before .before .step in
     let put-outcome = c .before .before .before .put-outcome in
     let read = read-line in
     let ran = step in
@@ -43,10 +43,10 @@ returns c =
       ends =
           record {
             told = ran .result;
-            performs = rw (← read .ensures) (ran .ensures);
+            performs = rw (← read .ensures .0) (ran .ensures);
             counted = refl;
             next = refl;
-            clear = refl;
+            clear = read .ensures .1;
             printed = refl;
           };
       told = put-outcome .ensures;
