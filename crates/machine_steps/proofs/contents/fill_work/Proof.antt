@@ -17,14 +17,19 @@ working-from-table-requires c κs = search needs
 
 returns-2 : tie.Need-returns-2
 unfolding filledFrom putTable
-returns-2 c = rw (c .working-from-table .ensures, filledFrom, ne-eqb _ _ (c .before .before .before .if1 .left), eq-eqb _ _ (c .before .before .if2 .taken))
+returns-2 c =
+    let if1 = c .before .before .before .if1 in
+    rw (c .working-from-table .ensures, filledFrom, ne-eqb _ _ (if1 .left), eq-eqb _ _ (c .before .before .if2 .taken))
 
 working-from-payload-requires : tie.Need-working-from-payload-requires
 working-from-payload-requires c κs = search needs
 
 returns-3 : tie.Need-returns-3
 unfolding filledFrom
-returns-3 c = rw (c .working-from-payload .ensures, filledFrom, ne-eqb _ _ (c .before .before .before .before .if1 .left), ne-eqb _ _ (c .before .before .before .if2 .left), eq-eqb _ _ (c .before .before .if3 .taken))
+returns-3 c =
+    let if1 = c .before .before .before .before .if1 in
+    let if2 = c .before .before .before .if2 in
+    rw (c .working-from-payload .ensures, filledFrom, ne-eqb _ _ (if1 .left), ne-eqb _ _ (if2 .left), eq-eqb _ _ (c .before .before .if3 .taken))
 
 returns-4 : tie.Need-returns-4
 unfolding filledFrom

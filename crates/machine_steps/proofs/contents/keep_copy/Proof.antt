@@ -17,7 +17,9 @@ copy-from-payload-requires c κs = search needs
 
 returns-2 : tie.Need-returns-2
 unfolding keptFrom
-returns-2 c = rw (c .copy-from-payload .ensures, keptFrom, ne-eqb _ _ (c .before .before .before .if1 .left), eq-eqb _ _ (c .before .before .if2 .taken))
+returns-2 c =
+    let if1 = c .before .before .before .if1 in
+    rw (c .copy-from-payload .ensures, keptFrom, ne-eqb _ _ (if1 .left), eq-eqb _ _ (c .before .before .if2 .taken))
 
 returns-3 : tie.Need-returns-3
 unfolding keptFrom

@@ -13,7 +13,9 @@ settle-requires : tie.Need-settle-requires
 settle-requires c κs = search needs
 
 returns : tie.Need-returns
-returns c = rw (c .settle .ensures, c .before .before .keep-copy .ensures, c .before .before .before .before .slot-of .ensures)
+returns c =
+    let slot-of = c .before .before .before .before .slot-of in
+    rw (c .settle .ensures, c .before .before .keep-copy .ensures, slot-of .ensures)
 
 pub move-server-spec : {M : Type 1} → statement M
 move-server-spec = tie.close (tie.spec slot-of-requires keep-copy-requires settle-requires returns)

@@ -12,7 +12,9 @@ clear-slots-requires c κs = search needs
 
 returns : tie.Need-returns
 unfolding slotsAfter
-returns c = rw (c .clear-slots .ensures, c .before .before .before .store-local .ensures, slotsAfter, c .before .before .if1 .taken)
+returns c =
+    let store-local = c .before .before .before .store-local in
+    rw (c .clear-slots .ensures, store-local .ensures, slotsAfter, c .before .before .if1 .taken)
 
 returns-2 : tie.Need-returns-2
 unfolding slotsAfter
