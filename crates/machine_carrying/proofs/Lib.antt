@@ -1,0 +1,2 @@
+-- What the proofs of `machine_carrying` share.
+pub mod Parts
