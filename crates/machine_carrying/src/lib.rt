@@ -30,6 +30,8 @@ ghost use Rattle.machine_flight.specs.Flown.{Flies};
 ghost use Rattle.runs.specs.Runs.{nextCounts, leftFlight, taken};
 ghost use Rattle.machine_carrying.specs.Carried.{Losable, Carriable, carriedReport, ChangesServer, flownBy, CarriesOn, CarriesOut, Loses};
 
+pub mod fresh;
+
 // What a move that is carried out tells: how many answers were written, how many messages sent, and how many are in flight.
 pub struct Told {
     pub answers: u32,

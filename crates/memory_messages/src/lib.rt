@@ -21,8 +21,9 @@ use server::Version;
 ghost use mathlib.Core.Path.{_≡_};
 ghost use Prim.Native.Nat.{_+_, _*_, _%_, _<_, _≤_};
 ghost use lib.ListN.{length, getD};
+ghost use Rattle.blocks.specs.Order.{rising};
 ghost use Rattle.memory.specs.Rows.{row, putRow};
-ghost use Rattle.memory.specs.Layout.{messageRoom, messageSize, orderPlace, placeAt, withoutPlace, messageRow, messageOf, headerAt, messageAt, putHeader};
+ghost use Rattle.memory.specs.Layout.{messageRoom, messageSize, orderPlace, placeAt, withoutPlace, freshPlaces, messageRow, messageOf, headerAt, messageAt, putHeader};
 ghost use Rattle.memory.specs.Lent.{was, is};
 ghost use Rattle.memory_regions.specs.Regions.{wordCount, queuePlace, oldRegions, newRegions, withQueue};
 ghost use Rattle.memory_regions.specs.Contents.{contentRoom, oldContent};
@@ -151,4 +152,31 @@ fn remove_place(words: &mut [u32], count: usize, index: usize)
     ensures { λ _. ⌜ newRegions words ≡ withQueue (oldRegions words) (withoutPlace count index (oldRegions words .queue)) ⌝ }
 {
     rotate_words(&mut words[QUEUE_AT + ORDER_AT..], count, index);
+}
+
+// All places are free, in their own order.
+pub fn free_places(words: &mut Words)
+    ensures { λ _. ⌜ newRegions words ≡ withQueue (oldRegions words) (freshPlaces (oldRegions words .queue)) ⌝ }
+{
+    number_places(words);
+}
+
+// The same, with the array lent as a slice, so that its order alone can be lent on.
+fn number_places(words: &mut [u32])
+    requires { ⌜ length (now words) ≡ wordCount ⌝ }
+    ensures { λ _. ⌜ newRegions words ≡ withQueue (oldRegions words) (freshPlaces (oldRegions words .queue)) ⌝ }
+{
+    number_words(&mut words[QUEUE_AT + ORDER_AT..], MESSAGES);
+}
+
+// Every word is its own index.
+fn number_words(dst: &mut [u32], len: usize)
+    requires { ⌜ (length (now dst) ≡ len) × (len ≤ messageRoom) ⌝ }
+    ensures { λ _. ⌜ is dst ≡ rising 0 len ⌝ }
+{
+    let mut i = 0;
+    while i < len {
+        dst[i] = i as u32;
+        i += 1;
+    }
 }
