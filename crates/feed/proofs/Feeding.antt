@@ -56,7 +56,7 @@ line-means v u more r e =
     (rw (x, e .next, e .counted, e .clear), rw (x, e .printed))
 
 pub line-ready : (v u : Session) (more : List ℕ) → Ready v → LineEnded v u more → Ready u
-line-ready v u more r e = record { measured = rw (e .counted) (e .performs .measured (r .measured)); size = rw (e .clear) (r .size) }
+line-ready v u more r e = record { measured = rw (e .counted) (e .performs .bounded (r .measured)); size = rw (e .clear) (r .size) }
 
 pub fed-means : (w : Session) (room : ℕ) {input text : List ℕ} {v : Session} → Ready w → Fed w room input text v → Means w input text v
 unfolding fed fedText

@@ -1,5 +1,6 @@
 -- Zeros in `counts`, in the words of the reader and in the tally stand for the start of a script.
-use mathlib.Core.Path.{_≡_, refl}
+use mathlib.Core.Path.{_≡_, refl, sym}
+use mathlib.Core.Bool.{true≢false}
 use mathlib.Core.List.{List}
 use Prim.Native.Nat.{ℕ}
 use Rattle.table.specs.Form.{within}
@@ -16,4 +17,4 @@ zeros-start heads slots copies working texts queue payloads answers line = refl
 
 pub zeros-measured : (heads slots copies working texts queue payloads answers line : List ℕ) → MeasuredIn (zeros heads slots copies working texts queue payloads answers line)
 unfolding clusterIn standing countsAt within
-zeros-measured heads slots copies working texts queue payloads answers line = refl
+zeros-measured heads slots copies working texts queue payloads answers line = record { measured = refl; ordered = λ s. absurd (true≢false (sym s)) }

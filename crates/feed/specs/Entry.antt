@@ -6,10 +6,9 @@ use mathlib.Core.List.{List, _++_}
 use Prim.Native.Nat.{ℕ, _+_, _≤_, _<_}
 use lib.ListN.{length, take, drop, getD}
 use Rattle.model.specs.Print.{tallyText}
-use Rattle.limits.specs.Stands.{Measured}
-use Rattle.views.specs.Memory.{Memory, memory, clusterIn}
+use Rattle.views.specs.Memory.{Memory, memory}
 use Rattle.runs.specs.declared.Tally.{Tally}
-use Rattle.runs.specs.Meaning.{tallyIn}
+use Rattle.runs.specs.Meaning.{Bounded, tallyIn}
 use Rattle.input.specs.Reading.{fed, fedText, finished, finishedText}
 use Rattle.print.specs.Room.{lineRoom, tallyRoom}
 use Rattle.progress.specs.Progress.{lastFeed}
@@ -19,9 +18,9 @@ use Rattle.lines.specs.Feeding.{Fed, PartFed}
 abbrev pub sessionIn : Memory → (answers reader line : List ℕ) → Tally → Session
 sessionIn m answers reader line t = session m answers t (getD reader 0 0) (held line (getD reader 1 0))
 
--- within the measures
+-- within the measures, and the order of the messages names no place twice
 abbrev pub MeasuredIn : Session → Type 0
-MeasuredIn w = Measured (clusterIn (w .memory)) (tallyIn (w .tally))
+MeasuredIn w = Bounded (w .memory) (tallyIn (w .tally))
 
 -- ---- a part of the input
 

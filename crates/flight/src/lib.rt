@@ -23,17 +23,12 @@ ghost use Rattle.refusals.specs.Refusals.{sendCount};
 ghost use Rattle.views.specs.Queue.{withoutMessage, messageTo, sentTo, spread, broadcastOf, replyOf, sent};
 ghost use Rattle.flight.specs.Flown.{Flown, oldFlight};
 
-// The message at this place is removed.
-pub fn remove(
-    queue: &mut QueueWords,
-    payloads: &mut PayloadBytes,
-    count: usize,
-    place: usize,
-) -> usize
-    requires { ⌜ (place < count) × (count ≤ messageRoom) ⌝ }
-    ensures { λ r. ⌜ Flown (withoutMessage true place (oldFlight queue payloads count)) (is queue) (is payloads) r ⌝ }
+// The message with this index is removed.
+pub fn remove(queue: &mut QueueWords, payloads: &PayloadBytes, count: usize, index: usize) -> usize
+    requires { ⌜ (index < count) × (count ≤ messageRoom) ⌝ }
+    ensures { λ r. ⌜ Flown (withoutMessage true index (oldFlight queue payloads count)) (is queue) (is payloads) r ⌝ }
 {
-    remove_message(queue, payloads, count, place);
+    remove_message(queue, count, index);
     count - 1
 }
 

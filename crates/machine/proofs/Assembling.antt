@@ -9,7 +9,7 @@ use Rattle.entries.specs.Entries.{Entry}
 use Rattle.server.specs.declared.Effect.{Effect}
 use Rattle.server.specs.Views.{chosen}
 use Rattle.memory.specs.declared.Counts.{Counts}
-use Rattle.memory.specs.Layout.{messageRoom, slotOf}
+use Rattle.memory.specs.Layout.{messageRoom, slotOf, placeAt}
 use Rattle.refusals.specs.Refusals.{sendCount, placesLeft}
 use Rattle.moves.specs.declared.Move.{Move}
 use Rattle.views.specs.Memory.{Memory, memory}
@@ -46,13 +46,13 @@ room-left c false i kind q l q′ l′ r f e =
 
 -- what the parts of a step leave
 pub carried-out : (counts heads slots copies working texts queue payloads l : List ℕ) (c : Counts) (x : Step) (v : Move) (f : Effect) (made : List Entry)
-    (counts′ heads′ slots′ copies′ working′ queue′ payloads′ l′ : List ℕ) (k : ℕ) (t : Told) → k ≡ slotOf (x .server) (x .bucket)
-    → working′ ≡ filledFrom working copies payloads k (x .index) made (v .fills)
-    → CarriedOn counts heads slots copies working′ queue payloads l c x v counts′ heads′ slots′ copies′ queue′ payloads′ l′ t
+    (counts′ heads′ slots′ copies′ working′ queue′ payloads′ l′ : List ℕ) (k place : ℕ) (t : Told) → k ≡ slotOf (x .server) (x .bucket) → place ≡ placeAt queue (x .index)
+    → working′ ≡ filledFrom working copies payloads k place made (v .fills)
+    → CarriedOn counts heads slots copies working′ queue payloads l c x v place counts′ heads′ slots′ copies′ queue′ payloads′ l′ t
     → ran (memory counts′ heads′ slots′ copies′ working′ texts queue′ payloads′) l′ (carriedReport t x f)
     ≡ carriedRun (memory counts heads slots copies working texts queue payloads) l c x v made
 unfolding carriedRun moved
-carried-out counts heads slots copies working texts queue payloads l c x v f made counts′ heads′ slots′ copies′ working′ queue′ payloads′ l′ k t h w g =
+carried-out counts heads slots copies working texts queue payloads l c x v f made counts′ heads′ slots′ copies′ working′ queue′ payloads′ l′ k place t h p w g =
     let s = g .server in
     let m = s .moves in
     let y = g .flown in
@@ -69,6 +69,7 @@ carried-out counts heads slots copies working texts queue payloads l c x v f mad
       m .copy,
       w,
       h,
+      p,
     )
 
 -- what is reported of a move that was carried out

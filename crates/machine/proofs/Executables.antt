@@ -35,7 +35,7 @@ use Rattle.machine.specs.Contracts.{Carriable, Executable}
 record Placed (c : Counts) (x : Step) : Type 0 where
   server : x .server < c .servers
   bucket : x .bucket < 8
-  place : x .index < 64
+  index : x .index < 64
   there : x .removes ≡ true → x .index < c .messages
 
 carriable : {c : Counts} {x : Step} {v : Move} → Measured c → Placed c x → placesLeft c (x .removes) (v .sends) ≡ true → Carriable c x v
@@ -44,7 +44,7 @@ carriable m h e = record {
   buckets = m .buckets;
   server = h .server;
   bucket = h .bucket;
-  place = h .place;
+  index = h .index;
   losable = record { messages = m .messages; there = h .there };
   room = e;
 }
@@ -80,7 +80,7 @@ module _ (c : Counts) where
   placed : (x : Step) → x .removes ≡ false → x .index ≡ 0 → Measured c → inside c (x .server) (x .bucket) ≡ true → Placed c x
   placed x k i m h =
       let n = inside-there c (x .server) (x .bucket) h in
-      record { server = n .0; bucket = omega (arith, n .1, m .buckets); place = omega (arith, i); there = λ e. absurd (true≢false (sym e ∙ k)) }
+      record { server = n .0; bucket = omega (arith, n .1, m .buckets); index = omega (arith, i); there = λ e. absurd (true≢false (sym e ∙ k)) }
 
   elects : (s : ℕ) (l : Local) (f : Effect) → Measured c → inside c s 0 ≡ true → Executable c (electPlan c s l f)
   unfolding electPlan
@@ -145,7 +145,7 @@ module _ (c : Counts) where
   hands x y l f m i s b =
       either (gone c x l) _ _
       (λ h. loses (x .index) (x .removes) f m i)
-      (λ h. carries _ refl m (record { server = stays x l s h; bucket = omega (arith, b); place = omega (arith, i, m .messages); there = λ e. i }))
+      (λ h. carries _ refl m (record { server = stays x l s h; bucket = omega (arith, b); index = omega (arith, i, m .messages); there = λ e. i }))
 
   hands-at : (a : Memory) (i : ℕ) (removes : Bool) (f : Effect) → Measured c → Executable c (handAt a c i removes f)
   unfolding handAt
@@ -157,7 +157,7 @@ module _ (c : Counts) where
       either (gone c x l) _ _
       (λ h. refused 18 f (λ z. omega (arith, z)))
       (λ h. either (cuttable k y l) _ _
-      (λ e. carries _ refl m (record { server = stays x l s h; bucket = omega (arith, b); place = omega (arith, i, m .messages); there = λ e. i }))
+      (λ e. carries _ refl m (record { server = stays x l s h; bucket = omega (arith, b); index = omega (arith, i, m .messages); there = λ e. i }))
       (λ e. refused 18 f (λ z. omega (arith, z))))
 
   cuts-at : (a : Memory) (i k : ℕ) (f : Effect) → Measured c → Executable c (cutAt a c i k f)

@@ -41,7 +41,7 @@ carries {c} {x} h e t =
       buckets = m .buckets;
       server = h .server;
       bucket = h .bucket;
-      place = omega (arith, h .listed, m .messages);
+      index = omega (arith, h .listed, m .messages);
       losable = record { messages = m .messages; there = λ _. h .listed };
       room = sym e ∙ t;
     }

@@ -15,14 +15,17 @@ use Rattle.model.specs.Lines as lines
 use Rattle.limits.proofs.Refusals.{ComesOut, refused-by, perform-comes-out}
 use Rattle.limits.specs.Stands.{Measured}
 use Rattle.limits.proofs.Always.{line-keeps-measures}
-use Rattle.views.specs.Memory.{Memory, Sized, clusterIn}
+use Rattle.blocks.specs.Order.{Ordered}
+use Rattle.memory.specs.Layout.{countsAt, orderOf}
+use Rattle.views.specs.Memory.{Memory, Sized, standing, clusterIn}
 use Rattle.views.specs.Changes.{answersRoom, answersAt}
 use Rattle.parse.specs.declared.Line.{Line}
 use Rattle.parse.specs.Meaning.{lineIn}
 use Rattle.runs.specs.declared.Report.{Report}
 use Rattle.runs.specs.Runs.{ran}
-use Rattle.runs.specs.Meaning.{stateIn, performed, talliedBy, resultOf, WholeLine, tallyIn, outcomeIn, tallyAfter}
+use Rattle.runs.specs.Meaning.{stateIn, Bounded, performed, talliedBy, resultOf, WholeLine, tallyIn, outcomeIn, tallyAfter}
 use Rattle.runs.proofs.LineMeans.{line-means}
+use Rattle.runs.proofs.Ordering.{line-orders}
 use Rattle.runs.specs.declared.Tally.{Tally}
 use Rattle.machine.specs.declared.Stepped.{Stepped}
 use Rattle.machine.specs.Contracts.{RanLine}
@@ -55,16 +58,16 @@ small (some c) t h = record {
 }
 
 module _ (m : Memory) (l : List ℕ) (t : Tally) (x : Line) (m′ : Memory) (l′ : List ℕ) (r : Report) (sized : Sized m) (answers : length l ≡ answersRoom) (whole : WholeLine x) (run : RanLine m l x m′ l′ r)
-    (measured : Measured (clusterIn m) (tallyIn t)) where
+    (bounded : Bounded m (tallyIn t)) where
   abbrev after : lines.LineResult
   after = record { state = stateIn m′ (tallyIn (tallyAfter t r)); outcome = outcomeIn r l′ }
 
   raw-result : performed (stateIn m (tallyIn t)) (lineIn x) ≡ resultOf (tallyIn t) (ran m′ l′ r) (r .effect)
   raw-result =
-      line-means m l (tallyIn t) x (r .effect) sized answers whole measured (run .effect) ∙ ap (λ y. resultOf (tallyIn t) y (r .effect)) (sym (run .is))
+      line-means m l (tallyIn t) x (r .effect) sized answers whole bounded (run .effect) ∙ ap (λ y. resultOf (tallyIn t) y (r .effect)) (sym (run .is))
 
   kept : Measured (performed (stateIn m (tallyIn t)) (lineIn x) .state .cluster) (performed (stateIn m (tallyIn t)) (lineIn x) .state .tally)
-  kept = line-keeps-measures maxElection (stateIn m (tallyIn t)) (lineIn x) _ (performed-comes-out (stateIn m (tallyIn t)) (lineIn x)) measured
+  kept = line-keeps-measures maxElection (stateIn m (tallyIn t)) (lineIn x) _ (performed-comes-out (stateIn m (tallyIn t)) (lineIn x)) (bounded .measured)
 
   by-refusal : (b : Bool) → eqb (r .refusal) 0 ≡ b → performed (stateIn m (tallyIn t)) (lineIn x) ≡ after
   unfolding resultOf tallyAfter outcomeIn
@@ -77,8 +80,12 @@ module _ (m : Memory) (l : List ℕ) (t : Tally) (x : Line) (m′ : Memory) (l�
   pub step-means : performed (stateIn m (tallyIn t)) (lineIn x) ≡ after
   step-means = by-refusal (eqb (r .refusal) 0) refl
 
-  pub step-measured : Measured (clusterIn m′) (tallyIn (tallyAfter t r))
-  step-measured = subst (λ y. Measured (y .state .cluster) (y .state .tally)) step-means kept
+  pub step-bounded : Bounded m′ (tallyIn (tallyAfter t r))
+  step-bounded =
+      record {
+        measured = subst (λ y. Measured (y .state .cluster) (y .state .tally)) step-means kept;
+        ordered = subst (λ (z : Memory). standing (countsAt (z .counts)) ≡ true → Ordered (orderOf (z .queue))) (sym (ap (λ z. z .memory) (run .is))) (line-orders m l x (r .effect) (sized .queue) (bounded .ordered));
+      }
 
 -- the contract of `step`, from its parts
 pub steps : (m : Memory) (l : List ℕ) (t : Tally) (x : Line) (m′ : Memory) (l′ : List ℕ) (r : Stepped) → Sized m → length l ≡ answersRoom → WholeLine x → RanLine m l x m′ l′ (r .report)
@@ -87,5 +94,5 @@ steps m l t x m′ l′ r sized answers whole run e = record {
   leaves = run;
   tally = e;
   means = λ h. rw e (step-means m l t x m′ l′ (r .report) sized answers whole run h);
-  measured = λ h. rw e (step-measured m l t x m′ l′ (r .report) sized answers whole run h);
+  bounded = λ h. rw e (step-bounded m l t x m′ l′ (r .report) sized answers whole run h);
 }

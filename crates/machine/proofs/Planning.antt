@@ -201,27 +201,27 @@ module _ (m : Memory) (l : List ℕ) (x : Line) where
   malformed-run r f K.Cut e z h = absurd (omega arith)
   malformed-run r f K.Start e z h = absurd (omega arith)
 
-  pub cluster-run : (counts heads slots copies : List ℕ) (r : Report) (f : Effect) (n : ℕ) (k : Kind) → x .kind ≡ k → routeOf k ≡ 1
-      → Clustered (m .counts) (m .heads) (m .slots) (m .copies) (x .first) (x .second) counts heads slots copies n
+  pub cluster-run : (counts heads slots copies queue : List ℕ) (r : Report) (f : Effect) (n : ℕ) (k : Kind) → x .kind ≡ k → routeOf k ≡ 1
+      → Clustered (m .counts) (m .heads) (m .slots) (m .copies) (m .queue) (x .first) (x .second) counts heads slots copies queue n
       → r ≡ record { refusal = n; answers = 0; sent = 0; copied = 0; delivered = 0; lost = 0; messages = 0; effect = f }
-      → RanLine m l x (memory counts heads slots copies (m .working) (m .texts) (m .queue) (m .payloads)) l r
+      → RanLine m l x (memory counts heads slots copies (m .working) (m .texts) queue (m .payloads)) l r
   unfolding runBy refusedRun routeOf
-  cluster-run counts heads slots copies r f n K.Cluster e z y h =
-      by-kind K.Cluster e (ap (ran (memory counts heads slots copies (m .working) (m .texts) (m .queue) (m .payloads)) l) h ∙ y .is (m .working) (m .texts) (m .queue) (m .payloads) l) (λ _. tt)
-  cluster-run counts heads slots copies r f n K.Malformed e z y h = absurd (omega arith)
-  cluster-run counts heads slots copies r f n K.Elect e z y h = absurd (omega arith)
-  cluster-run counts heads slots copies r f n K.Get e z y h = absurd (omega arith)
-  cluster-run counts heads slots copies r f n K.Set e z y h = absurd (omega arith)
-  cluster-run counts heads slots copies r f n K.SetIf e z y h = absurd (omega arith)
-  cluster-run counts heads slots copies r f n K.Del e z y h = absurd (omega arith)
-  cluster-run counts heads slots copies r f n K.Keys e z y h = absurd (omega arith)
-  cluster-run counts heads slots copies r f n K.Deliver e z y h = absurd (omega arith)
-  cluster-run counts heads slots copies r f n K.Copy e z y h = absurd (omega arith)
-  cluster-run counts heads slots copies r f n K.Lose e z y h = absurd (omega arith)
-  cluster-run counts heads slots copies r f n K.Timeout e z y h = absurd (omega arith)
-  cluster-run counts heads slots copies r f n K.Stop e z y h = absurd (omega arith)
-  cluster-run counts heads slots copies r f n K.Cut e z y h = absurd (omega arith)
-  cluster-run counts heads slots copies r f n K.Start e z y h = absurd (omega arith)
+  cluster-run counts heads slots copies queue r f n K.Cluster e z y h =
+      by-kind K.Cluster e (ap (ran (memory counts heads slots copies (m .working) (m .texts) queue (m .payloads)) l) h ∙ y .is (m .working) (m .texts) (m .payloads) l) (λ _. tt)
+  cluster-run counts heads slots copies queue r f n K.Malformed e z y h = absurd (omega arith)
+  cluster-run counts heads slots copies queue r f n K.Elect e z y h = absurd (omega arith)
+  cluster-run counts heads slots copies queue r f n K.Get e z y h = absurd (omega arith)
+  cluster-run counts heads slots copies queue r f n K.Set e z y h = absurd (omega arith)
+  cluster-run counts heads slots copies queue r f n K.SetIf e z y h = absurd (omega arith)
+  cluster-run counts heads slots copies queue r f n K.Del e z y h = absurd (omega arith)
+  cluster-run counts heads slots copies queue r f n K.Keys e z y h = absurd (omega arith)
+  cluster-run counts heads slots copies queue r f n K.Deliver e z y h = absurd (omega arith)
+  cluster-run counts heads slots copies queue r f n K.Copy e z y h = absurd (omega arith)
+  cluster-run counts heads slots copies queue r f n K.Lose e z y h = absurd (omega arith)
+  cluster-run counts heads slots copies queue r f n K.Timeout e z y h = absurd (omega arith)
+  cluster-run counts heads slots copies queue r f n K.Stop e z y h = absurd (omega arith)
+  cluster-run counts heads slots copies queue r f n K.Cut e z y h = absurd (omega arith)
+  cluster-run counts heads slots copies queue r f n K.Start e z y h = absurd (omega arith)
 
   pub other-run : (m′ : Memory) (l′ : List ℕ) (r : Report) (k : Kind) → x .kind ≡ k → (routeOf k ≡ 0 → ⊥) → (routeOf k ≡ 1 → ⊥) → RanPlan m l x m′ l′ r → RanLine m l x m′ l′ r
   unfolding runBy routeOf

@@ -8,7 +8,7 @@ use Rattle.server.specs.declared.Effect.{Effect}
 use Rattle.server.specs.declared.Message.{Message}
 use Rattle.server.specs.Views.{effectIn}
 use Rattle.memory.specs.declared.Counts.{Counts}
-use Rattle.memory.specs.Layout.{serverRoom, bucketRoom, messageRoom, slotOf, countsAt, messageAt, putCounts, putWords, putTexts}
+use Rattle.memory.specs.Layout.{serverRoom, bucketRoom, messageRoom, slotOf, countsAt, freshPlaces, messageAt, putCounts, putWords, putTexts}
 use Rattle.refusals.specs.Refusals.{sendCount, placesLeft}
 use Rattle.moves.specs.declared.Local.{Local}
 use Rattle.moves.specs.declared.Move.{Move}
@@ -41,17 +41,18 @@ pub record Carriable (c : Counts) (x : Step) (v : Move) : Type 0 where
   pub buckets : c .buckets ≤ bucketRoom
   pub server : x .server < c .servers
   pub bucket : x .bucket < bucketRoom
-  pub place : x .index < messageRoom
+  pub index : x .index < messageRoom
   pub losable : Losable c x
   pub room : placesLeft c (x .removes) (v .sends) ≡ true
 
-pub record ServerChanged (heads slots copies working payloads answers : List ℕ) (c : Counts) (x : Step) (v : Move) (heads′ slots′ copies′ answers′ : List ℕ) (r : ℕ) : Type 0 where
+-- the server's arrays and the answers after a move; the message handed over lies at this place
+pub record ServerChanged (heads slots copies working payloads answers : List ℕ) (c : Counts) (x : Step) (v : Move) (place : ℕ) (heads′ slots′ copies′ answers′ : List ℕ) (r : ℕ) : Type 0 where
   pub listed : Listed (answered slots (c .buckets) (x .server) v answers) answers′ r
-  pub moves : MovedServer heads slots copies working payloads (c .buckets) (x .server) (x .bucket) (x .index) v heads′ slots′ copies′
+  pub moves : MovedServer heads slots copies working payloads (c .buckets) (x .server) (x .bucket) place v heads′ slots′ copies′
 
 -- the arrays after a move whose working content is filled
-pub record CarriedOn (counts heads slots copies working queue payloads answers : List ℕ) (c : Counts) (x : Step) (v : Move) (counts′ heads′ slots′ copies′ queue′ payloads′ answers′ : List ℕ) (r : Told) : Type 0 where
-  pub server : ServerChanged heads slots copies working payloads answers c x v heads′ slots′ copies′ answers′ (r .answers)
+pub record CarriedOn (counts heads slots copies working queue payloads answers : List ℕ) (c : Counts) (x : Step) (v : Move) (place : ℕ) (counts′ heads′ slots′ copies′ queue′ payloads′ answers′ : List ℕ) (r : Told) : Type 0 where
+  pub server : ServerChanged heads slots copies working payloads answers c x v place heads′ slots′ copies′ answers′ (r .answers)
   pub flown : Flown (sent (c .servers) (x .server) (x .bucket) (slotOf (x .server) (x .bucket)) (x .asked) v working copies′ (withoutMessage (x .removes) (x .index) (flight queue payloads (c .messages)))) queue′ payloads′ (r .messages)
   pub counted : counts′ ≡ putCounts counts (nextCounts c (r .messages) (x .calls))
   pub sends : r .sent ≡ sendCount (c .servers) (v .sends)
@@ -75,11 +76,12 @@ pub record Lost (counts queue payloads : List ℕ) (c : Counts) (x : Step) (f : 
   pub counted : counts′ ≡ putCounts counts (nextCounts c (r .messages) (x .calls))
   pub report : r ≡ record { refusal = 0; answers = 0; sent = 0; copied = x .copied; delivered = 0; lost = 1; messages = r .messages; effect = f }
 
-pub record Created (counts : List ℕ) (n b : ℕ) (counts′ heads′ slots′ copies′ : List ℕ) : Type 0 where
+pub record Created (counts queue : List ℕ) (n b : ℕ) (counts′ heads′ slots′ copies′ queue′ : List ℕ) : Type 0 where
   pub counted : counts′ ≡ putCounts counts (freshCounts n b)
   pub heads : heads′ ≡ replicate 112 0
   pub slots : slots′ ≡ replicate 1792 0
   pub copies : copies′ ≡ replicate 7168 0
+  pub places : queue′ ≡ freshPlaces queue
 
 -- the words of a call that is taken
 pub record Took (slots texts : List ℕ) (p : Plan) (slots′ texts′ : List ℕ) : Type 0 where
@@ -112,7 +114,7 @@ pub record HandedListed (m : Memory) (l : List ℕ) (c : Counts) (i : ℕ) (remo
       let x = messageStep c i removes y in
       gone c x (receiverAt m i) ≡ false → readsTable (c .servers) y (receiverAt m i) ≡ true → effectIn (r .effect) ≡ askedAt m x
 
--- a line that hands over what stands at place i
+-- a line that hands message i over
 pub record HandRan (m : Memory) (l : List ℕ) (i : ℕ) (removes : Bool) (m′ : Memory) (l′ : List ℕ) (r : Report) : Type 0 where
   pub is : ran m′ l′ r ≡ elim (standing (countsAt (m .counts))) [ true ↦ executed m l (countsAt (m .counts)) (handAt m (countsAt (m .counts)) i removes (r .effect)) | false ↦ refusedRun m l 2 ]
   pub effect : standing (countsAt (m .counts)) ≡ true → HandEffect m (countsAt (m .counts)) i (r .effect)
@@ -162,9 +164,9 @@ routeOf K.Cut = plannedLine
 routeOf K.Start = plannedLine
 
 -- the arrays after a cluster line that is refused with r, or taken with 0
-pub record Clustered (counts heads slots copies : List ℕ) (n b : ℕ) (counts′ heads′ slots′ copies′ : List ℕ) (r : ℕ) : Type 0 where
-  pub is : (working texts queue payloads l : List ℕ) →
-      refusedRun (memory counts′ heads′ slots′ copies′ working texts queue payloads) l r ≡ clusterRun (memory counts heads slots copies working texts queue payloads) l n b
+pub record Clustered (counts heads slots copies queue : List ℕ) (n b : ℕ) (counts′ heads′ slots′ copies′ queue′ : List ℕ) (r : ℕ) : Type 0 where
+  pub is : (working texts payloads l : List ℕ) →
+      refusedRun (memory counts′ heads′ slots′ copies′ working texts queue′ payloads) l r ≡ clusterRun (memory counts heads slots copies working texts queue payloads) l n b
 
 -- the run of a line that needs a cluster, and of any line; the effect that it asked for is reported
 pub record RanPlan (m : Memory) (l : List ℕ) (x : Line) (m′ : Memory) (l′ : List ℕ) (r : Report) : Type 0 where

@@ -30,21 +30,21 @@ use Rattle.machine.specs.Meaning.{Performed}
 
 -- ---- a plan is carried out
 
-abbrev pub ChangesServer : (heads slots copies working payloads answers : Lent) → Counts → Step → Move → ℕ → Type 0
-ChangesServer heads slots copies working payloads answers c x v r =
-    ServerChanged (was heads) (was slots) (was copies) (was working) (was payloads) (was answers) c x v (is heads) (is slots) (is copies) (is answers) r
+abbrev pub ChangesServer : (heads slots copies working payloads answers : Lent) → Counts → Step → Move → (place r : ℕ) → Type 0
+ChangesServer heads slots copies working payloads answers c x v place r =
+    ServerChanged (was heads) (was slots) (was copies) (was working) (was payloads) (was answers) c x v place (is heads) (is slots) (is copies) (is answers) r
 
 abbrev pub ChangesFlight : (queue payloads working copies : Lent) → Counts → Step → Move → ℕ → Type 0
 ChangesFlight queue payloads working copies c x v r =
-    let rest = withoutMessage (x .removes) (x .place) (oldFlight queue payloads (c .messages)) in
+    let rest = withoutMessage (x .removes) (x .index) (oldFlight queue payloads (c .messages)) in
     Flown
     (sent (c .servers) (x .server) (x .bucket) (slotOf (x .server) (x .bucket)) (x .asked) v (was working) (was copies) rest)
     (is queue)
     (is payloads)
     r
 
-abbrev pub CarriesOn : (counts heads slots copies working queue payloads answers : Lent) → Counts → Step → Move → Told → Type 0
-CarriesOn counts heads slots copies working queue payloads answers c x v r =
+abbrev pub CarriesOn : (counts heads slots copies working queue payloads answers : Lent) → Counts → Step → Move → (place : ℕ) → Told → Type 0
+CarriesOn counts heads slots copies working queue payloads answers c x v place r =
     CarriedOn
     (was counts)
     (was heads)
@@ -57,6 +57,7 @@ CarriesOn counts heads slots copies working queue payloads answers c x v r =
     c
     x
     v
+    place
     (is counts)
     (is heads)
     (is slots)

@@ -2,12 +2,11 @@
 use mathlib.Core.Path.{_≡_}
 use mathlib.Core.List.{List}
 use Prim.Native.Nat.{ℕ}
-use Rattle.limits.specs.Stands.{Measured}
-use Rattle.views.specs.Memory.{Memory, clusterIn}
+use Rattle.views.specs.Memory.{Memory}
 use Rattle.parse.specs.declared.Line.{Line}
 use Rattle.parse.specs.Meaning.{lineIn}
 use Rattle.runs.specs.declared.Tally.{Tally}
-use Rattle.runs.specs.Meaning.{stateIn, tallyIn, tallyAfter, performed, outcomeIn}
+use Rattle.runs.specs.Meaning.{stateIn, Bounded, tallyIn, tallyAfter, performed, outcomeIn}
 use Rattle.machine.specs.declared.Stepped.{Stepped}
 use Rattle.machine.specs.Contracts.{RanLine}
 
@@ -16,6 +15,6 @@ use Rattle.machine.specs.Contracts.{RanLine}
 pub record Performed (m : Memory) (l : List ℕ) (t : Tally) (x : Line) (m′ : Memory) (l′ : List ℕ) (r : Stepped) : Type 0 where
   pub leaves : RanLine m l x m′ l′ (r .report)
   pub tally : r .tally ≡ tallyAfter t (r .report)
-  pub means : Measured (clusterIn m) (tallyIn t)
+  pub means : Bounded m (tallyIn t)
       → performed (stateIn m (tallyIn t)) (lineIn x) ≡ record { state = stateIn m′ (tallyIn (r .tally)); outcome = outcomeIn (r .report) l′ }
-  pub measured : Measured (clusterIn m) (tallyIn t) → Measured (clusterIn m′) (tallyIn (r .tally))
+  pub bounded : Bounded m (tallyIn t) → Bounded m′ (tallyIn (r .tally))

@@ -15,6 +15,7 @@ use memory::SlotWords;
 use memory::TextBytes;
 use memory::WorkingBytes;
 use memory::slot_of;
+use messages::place_of;
 use moves::Move;
 use plans::Plan;
 use plans::Step;
@@ -73,21 +74,21 @@ fn next_counts(cluster: Counts, messages: usize, calls: u32) -> Counts
 // The message handed over leaves the list, where it is not a copy.
 fn leave(
     queue: &mut QueueWords,
-    payloads: &mut PayloadBytes,
+    payloads: &PayloadBytes,
     count: usize,
-    place: usize,
+    index: usize,
     removes: bool,
 ) -> usize
-    requires { ⌜ (count ≤ messageRoom) × (removes ≡ true → place < count) ⌝ }
-    ensures { λ r. ⌜ Flown (withoutMessage removes place (oldFlight queue payloads count)) (is queue) (is payloads) r ⌝ }
+    requires { ⌜ (count ≤ messageRoom) × (removes ≡ true → index < count) ⌝ }
+    ensures { λ r. ⌜ Flown (withoutMessage removes index (oldFlight queue payloads count)) (is queue) (is payloads) r ⌝ }
 {
     if removes {
-        return remove(queue, payloads, count, place);
+        return remove(queue, payloads, count, index);
     }
     count
 }
 
-// The answers, then the server's arrays; the working content is filled before.
+// The answers, then the server's arrays; the working content is filled before. `place` is that of the message handed over.
 fn change_server(
     heads: &mut HeadWords,
     slots: &mut SlotWords,
@@ -98,9 +99,10 @@ fn change_server(
     cluster: Counts,
     step: Step,
     next: Move,
+    place: usize,
 ) -> u32
-    requires { ⌜ Carriable cluster step next ⌝ }
-    ensures { λ r. ⌜ ChangesServer heads slots copies working payloads answers cluster step next r ⌝ }
+    requires { ⌜ Carriable cluster step next × (place < messageRoom) ⌝ }
+    ensures { λ r. ⌜ ChangesServer heads slots copies working payloads answers cluster step next place r ⌝ }
 {
     let server = step.server as usize;
     let buckets = cluster.buckets as usize;
@@ -114,7 +116,7 @@ fn change_server(
         buckets,
         server,
         step.bucket as usize,
-        step.place as usize,
+        place,
         next,
     );
     written
@@ -137,7 +139,7 @@ fn change_flight(
         queue,
         payloads,
         cluster.messages as usize,
-        step.place as usize,
+        step.index as usize,
         step.removes,
     );
     let slot = slot_of(step.server as usize, step.bucket as usize);
@@ -156,7 +158,7 @@ fn change_flight(
     )
 }
 
-// A move is carried out, once the working content of its slot is filled.
+// A move is carried out, once the working content of its slot is filled. `place` is that of the message handed over.
 fn carry_on(
     counts: &mut CountWords,
     heads: &mut HeadWords,
@@ -169,9 +171,10 @@ fn carry_on(
     cluster: Counts,
     step: Step,
     next: Move,
+    place: usize,
 ) -> Told
-    requires { ⌜ Carriable cluster step next ⌝ }
-    ensures { λ r. ⌜ CarriesOn counts heads slots copies working queue payloads answers cluster step next r ⌝ }
+    requires { ⌜ Carriable cluster step next × (place < messageRoom) ⌝ }
+    ensures { λ r. ⌜ CarriesOn counts heads slots copies working queue payloads answers cluster step next place r ⌝ }
 {
     let written = change_server(
         heads,
@@ -183,6 +186,7 @@ fn carry_on(
         cluster,
         step,
         next,
+        place,
     );
     let count = change_flight(queue, payloads, working, copies, cluster, step, next);
     store_counts(counts, next_counts(cluster, count, step.calls));
@@ -229,15 +233,8 @@ pub fn carry_out(
     ensures { λ r. ⌜ CarriesOut (lent counts heads slots copies working texts queue payloads answers) cluster step next table r ⌝ }
 {
     let slot = slot_of(step.server as usize, step.bucket as usize);
-    fill_work(
-        working,
-        copies,
-        payloads,
-        slot,
-        step.place as usize,
-        next.fills,
-        table,
-    );
+    let place = place_of(queue, step.index as usize);
+    fill_work(working, copies, payloads, slot, place, next.fills, table);
     carry_on(
         counts,
         heads,
@@ -250,6 +247,7 @@ pub fn carry_out(
         cluster,
         step,
         next,
+        place,
     )
 }
 
@@ -257,7 +255,7 @@ pub fn carry_out(
 pub fn lose(
     counts: &mut CountWords,
     queue: &mut QueueWords,
-    payloads: &mut PayloadBytes,
+    payloads: &PayloadBytes,
     cluster: Counts,
     step: Step,
     effect: Effect,
@@ -269,7 +267,7 @@ pub fn lose(
         queue,
         payloads,
         cluster.messages as usize,
-        step.place as usize,
+        step.index as usize,
         step.removes,
     );
     store_counts(counts, next_counts(cluster, count, step.calls));

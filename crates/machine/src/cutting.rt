@@ -16,23 +16,23 @@ ghost use mathlib.Core.Path.{_≡_};
 ghost use Rattle.memory.specs.Lent.{was};
 ghost use Rattle.plans.specs.Arrays.{Measured, cutIn};
 
-// 5, 7 and 18, or the cut of the message at this place after so many stores.
+// 5, 7 and 18, or the cut of the message with this index after so many stores.
 pub fn plan_cut(
     heads: &HeadWords,
     slots: &SlotWords,
     queue: &QueueWords,
     cluster: Counts,
-    place: u32,
+    index: u32,
     stores: u32,
 ) -> Plan
     requires { ⌜ Measured cluster ⌝ }
-    ensures { λ r. ⌜ r ≡ cutIn (was heads) (was slots) (was queue) cluster place stores (r .effect) ⌝ }
+    ensures { λ r. ⌜ r ≡ cutIn (was heads) (was slots) (was queue) cluster index stores (r .effect) ⌝ }
 {
     let effect = no_effect();
-    let refusal = message_refusal(cluster, place);
+    let refusal = message_refusal(cluster, index);
     if refusal == NONE {
-        let message = load_message(queue, place as usize);
-        let step = cut_step(cluster, place, message);
+        let message = load_message(queue, index as usize);
+        let step = cut_step(cluster, index, message);
         let local = receiver(heads, slots, step);
         return cut_plan(cluster, step, stores, message, local, effect);
     }

@@ -45,14 +45,14 @@ fn hand_listed(
     payloads: &mut PayloadBytes,
     answers: &mut AnswerWords,
     cluster: Counts,
-    place: u32,
+    index: u32,
     removes: bool,
 ) -> Report
-    requires { ⌜ Measured cluster × (place < cluster .messages) ⌝ }
-    ensures { λ r. ⌜ HandsListed (lent counts heads slots copies working texts queue payloads answers) cluster place removes r ⌝ }
+    requires { ⌜ Measured cluster × (index < cluster .messages) ⌝ }
+    ensures { λ r. ⌜ HandsListed (lent counts heads slots copies working texts queue payloads answers) cluster index removes r ⌝ }
 {
-    let message = load_message(queue, place as usize);
-    let step = message_step(cluster, place, removes, message);
+    let message = load_message(queue, index as usize);
+    let step = message_step(cluster, index, removes, message);
     let local = receiver(heads, slots, step);
     if is_gone(cluster, step, local) {
         return lose(counts, queue, payloads, cluster, step, no_effect());
@@ -80,7 +80,7 @@ fn hand_listed(
     bare_report(NO_PLACES, effect)
 }
 
-// The message at this place is handed over; `copy` leaves it in the list.
+// The message with this index is handed over; `copy` leaves it in the list.
 pub fn hand_line(
     counts: &mut CountWords,
     heads: &mut HeadWords,
@@ -91,14 +91,14 @@ pub fn hand_line(
     queue: &mut QueueWords,
     payloads: &mut PayloadBytes,
     answers: &mut AnswerWords,
-    place: u32,
+    index: u32,
     removes: bool,
 ) -> Report
-    ensures { λ r. ⌜ Hands (lent counts heads slots copies working texts queue payloads answers) place removes r ⌝ }
+    ensures { λ r. ⌜ Hands (lent counts heads slots copies working texts queue payloads answers) index removes r ⌝ }
 {
     let cluster = load_counts(counts);
     if standing(cluster) {
-        let refusal = message_refusal(cluster, place);
+        let refusal = message_refusal(cluster, index);
         if refusal == NONE {
             return hand_listed(
                 counts,
@@ -111,7 +111,7 @@ pub fn hand_line(
                 payloads,
                 answers,
                 cluster,
-                place,
+                index,
                 removes,
             );
         }

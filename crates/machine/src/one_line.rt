@@ -176,17 +176,18 @@ fn cluster_line(
     heads: &mut HeadWords,
     slots: &mut SlotWords,
     copies: &mut CopyBytes,
+    queue: &mut QueueWords,
     servers: u32,
     buckets: u32,
 ) -> u32
-    ensures { λ r. ⌜ Clustered (was counts) (was heads) (was slots) (was copies) servers buckets (is counts) (is heads) (is slots) (is copies) r ⌝ }
+    ensures { λ r. ⌜ Clustered (was counts) (was heads) (was slots) (was copies) (was queue) servers buckets (is counts) (is heads) (is slots) (is copies) (is queue) r ⌝ }
 {
     if standing(load_counts(counts)) {
         return CLUSTER_WRONG;
     }
     if within(MAX_SERVERS, servers) {
         if within(MAX_BUCKETS, buckets) {
-            create(counts, heads, slots, copies, servers, buckets);
+            create(counts, heads, slots, copies, queue, servers, buckets);
             return NONE;
         }
     }
@@ -250,7 +251,7 @@ pub fn run_line(
         return bare_report(MALFORMED, no_effect());
     }
     if route == CLUSTER_LINE {
-        let refusal = cluster_line(counts, heads, slots, copies, line.first, line.second);
+        let refusal = cluster_line(counts, heads, slots, copies, queue, line.first, line.second);
         return bare_report(refusal, no_effect());
     }
     if route == PLANNED_LINE {

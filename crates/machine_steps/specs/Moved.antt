@@ -2,7 +2,10 @@
 use mathlib.Core.List.{List}
 use Prim.Native.Nat.{ℕ}
 use Rattle.entries.specs.Entries.{Entry}
-use Rattle.memory.specs.Layout.{slotOf, putHead}
+use Rattle.server.specs.declared.Version.{Version}
+use Rattle.server.specs.declared.Round.{Round}
+use Rattle.server.specs.declared.Call.{Call}
+use Rattle.memory.specs.Layout.{slotOf, putHead, putVersion, putRound, putCall}
 use Rattle.memory_regions.specs.Regions.{Regions, withHeads, withSlots}
 use Rattle.memory_regions.specs.Contents.{Contents, withCopies, withWorking}
 use Rattle.moves.specs.declared.Local.{Local}
@@ -17,6 +20,10 @@ filledContents c k i made fills = withWorking c (filledFrom (c .working) (c .cop
 -- the copy at slot k keeps a content
 abbrev pub keptContents : Contents → ℕ → ℕ → ℕ → Contents
 keptContents c k i keeps = withCopies c (keptFrom (c .copies) (c .working) (c .payloads) k i keeps)
+
+-- the records of slot k
+abbrev pub putSlot : List ℕ → ℕ → Version → Round → Call → List ℕ
+putSlot slots k v r c = putCall (putRound (putVersion slots k v) k r) k c
 
 -- the head of server s, and the rest at slot k
 abbrev pub withLocal : Regions → ℕ → ℕ → Local → Regions

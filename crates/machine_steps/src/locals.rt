@@ -20,11 +20,11 @@ use server::codes::NO_CALL;
 use server::codes::NO_ROUND;
 ghost use mathlib.Core.Path.{_≡_};
 ghost use Prim.Native.Nat.{_<_, _≤_};
-ghost use Rattle.memory.specs.Layout.{serverRoom, bucketRoom, slotRoom, messageRoom, putVersion, putRound, putCall};
+ghost use Rattle.memory.specs.Layout.{serverRoom, bucketRoom, slotRoom, messageRoom};
 ghost use Rattle.memory_regions.specs.Regions.{oldRegions, newRegions, withSlots};
 ghost use Rattle.views.specs.Arrays.{oldMemory, newMemory};
 ghost use Rattle.views.specs.Changes.{isIdle, clearedSlot, clearedSlots};
-ghost use Rattle.machine_steps.specs.Moved.{withLocal, settled, movedFilled};
+ghost use Rattle.machine_steps.specs.Moved.{putSlot, withLocal, settled, movedFilled};
 
 // This server gets the head, this slot the rest.
 pub fn store_local(words: &mut Words, server: usize, slot: usize, local: Local)
@@ -37,7 +37,7 @@ pub fn store_local(words: &mut Words, server: usize, slot: usize, local: Local)
 
 fn store_slot(words: &mut Words, slot: usize, version: Version, round: Round, call: Call)
     requires { ⌜ slot < slotRoom ⌝ }
-    ensures { λ _. ⌜ newRegions words ≡ withSlots (oldRegions words) (putCall (putRound (putVersion (oldRegions words .slots) slot version) slot round) slot call) ⌝ }
+    ensures { λ _. ⌜ newRegions words ≡ withSlots (oldRegions words) (putSlot (oldRegions words .slots) slot version round call) ⌝ }
 {
     store_version(words, slot, version);
     store_round(words, slot, round);

@@ -14,7 +14,7 @@ use Rattle.blocks.specs.Blocks.{without}
 use Rattle.blocks.specs.Order.{place, Ordered, listed, rotated, rising}
 use Rattle.blocks.proofs.Order.{length-listed, listed-at, listed-rotated, listed-appended, listed-same, length-rotated, ordered-rotated, ordered-rising}
 use Rattle.server.specs.declared.Message.{Message}
-use Rattle.memory.specs.Layout.{messageRoom, queueLength, messageSize, contentSize, contentBytes, orderPlace, orderOf, placeAt, withoutPlace, freshPlaces, messageOf, headerAt, putMessage, contentAt, putContent}
+use Rattle.memory.specs.Layout.{messageRoom, queueLength, messageSize, contentSize, contentBytes, orderPlace, orderOf, placeAt, withoutPlace, freshPlaces, messageOf, headerAt, putMessage, putContent}
 use Rattle.memory.proofs.Rows.{row-front}
 use Rattle.memory.proofs.Records.{header-putHeader, header-elsewhere, order-putHeader}
 use Rattle.messages.specs.Messages.{Sent, sentAt, messagesAt}
@@ -50,7 +50,7 @@ module _ (n : ℕ) (q l : List ℕ) (m : Message) (v : List ℕ) (size : length 
   abbrev at : ℕ
   at = placeAt q n
 
-  pub order-appended : orderOf (putMessage q n m) ≡ orderOf q
+  order-appended : orderOf (putMessage q n m) ≡ orderOf q
   order-appended = order-putHeader q at m (place-low q n)
 
   there : sentAt (putMessage q n m) (putContent l at v) at ≡ record { header = m; content = take contentBytes v }

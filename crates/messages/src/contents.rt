@@ -6,11 +6,12 @@ ghost use Prim.Native.Nat.{_+_, _*_, _<_, _≤_};
 ghost use lib.ListN.{length};
 ghost use Rattle.blocks.specs.Blocks.{block};
 ghost use Rattle.memory.specs.Layout.{slotRoom, contentSize, putContent};
+ghost use Rattle.memory.specs.Lent.{was, is};
 
 // Content `from` of src, which is another array of contents, becomes the content of slot `to`.
 pub fn copy_content(dst: &mut [u8; CONTENTS_LEN], to: usize, src: &[u8], from: usize)
     requires { ⌜ (to < slotRoom) × ((from + 1) * contentSize ≤ length (now src)) ⌝ }
-    ensures { λ _. ⌜ now (dst .exit) ≡ putContent (now (dst .entry)) to (block contentSize from (now (src .entry))) ⌝ }
+    ensures { λ _. ⌜ is dst ≡ putContent (was dst) to (block contentSize from (was src)) ⌝ }
 {
     blocks::copy_block_bytes(dst, CONTENT_SIZE, to, src, from);
 }

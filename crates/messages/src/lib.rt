@@ -22,6 +22,7 @@ ghost use Prim.Native.Nat.{_+_, _*_, _<_, _≤_};
 ghost use lib.ListN.{length};
 ghost use Rattle.blocks.specs.Blocks.{block};
 ghost use Rattle.memory.specs.Layout.{messageRoom, queueLength, contentSize, placeField, placeAt, withoutPlace, messageFields, messageStores, headerAt, messageAt, putHeader};
+ghost use Rattle.memory.specs.Lent.{was, is};
 ghost use Rattle.messages.specs.Messages.{Appended};
 
 pub mod contents;
@@ -35,7 +36,7 @@ fn wide(number: u32) -> usize
 // The place of the message with this index: every number in the order names one.
 pub fn place_of(queue: &QueueWords, index: usize) -> usize
     requires { ⌜ index < messageRoom ⌝ }
-    ensures { λ r. ⌜ (r ≡ placeAt (now (queue .entry)) index) × (r < messageRoom) ⌝ }
+    ensures { λ r. ⌜ (r ≡ placeAt (was queue) index) × (r < messageRoom) ⌝ }
 {
     place_field(queue, index)
 }
@@ -43,7 +44,7 @@ pub fn place_of(queue: &QueueWords, index: usize) -> usize
 // The same, with the word written out in the contract.
 fn place_field(queue: &QueueWords, index: usize) -> usize
     requires { ⌜ index < messageRoom ⌝ }
-    ensures { λ r. ⌜ r ≡ placeField (now (queue .entry)) index ⌝ }
+    ensures { λ r. ⌜ r ≡ placeField (was queue) index ⌝ }
 {
     wide(queue[ORDER_AT + index]) % MESSAGES
 }
@@ -51,7 +52,7 @@ fn place_field(queue: &QueueWords, index: usize) -> usize
 // The header of the message with this index.
 pub fn load_message(queue: &QueueWords, index: usize) -> Message
     requires { ⌜ index < messageRoom ⌝ }
-    ensures { λ r. ⌜ r ≡ messageAt (now (queue .entry)) index ⌝ }
+    ensures { λ r. ⌜ r ≡ messageAt (was queue) index ⌝ }
 {
     let place = place_of(queue, index);
     load_header(queue, place)
@@ -60,7 +61,7 @@ pub fn load_message(queue: &QueueWords, index: usize) -> Message
 // The header at this place.
 fn load_header(queue: &QueueWords, place: usize) -> Message
     requires { ⌜ place < messageRoom ⌝ }
-    ensures { λ r. ⌜ r ≡ headerAt (now (queue .entry)) place ⌝ }
+    ensures { λ r. ⌜ r ≡ headerAt (was queue) place ⌝ }
 {
     message_fields(queue, place)
 }
@@ -68,7 +69,7 @@ fn load_header(queue: &QueueWords, place: usize) -> Message
 // The same, with the fields written out in the contract.
 fn message_fields(queue: &QueueWords, place: usize) -> Message
     requires { ⌜ place < messageRoom ⌝ }
-    ensures { λ r. ⌜ r ≡ messageFields (now (queue .entry)) place ⌝ }
+    ensures { λ r. ⌜ r ≡ messageFields (was queue) place ⌝ }
 {
     let base = place * HEADER_SIZE;
     let version = Version {
@@ -89,14 +90,14 @@ fn message_fields(queue: &QueueWords, place: usize) -> Message
 // The header at this place is replaced.
 fn store_header(queue: &mut QueueWords, place: usize, message: Message)
     requires { ⌜ place < messageRoom ⌝ }
-    ensures { λ _. ⌜ now (queue .exit) ≡ putHeader (now (queue .entry)) place message ⌝ }
+    ensures { λ _. ⌜ is queue ≡ putHeader (was queue) place message ⌝ }
 {
     message_stores(queue, place, message);
 }
 
 fn message_stores(queue: &mut QueueWords, place: usize, message: Message)
     requires { ⌜ place < messageRoom ⌝ }
-    ensures { λ _. ⌜ now (queue .exit) ≡ messageStores (now (queue .entry)) place message ⌝ }
+    ensures { λ _. ⌜ is queue ≡ messageStores (was queue) place message ⌝ }
 {
     let base = place * HEADER_SIZE;
     let version = message.version;
@@ -120,7 +121,7 @@ pub fn append_message(
     content: usize,
 )
     requires { ⌜ (count < messageRoom) × ((content + 1) * contentSize ≤ length (now from)) ⌝ }
-    ensures { λ _. ⌜ Appended (now (queue .entry)) (now (payloads .entry)) count message (block contentSize content (now (from .entry))) (now (queue .exit)) (now (payloads .exit)) ⌝ }
+    ensures { λ _. ⌜ Appended (was queue) (was payloads) count message (block contentSize content (was from)) (is queue) (is payloads) ⌝ }
 {
     let place = place_of(queue, count);
     store_header(queue, place, message);
@@ -130,7 +131,7 @@ pub fn append_message(
 // The message with this index is removed: its place is the first free one then.
 pub fn remove_message(queue: &mut QueueWords, count: usize, index: usize)
     requires { ⌜ (index < count) × (count ≤ messageRoom) ⌝ }
-    ensures { λ _. ⌜ now (queue .exit) ≡ withoutPlace count index (now (queue .entry)) ⌝ }
+    ensures { λ _. ⌜ is queue ≡ withoutPlace count index (was queue) ⌝ }
 {
     remove_place(queue, count, index);
 }
@@ -138,7 +139,7 @@ pub fn remove_message(queue: &mut QueueWords, count: usize, index: usize)
 // The same, with the array lent as a slice, so that its order alone can be lent on.
 fn remove_place(queue: &mut [u32], count: usize, index: usize)
     requires { ⌜ (length (now queue) ≡ queueLength) × ((index < count) × (count ≤ messageRoom)) ⌝ }
-    ensures { λ _. ⌜ now (queue .exit) ≡ withoutPlace count index (now (queue .entry)) ⌝ }
+    ensures { λ _. ⌜ is queue ≡ withoutPlace count index (was queue) ⌝ }
 {
     rotate_words(&mut queue[ORDER_AT..], count, index);
 }

@@ -47,19 +47,19 @@ accepted-line s c l y out is reads accepted = go (parse l) reads (step s l) (com
 
 -- ---- `deliver I`
 
-module _ (s : State) (c : Cluster) (l : List ℕ) (place : ℕ) (is : s .cluster ≡ some c) (reads : parse l ≡ some (deliver place)) where
-  pub delivered-there : (out : List Answer) → step s l .outcome ≡ printed out → place < length (c .messages)
+module _ (s : State) (c : Cluster) (l : List ℕ) (index : ℕ) (is : s .cluster ≡ some c) (reads : parse l ≡ some (deliver index)) where
+  pub delivered-there : (out : List Answer) → step s l .outcome ≡ printed out → index < length (c .messages)
   unfolding conditionsUpTo
   delivered-there out accepted =
-      let t = accepted-line s c l (deliver place) out is reads accepted in
-      message-there c place (all-head (all-tail (none-applies (conditions c (deliver place)) (t .free))))
+      let t = accepted-line s c l (deliver index) out is reads accepted in
+      message-there c index (all-head (all-tail (none-applies (conditions c (deliver index)) (t .free))))
 
   -- with lines and places left it is accepted
-  delivering : place < length (c .messages) → c .accepted < maxAccepted → length (work c (deliver place) .cluster .messages) ≤ maxMessages →
-      step s l ≡ record { state = record { cluster = some (work c (deliver place) .cluster); tally = tallied (s .tally) (work c (deliver place)) }; outcome = printed (work c (deliver place) .answers) }
+  delivering : index < length (c .messages) → c .accepted < maxAccepted → length (work c (deliver index) .cluster .messages) ≤ maxMessages →
+      step s l ≡ record { state = record { cluster = some (work c (deliver index) .cluster); tally = tallied (s .tally) (work c (deliver index)) }; outcome = printed (work c (deliver index) .answers) }
   unfolding stepUpTo performUpTo inClusterUpTo conditionsUpTo firstOf limitReached noMessage acceptLine
   delivering there low room =
-      rw (stepUpTo, reads, performUpTo, is, inClusterUpTo, firstOf, lt-leb maxAccepted (c .accepted) low, lt-leb (length (c .messages)) place there, acceptLine, le-leb (length (work c (deliver place) .cluster .messages)) maxMessages room)
+      rw (stepUpTo, reads, performUpTo, is, inClusterUpTo, firstOf, lt-leb maxAccepted (c .accepted) low, lt-leb (length (c .messages)) index there, acceptLine, le-leb (length (work c (deliver index) .cluster .messages)) maxMessages room)
 
 -- ---- a call in the midst of its deliveries, of which at most `most` may follow
 
@@ -79,22 +79,22 @@ pub record Delivers (f : Followed) (most : ℕ) (before : Option Round) (x : Lin
   pub ended : before ≢ none → after .going .round ≡ none → Answered (f .call) answers
 
 module _ (f : Followed) (small : f .servers ≤ maxServers) {most : ℕ} (bound : most ≤ deliveries (f .servers)) {s : State} (a : Along f most s) where
-  pub delivers : (l : List ℕ) (place : ℕ) → parse l ≡ some (deliver place) → place < length (a .cluster .messages) →
+  pub delivers : (l : List ℕ) (index : ℕ) → parse l ≡ some (deliver index) → index < length (a .cluster .messages) →
       Delivers f most (a .going .round) (step s l)
   unfolding work weigh
-  delivers l place reads there =
+  delivers l index reads there =
       let c = a .cluster in
       let g = a .going in
-      let m = messageAt c place in
-      let ms = dropAt place (c .messages) in
-      let here : Ours f m = all-at place _ there (g .ours) in
-      let others : All (Ours f) ms = all-append (all-take place (g .ours)) (all-drop (place + 1) (g .ours)) in
-      let slot : Slot f (m ∷ ms) (g .round) (g .call) = slot-among f (g .round) (g .call) (λ q k up. awaited-at place _ (c .messages) there) (g .slot) in
+      let m = messageAt c index in
+      let ms = dropAt index (c .messages) in
+      let here : Ours f m = all-at index _ there (g .ours) in
+      let others : All (Ours f) ms = all-append (all-take index (g .ours)) (all-drop (index + 1) (g .ours)) in
+      let slot : Slot f (m ∷ ms) (g .round) (g .call) = slot-among f (g .round) (g .call) (λ q k up. awaited-at index _ (c .messages) there) (g .slot) in
       let o = delivered-onward f c g m ms here others slot in
-      let same : weighs (m .body) + weigh ms ≡ weigh (c .messages) = weigh-dropAt place _ (c .messages) there in
-      let w = work c (deliver place) in
+      let same : weighs (m .body) + weigh ms ≡ weigh (c .messages) = weigh-dropAt index _ (c .messages) there in
+      let w = work c (deliver index) in
       let room : length (w .cluster .messages) ≤ maxMessages = omega (arith, length-weigh (w .cluster .messages), o .less, same, a .few) in
-      let t = delivering s c l place (a .is) reads there (omega (arith, o .less, same, a .few, a .lines)) room in
+      let t = delivering s c l index (a .is) reads there (omega (arith, o .less, same, a .few, a .lines)) room in
       record {
         answers = w .answers;
         accepted = ap (λ x. x .outcome) t;

@@ -75,11 +75,11 @@ swapped (here e h) = here e h
 swapped (later h) = later (later h)
 
 -- whichever message is taken out of the list: what was awaited is that one, or still in the list
-pub awaited-at : {q k : ℕ} (place : ℕ) (d : Message) (l : List Message) → place < length l → Awaited q k l → Awaited q k (getD l place d ∷ dropAt place l)
-awaited-at place d [] h a = absurd (omega arith)
+pub awaited-at : {q k : ℕ} (index : ℕ) (d : Message) (l : List Message) → index < length l → Awaited q k l → Awaited q k (getD l index d ∷ dropAt index l)
+awaited-at index d [] h a = absurd (omega arith)
 awaited-at zero d (m ∷ l) h a = a
-awaited-at (suc place) d (m ∷ l) h (here e i) = rw (dropAt-later place m l) (later (here e i))
-awaited-at (suc place) d (m ∷ l) h (later a) = rw (dropAt-later place m l) (swapped (awaited-at place d l (omega arith) a))
+awaited-at (suc index) d (m ∷ l) h (here e i) = rw (dropAt-later index m l) (later (here e i))
+awaited-at (suc index) d (m ∷ l) h (later a) = rw (dropAt-later index m l) (swapped (awaited-at index d l (omega arith) a))
 
 -- ---- those of a broadcast, made under number v in round k
 

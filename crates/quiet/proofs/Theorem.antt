@@ -54,9 +54,9 @@ record Passed (f : Followed) (most k : ℕ) (before : Option Round) (more : List
 passed : (f : Followed) → f .servers ≤ maxServers → (most : ℕ) → most ≤ deliveries (f .servers) → {k : ℕ} {s t : State} {more : List Answer} →
     Delivered k s more t → (a : Along f most s) → Passed f most k (a .going .round) more t
 passed f small most bound nothing a = record { left = most; sum = omega arith; after = a; ended = λ x y. absurd (x y) }
-passed f small most bound (any {k = k} {s = s} {t = t} l place out {more = more} reads accepted rest) a =
-    let there = delivered-there s (a .cluster) l place (a .is) reads out accepted in
-    let d = delivers f small bound a l place reads there in
+passed f small most bound (any {k = k} {s = s} {t = t} l index out {more = more} reads accepted rest) a =
+    let there = delivered-there s (a .cluster) l index (a .is) reads out accepted in
+    let d = delivers f small bound a l index reads there in
     let same : d .answers ≡ out = cc (d .accepted, accepted) in
     let p = passed f small (most - 1) (omega (arith, bound)) rest (d .after) in
     record {
@@ -144,7 +144,7 @@ module _ (c : Cluster) (p : ℕ) (w : Words) (few : serversOf c ≤ maxServers) 
         cluster = a .cluster;
         is = a .is;
         few = omega (arith, r .sum);
-        deliverable = λ l place reads h. let x = delivers f few (omega (arith, r .sum)) a l place reads h in (x .answers, x .accepted);
+        deliverable = λ l index reads h. let x = delivers f few (omega (arith, r .sum)) a l index reads h in (x .answers, x .accepted);
         answered = λ empty. elim (none-or-some (begins .round)) [
           | inl x ↦ answered-before more (begins .ended x)
           | inr x ↦ answered-later (begun .answers) (r .ended x (none-waits f (a .cluster) (a .going) empty))
@@ -171,11 +171,11 @@ unfolding computing
 deliver-line = refl
 
 -- one more delivery
-delivered-too : {k : ℕ} {s t : State} {more : List Answer} (l : List ℕ) (place : ℕ) (out : List Answer) → parse l ≡ some (deliver place) → step t l .outcome ≡ printed out →
+delivered-too : {k : ℕ} {s t : State} {more : List Answer} (l : List ℕ) (index : ℕ) (out : List Answer) → parse l ≡ some (deliver index) → step t l .outcome ≡ printed out →
     Delivered k s more t → Delivered (suc k) s (more ++ out) (step t l .state)
-delivered-too {t = t} l place out reads accepted nothing = subst (λ x. Delivered 1 t x (step t l .state)) (append-nil out) (any l place out reads accepted nothing)
-delivered-too {t = t} l place out reads accepted (any {k = k} {s = s} m at o {more = more} r a rest) =
-    subst (λ x. Delivered (suc (suc k)) s x (step t l .state)) (sym (append-assoc o more out)) (any m at o r a (delivered-too l place out reads accepted rest))
+delivered-too {t = t} l index out reads accepted nothing = subst (λ x. Delivered 1 t x (step t l .state)) (append-nil out) (any l index out reads accepted nothing)
+delivered-too {t = t} l index out reads accepted (any {k = k} {s = s} m at o {more = more} r a rest) =
+    subst (λ x. Delivered (suc (suc k)) s x (step t l .state)) (sym (append-assoc o more out)) (any m at o r a (delivered-too l index out reads accepted rest))
 
 -- from state s on, after which any order of delivery is as `orders` says
 module _ (n i : ℕ) (out : List Answer) (s : State) (orders : (k : ℕ) (more : List Answer) (t : State) → Delivered k s more t → Underway n i k (out ++ more) t) where

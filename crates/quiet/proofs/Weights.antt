@@ -51,17 +51,17 @@ unfolding weigh
 length-weigh [] = omega arith
 length-weigh (m ∷ l) = omega (arith, weighs-some (m .body), length-weigh l)
 
-pub dropAt-later : (place : ℕ) (m : Message) (l : List Message) → dropAt (suc place) (m ∷ l) ≡ m ∷ dropAt place l
-dropAt-later place m l =
-    let same : suc place + 1 ≡ suc (place + 1) = omega arith in
-    ap (λ k. m ∷ (take place l ++ drop k (m ∷ l))) same
+pub dropAt-later : (index : ℕ) (m : Message) (l : List Message) → dropAt (suc index) (m ∷ l) ≡ m ∷ dropAt index l
+dropAt-later index m l =
+    let same : suc index + 1 ≡ suc (index + 1) = omega arith in
+    ap (λ k. m ∷ (take index l ++ drop k (m ∷ l))) same
 
 -- a message taken out of the list takes its weight along
-pub weigh-dropAt : (place : ℕ) (d : Message) (l : List Message) → place < length l → weighs (getD l place d .body) + weigh (dropAt place l) ≡ weigh l
+pub weigh-dropAt : (index : ℕ) (d : Message) (l : List Message) → index < length l → weighs (getD l index d .body) + weigh (dropAt index l) ≡ weigh l
 unfolding weigh
-weigh-dropAt place d [] h = absurd (omega arith)
+weigh-dropAt index d [] h = absurd (omega arith)
 weigh-dropAt zero d (m ∷ l) h = refl
-weigh-dropAt (suc place) d (m ∷ l) h = omega (arith, ap weigh (dropAt-later place m l), weigh-dropAt place d l (omega arith))
+weigh-dropAt (suc index) d (m ∷ l) h = omega (arith, ap weigh (dropAt-later index m l), weigh-dropAt index d l (omega arith))
 
 -- ---- a broadcast
 

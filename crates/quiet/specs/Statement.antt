@@ -130,7 +130,7 @@ QuietCallOfAScript =
 pub data Delivered : ℕ → State → List Answer → State → Type 0 where
   nothing : {s : State} → Delivered 0 s [] s
   any :
-      {k : ℕ} {s t : State} (l : List ℕ) (place : ℕ) (out : List Answer) {more : List Answer} → parse l ≡ some (deliver place) →
+      {k : ℕ} {s t : State} (l : List ℕ) (index : ℕ) (out : List Answer) {more : List Answer} → parse l ≡ some (deliver index) →
       step s l .outcome ≡ printed out → Delivered k (step s l .state) more t → Delivered (suc k) s (out ++ more) t
 
 -- k deliveries after the line of call i, in state s; `out` was printed from that line on
@@ -139,7 +139,7 @@ pub record Underway (n i k : ℕ) (out : List Answer) (s : State) : Type 0 where
   pub is : s .cluster ≡ some cluster
   pub few : k ≤ deliveries n
   -- any message of the list can be delivered next
-  pub deliverable : (l : List ℕ) (place : ℕ) → parse l ≡ some (deliver place) → place < length (cluster .messages) →
+  pub deliverable : (l : List ℕ) (index : ℕ) → parse l ≡ some (deliver index) → index < length (cluster .messages) →
       (more : List Answer) × (step s l .outcome ≡ printed more)
   pub answered : NoneInFlight cluster → Answered i out
 

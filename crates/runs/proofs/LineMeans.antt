@@ -11,7 +11,7 @@ use Rattle.server.specs.declared.Effect.{Effect}
 use Rattle.memory.specs.declared.Counts.{Counts}
 use Rattle.memory.specs.Layout.{countsAt}
 use Rattle.views.specs.Changes.{answersRoom}
-use Rattle.views.specs.Memory.{Memory, Sized, standing, clusterIn}
+use Rattle.views.specs.Memory.{Memory, Sized, standing}
 use Rattle.parse.specs.declared.Kind.{Kind}
 use Rattle.parse.specs.declared.Kind.the-variants as K
 use Rattle.parse.specs.declared.Line.{Line}

@@ -16,14 +16,14 @@ use Rattle.memory.specs.Layout.{slotOf, queueLength, countsAt, orderOf}
 use Rattle.messages.proofs.MessageLaws.{ordered-fresh}
 use Rattle.moves.specs.declared.Move.{Move}
 use Rattle.views.specs.Memory.{Memory, standing}
-use Rattle.views.specs.Queue.{flight, withoutMessage}
+use Rattle.views.specs.Queue.{flight}
 use Rattle.views.proofs.Queue.{sent-order, left-order}
 use Rattle.plans.specs.declared.Step.{Step}
 use Rattle.plans.specs.declared.Plan.{Plan}
 use Rattle.parse.specs.declared.Kind.{Kind}
 use Rattle.parse.specs.declared.Kind.the-variants as K
 use Rattle.parse.specs.declared.Line.{Line}
-use Rattle.runs.specs.Runs.{Ran, leftFlight, movedAt, sentFlight, refusedRun, lostRun, carriedRun, taken, executed, freshMemory, createdRun, clusterRun, linePlan, plannedRun, runBy, lineRun}
+use Rattle.runs.specs.Runs.{leftFlight, movedAt, refusedRun, lostRun, carriedRun, taken, executed, freshMemory, createdRun, clusterRun, plannedRun, runBy, lineRun}
 use Rattle.runs.proofs.Standing.{standing-measured}
 
 -- ---- where a cluster stands

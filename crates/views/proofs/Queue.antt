@@ -18,7 +18,7 @@ use Rattle.memory.specs.Layout.{queueLength, contentSize, orderOf, placeAt, mes
 use Rattle.messages.specs.Messages.{Sent, sentAt, messagesAt}
 use Rattle.memory.proofs.Records.{length-putHeader, order-putHeader}
 use Rattle.messages.proofs.ContentLaws.{length-putContent}
-use Rattle.messages.proofs.MessageLaws.{place-low, length-messages, messages-at, order-appended, messages-appended, length-withoutPlace, ordered-withoutPlace, messages-removed}
+use Rattle.messages.proofs.MessageLaws.{place-low, length-messages, messages-at, messages-appended, length-withoutPlace, ordered-withoutPlace, messages-removed}
 use Rattle.moves.specs.declared.Move.{Move}
 use Rattle.moves.specs.Reactions.{messageIn}
 use Rattle.views.specs.Memory.{sentIn, tableAt, flightAt}
@@ -66,7 +66,7 @@ module _ (v : List ℕ) (m : Message) (x : Flight) (sound : Sound x) (room : x .
   appended-sound =
       record {
         queue = length-putHeader (x .queue) (placeAt (x .queue) (x .count)) m ∙ sound .queue;
-        order = rw (order-appended (x .count) (x .queue) (x .payloads) m v (sound .queue) room (sound .payloads) whole) (sound .order);
+        order = rw (order-putHeader (x .queue) (placeAt (x .queue) (x .count)) m (place-low (x .queue) (x .count))) (sound .order);
         payloads = let h = sound .payloads in length-putContent 64 (placeAt (x .queue) (x .count)) (x .payloads) v whole (place-low (x .queue) (x .count)) (omega arith) ∙ sound .payloads;
         count = omega arith;
       }
@@ -105,7 +105,7 @@ removed-count false i x = refl
 abbrev orderIn : Flight → List ℕ
 orderIn x = orderOf (x .queue)
 
-pub appended-order : (v : List ℕ) (m : Message) (x : Flight) → orderOf (appended v m x .queue) ≡ orderOf (x .queue)
+appended-order : (v : List ℕ) (m : Message) (x : Flight) → orderOf (appended v m x .queue) ≡ orderOf (x .queue)
 unfolding appended
 appended-order v m x = order-putHeader (x .queue) (placeAt (x .queue) (x .count)) m (place-low (x .queue) (x .count))
 

@@ -117,8 +117,8 @@ fn view(session: &Session, printed: Vec<u8>) -> View {
             under_way: lent.flight,
         },
         messages: (0..count)
-            .map(|place| {
-                let (header, content) = session.message(place);
+            .map(|index| {
+                let (header, content) = session.message(index);
                 Message { header, content }
             })
             .collect(),

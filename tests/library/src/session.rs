@@ -16,7 +16,7 @@ mod exported {
             copies: &mut [u8; 7168],
             working: &mut [u8; 7168],
             texts: &mut [u8; 3584],
-            queue: &mut [u32; 512],
+            queue: &mut [u32; 576],
             payloads: &mut [u8; 8192],
             answers: &mut [u32; 32],
             reader: &mut [usize; 3],
@@ -34,7 +34,7 @@ mod exported {
             copies: &mut [u8; 7168],
             working: &mut [u8; 7168],
             texts: &mut [u8; 3584],
-            queue: &mut [u32; 512],
+            queue: &mut [u32; 576],
             payloads: &mut [u8; 8192],
             answers: &mut [u32; 32],
             reader: &mut [usize; 3],
@@ -51,6 +51,9 @@ pub const CONTENT: usize = 113;
 const CONTENT_BLOCK: usize = 128;
 /// Words of a message's header.
 pub const HEADER: usize = 8;
+/// Places for messages, and where their order begins, behind the headers.
+const PLACES: usize = 64;
+const ORDER: usize = PLACES * HEADER;
 /// The kinds of messages with a version and a content.
 const WITH_CONTENT: [u32; 2] = [4, 8];
 
@@ -100,7 +103,7 @@ pub struct Session {
     pub copies: Guarded<[u8; 7168]>,
     pub working: Guarded<[u8; 7168]>,
     pub texts: Guarded<[u8; 3584]>,
-    pub queue: Guarded<[u32; 512]>,
+    pub queue: Guarded<[u32; 576]>,
     pub payloads: Guarded<[u8; 8192]>,
     pub answers: Guarded<[u32; 32]>,
     /// Lines read, bytes held of the present line, bytes last written.
@@ -126,7 +129,7 @@ impl Session {
             copies: Guarded::new([old; 7168]),
             working: Guarded::new([old; 7168]),
             texts: Guarded::new([old; 3584]),
-            queue: Guarded::new([word; 512]),
+            queue: Guarded::new([word; 576]),
             payloads: Guarded::new([old; 8192]),
             answers: Guarded::new([word; 32]),
             reader: Guarded::new([0; 3]),
@@ -193,10 +196,22 @@ impl Session {
         self.counts.value[3]
     }
 
-    /// The message at a place of the list: kind, sender, receiver, bucket,
+    /// Where the message with this index of the list lies.
+    fn place(&self, index: usize) -> usize {
+        self.queue.value[ORDER + index] as usize % PLACES
+    }
+
+    /// The words of a message's header, to be written over.
+    pub fn header(&mut self, index: usize) -> &mut [u32] {
+        let place = self.place(index);
+        &mut self.queue.value[place * HEADER..][..HEADER]
+    }
+
+    /// The message with this index of the list: kind, sender, receiver, bucket,
     /// election, round, version, and its content. Kinds without a content have
     /// zeros for it and the version.
-    pub fn message(&self, place: usize) -> ([u32; HEADER], [u8; CONTENT]) {
+    pub fn message(&self, index: usize) -> ([u32; HEADER], [u8; CONTENT]) {
+        let place = self.place(index);
         let mut header = [0; HEADER];
         let mut content = [0; CONTENT];
         header.copy_from_slice(&self.queue.value[place * HEADER..][..HEADER]);

@@ -2,7 +2,7 @@
 //! to nobody, and the bytes beside the words of a call.
 
 use library::output::LINE_ROOM;
-use library::session::{Session, HEADER};
+use library::session::Session;
 
 /// The words of a message: kind, sender, receiver, bucket and on.
 const KIND: usize = 0;
@@ -33,8 +33,8 @@ fn messages_to_nobody() {
                 &mut session,
                 format!("cluster {servers} 1\nelect 0\n").as_bytes(),
             );
-            session.queue.value[RECEIVER] = receiver;
-            session.queue.value[HEADER + RECEIVER] = receiver;
+            session.header(0)[RECEIVER] = receiver;
+            session.header(1)[RECEIVER] = receiver;
             let before = session.clone();
 
             assert_eq!(feed(&mut session, b"cut 0 0\n"), b"line 3 refused 18\n");
@@ -54,7 +54,7 @@ fn messages_of_no_kind() {
     for kind in [0, 10, 11, u32::MAX] {
         let mut session = Session::new();
         feed(&mut session, b"cluster 3 1\nelect 0\n");
-        session.queue.value[KIND] = kind;
+        session.header(0)[KIND] = kind;
         let before = session.clone();
 
         assert_eq!(feed(&mut session, b"cut 0 0\n"), b"line 3 refused 18\n");
@@ -74,11 +74,11 @@ fn messages_of_no_bucket() {
         let mut session = Session::new();
         let lines = "cluster 3 1\nelect 0\ndeliver 0\ndeliver 0\ndeliver 0\ndeliver 0\nget 0 61\n";
         assert_eq!(feed(&mut session, lines.as_bytes()), b"");
-        session.queue.value[BUCKET] = bucket;
+        session.header(0)[BUCKET] = bucket;
 
         assert_eq!(feed(&mut session, b"deliver 0\n"), b"");
-        let place = session.under_way() as usize - 1;
-        let (header, _) = session.message(place);
+        let last = session.under_way() as usize - 1;
+        let (header, _) = session.message(last);
         assert_eq!([header[KIND], header[BUCKET]], [8, bucket]);
     }
 }

@@ -14,8 +14,7 @@ sub-result c = search needs
 returns : tie.Need-returns
 unfolding withoutMessage
 returns c =
-    let r = c .remove-message .ensures in
-    record { is = rw (r .headers, r .contents); few = omega arith }
+    record { is = rw (c .remove-message .ensures); few = omega arith }
 
 pub remove-spec : {M : Type 1} → statement M
 remove-spec = tie.close (tie.spec remove-message-requires sub-result returns)

@@ -98,10 +98,10 @@ abbrev S5 : Slot 14
 S5 = ArrayOf (plain (λ _. u8)) (λ _. tt) 3584
 
 abbrev R6 : RattleType
-R6 = Array u32 tt 512
+R6 = Array u32 tt 576
 
 abbrev S6 : Slot 14
-S6 = ArrayOf (plain (λ _. u32)) (λ _. tt) 512
+S6 = ArrayOf (plain (λ _. u32)) (λ _. tt) 576
 
 abbrev R7 : RattleType
 R7 = Array u8 tt 8192

@@ -18,8 +18,8 @@ store-counts-requires c κs = search needs
 send-count-requires : tie.Need-send-count-requires
 send-count-requires c κs = search needs
 
-cast-t26 : tie.Need-cast-t26
-cast-t26 c = search needs
+cast-t27 : tie.Need-cast-t27
+cast-t27 c = search needs
 
 returns : tie.Need-returns
 returns c =
@@ -36,5 +36,5 @@ carry-on-spec =
     next-counts-requires
     store-counts-requires
     send-count-requires
-    cast-t26
+    cast-t27
     returns)

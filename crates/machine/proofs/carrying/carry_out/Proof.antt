@@ -1,4 +1,4 @@
--- `carrying::carry_out` meets its contract: the working content, then the rest.
+-- `carrying::carry_out` meets its contract: the place of the message, the working content, then the rest.
 use Rattle.machine.proofs.Assembling.{carried-out}
 use borrow.Author.Needs.{needs}
 use Rattle.machine.proofs.carrying.carry_out.Statement.{statement}
@@ -13,8 +13,11 @@ cast-slot-of-2 c = search needs
 slot-of-requires : tie.Need-slot-of-requires
 slot-of-requires c κs = search needs
 
-cast-fill-work : tie.Need-cast-fill-work
-cast-fill-work c = search needs
+cast-place-of : tie.Need-cast-place-of
+cast-place-of c = search needs
+
+place-of-requires : tie.Need-place-of-requires
+place-of-requires c κs = search needs
 
 fill-work-requires : tie.Need-fill-work-requires
 fill-work-requires c κs = search needs
@@ -24,9 +27,10 @@ carry-on-requires c κs = search needs
 
 returns : tie.Need-returns
 returns c =
-    let slot-of = c .before .before .before .before .before .before .before .before .before .before .before .before .before .before .slot-of in
+    let slot-of = c .before .before .before .before .before .before .before .before .before .before .before .before .before .before .before .before .slot-of in
+    let place-of = c .before .before .before .before .before .before .before .before .before .before .before .before .before .place-of in
     let fill-work = c .before .before .before .before .before .before .before .before .before .fill-work in
-    record { is = λ f. carried-out _ _ _ _ _ _ _ _ _ _ _ _ f _ _ _ _ _ _ _ _ _ _ _ (slot-of .ensures) (fill-work .ensures) (c .carry-on .ensures) }
+    record { is = λ f. carried-out _ _ _ _ _ _ _ _ _ _ _ _ f _ _ _ _ _ _ _ _ _ _ _ _ (slot-of .ensures) (place-of .ensures .0) (fill-work .ensures) (c .carry-on .ensures) }
 
 pub carry-out-spec : {M : Type 1} → statement M
 carry-out-spec =
@@ -35,7 +39,8 @@ carry-out-spec =
     cast-slot-of
     cast-slot-of-2
     slot-of-requires
-    cast-fill-work
+    cast-place-of
+    place-of-requires
     fill-work-requires
     carry-on-requires
     returns)

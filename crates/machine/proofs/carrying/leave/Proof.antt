@@ -6,12 +6,12 @@ use Rattle.machine.proofs.carrying.leave.Tie as tie
 
 remove-requires : tie.Need-remove-requires
 remove-requires c κs =
-    let pre = c .before .before .before .pre in
-    (pre .1 (c .before .before .if1 .taken), pre .0)
+    let pre = c .before .before .pre in
+    (pre .1 (c .before .if1 .taken), pre .0)
 
 returns : tie.Need-returns
 returns c =
-    let if1 = c .before .before .before .if1 in
+    let if1 = c .before .before .if1 in
     rw (if1 .taken) (c .remove .ensures)
 
 returns-2 : tie.Need-returns-2

@@ -19,8 +19,8 @@ next-counts-requires c κs = search needs
 store-counts-requires : tie.Need-store-counts-requires
 store-counts-requires c κs = search needs
 
-cast-t15 : tie.Need-cast-t15
-cast-t15 c = search needs
+cast-t14 : tie.Need-cast-t14
+cast-t14 c = search needs
 
 returns : tie.Need-returns
 returns c =
@@ -36,5 +36,5 @@ lose-spec =
     leave-requires
     next-counts-requires
     store-counts-requires
-    cast-t15
+    cast-t14
     returns)

@@ -12,6 +12,9 @@ zero-words-requires-2 c κs = search needs
 zero-bytes-requires : tie.Need-zero-bytes-requires
 zero-bytes-requires c κs = search needs
 
+free-places-requires : tie.Need-free-places-requires
+free-places-requires c κs = search needs
+
 fresh-counts-requires : tie.Need-fresh-counts-requires
 fresh-counts-requires c κs = search needs
 
@@ -20,10 +23,11 @@ store-counts-requires c κs = search needs
 
 returns : tie.Need-returns
 returns c =
-    let zero-words = c .before .before .before .before .before .before .before .zero-words in
-    let zero-words2 = c .before .before .before .before .before .zero-words2 in
-    let zero-bytes = c .before .before .before .zero-bytes in
-    record { counted = rw (c .store-counts .ensures, c .before .fresh-counts .ensures); heads = zero-words .ensures; slots = zero-words2 .ensures; copies = zero-bytes .ensures }
+    let zero-words = c .before .before .before .before .before .before .before .before .before .zero-words in
+    let zero-words2 = c .before .before .before .before .before .before .before .zero-words2 in
+    let zero-bytes = c .before .before .before .before .before .zero-bytes in
+    let free-places = c .before .before .before .free-places in
+    record { counted = rw (c .store-counts .ensures, c .before .fresh-counts .ensures); heads = zero-words .ensures; slots = zero-words2 .ensures; copies = zero-bytes .ensures; places = free-places .ensures }
 
 pub create-spec : {M : Type 1} → statement M
 create-spec =
@@ -32,6 +36,7 @@ create-spec =
     zero-words-requires
     zero-words-requires-2
     zero-bytes-requires
+    free-places-requires
     fresh-counts-requires
     store-counts-requires
     returns)

@@ -26,13 +26,13 @@ create-requires c κs = search needs
 
 returns-2 : tie.Need-returns-2
 returns-2 c =
-    let load-counts = c .before .before .before .before .before .before .before .before .before .before .before .load-counts in
-    let standing-call = c .before .before .before .before .before .before .before .before .before .before .standing in
-    let if1 = c .before .before .before .before .before .before .before .before .before .if1 in
-    let within = c .before .before .before .before .before .before .before .before .within in
-    let if2 = c .before .before .before .before .before .before .before .if2 in
-    let within2 = c .before .before .before .before .before .before .within2 in
-    let if3 = c .before .before .before .before .before .if3 in
+    let load-counts = c .before .before .before .before .before .before .before .before .before .before .before .before .load-counts in
+    let standing-call = c .before .before .before .before .before .before .before .before .before .before .before .standing in
+    let if1 = c .before .before .before .before .before .before .before .before .before .before .if1 in
+    let within = c .before .before .before .before .before .before .before .before .before .within in
+    let if2 = c .before .before .before .before .before .before .before .before .if2 in
+    let within2 = c .before .before .before .before .before .before .before .within2 in
+    let if3 = c .before .before .before .before .before .before .if3 in
     made (sym (standing-call .ensures ∙ ap standing (load-counts .ensures)) ∙ if1 .left) (sym (within .ensures) ∙ if2 .taken) (sym (within2 .ensures) ∙ if3 .taken) (c .create .ensures)
 
 returns-3 : tie.Need-returns-3

@@ -30,9 +30,9 @@ bare-report-requires-2 c κs = search needs
 
 returns-2 : tie.Need-returns-2
 returns-2 c =
-    let route-of = c .before .before .before .before .before .before .before .before .before .route-of in
-    let if2 = c .before .before .before .before .before .before .before .if2 in
-    cluster-run _ _ _ _ _ _ _ _ _ _ _ refl (sym (route-of .ensures) ∙ if2 .taken) (c .before .before .cluster-line .ensures) (c .bare-report2 .ensures)
+    let route-of = c .before .before .before .before .before .before .before .before .before .before .route-of in
+    let if2 = c .before .before .before .before .before .before .before .before .if2 in
+    cluster-run _ _ _ _ _ _ _ _ _ _ _ _ refl (sym (route-of .ensures) ∙ if2 .taken) (c .before .before .cluster-line .ensures) (c .bare-report2 .ensures)
 
 planned-line-requires : tie.Need-planned-line-requires
 planned-line-requires c κs =
