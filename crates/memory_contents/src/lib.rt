@@ -11,7 +11,7 @@ ghost use lib.ListN.{length, drop};
 ghost use lib.Seq.{paste};
 ghost use Rattle.memory.specs.Layout.{slotRoom, messageRoom};
 ghost use Rattle.memory.specs.Lent.{was, is};
-ghost use Rattle.memory_regions.specs.Contents.{contentRoom, oldContents, newContents, copyOf, workingOf, payloadOf, putCopy, putWorking, putPayload};
+ghost use Rattle.memory_regions.specs.Contents.{contentRoom, oldContent, oldContents, newContents, copyOf, workingOf, payloadOf, putCopy, putWorking, putPayload};
 ghost use Rattle.memory_contents.specs.Copied.{CopiesContent};
 
 pub mod tables;
@@ -69,18 +69,10 @@ pub fn copy_from_payload(bytes: &mut Bytes, slot: usize, place: usize)
     copy_content(bytes, FIRST_COPY + slot, FIRST_PAYLOAD + place);
 }
 
-// The content of the message at this place becomes the working content of a slot.
-pub fn payload_from_working(bytes: &mut Bytes, place: usize, slot: usize)
-    requires { ⌜ (place < messageRoom) × (slot < slotRoom) ⌝ }
-    ensures { λ _. ⌜ newContents bytes ≡ putPayload (oldContents bytes) place (workingOf (oldContents bytes) slot) ⌝ }
+// The content of the message at this place becomes content `from`, a number of a block of the whole array.
+pub fn payload_from_content(bytes: &mut Bytes, place: usize, from: usize)
+    requires { ⌜ (place < messageRoom) × (from < contentRoom) ⌝ }
+    ensures { λ _. ⌜ newContents bytes ≡ putPayload (oldContents bytes) place (oldContent bytes from) ⌝ }
 {
-    copy_content(bytes, FIRST_PAYLOAD + place, FIRST_WORKING + slot);
-}
-
-// The content of the message at this place becomes that of the copy at a slot.
-pub fn payload_from_copy(bytes: &mut Bytes, place: usize, slot: usize)
-    requires { ⌜ (place < messageRoom) × (slot < slotRoom) ⌝ }
-    ensures { λ _. ⌜ newContents bytes ≡ putPayload (oldContents bytes) place (copyOf (oldContents bytes) slot) ⌝ }
-{
-    copy_content(bytes, FIRST_PAYLOAD + place, FIRST_COPY + slot);
+    copy_content(bytes, FIRST_PAYLOAD + place, from);
 }

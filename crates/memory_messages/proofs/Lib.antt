@@ -1,2 +1,3 @@
--- The law of the order as the end of the words.
+-- The order as the end of the words, and numbers stored one by one.
 pub mod Orders
+pub mod Numbers

@@ -1,4 +1,5 @@
--- The order of messages ends the words: lent alone and rotated, it leaves the queue without a place, and the other regions as they were.
+-- The order of messages ends the words: lent alone and rotated, it leaves the queue without a place, numbered anew with all places free,
+-- and the other regions as they were.
 use mathlib.Core.Path.{_≡_, refl, sym, ap, _∙_}
 use mathlib.Core.List.{List, [], _++_, append-nil}
 use Prim.Native.Nat.{ℕ, _+_, _-_, _≤_, _<_}
@@ -6,9 +7,9 @@ use native.Mathlib.Omega.{arith}
 use lib.ListN.{length, take, drop, drop-of-length-le, length-drop}
 use lib.Seq.{sets, sets-eq, take-all}
 use borrow.Author.Tests.{lt-ltb}
-use Rattle.blocks.specs.Order.{rotated}
-use Rattle.blocks.proofs.Order.{length-rotated}
-use Rattle.memory.specs.Layout.{messageRoom, queueLength, orderPlace, withoutPlace}
+use Rattle.blocks.specs.Order.{rotated, rising}
+use Rattle.blocks.proofs.Order.{length-rotated, length-rising}
+use Rattle.memory.specs.Layout.{messageRoom, queueLength, orderPlace, withoutPlace, freshPlaces}
 use Rattle.memory_regions.specs.Cuts.{region}
 use Rattle.memory_regions.specs.Regions.{wordSizes, wordCount, queuePlace, regions, regionsOf, withQueue}
 use Rattle.memory_regions.proofs.Cuts.{cut-sets, region-part, length-region, lent-sets}
@@ -42,6 +43,23 @@ module _ (w : List ℕ) (long : length w ≡ wordCount) where
       ∙ ap (λ q. take messageRoom (drop orderPlace q)) (sym (queue-region w))
       ∙ take-all messageRoom (drop orderPlace (regions w .queue)) (rw length-drop (omega arith))
 
+  -- the order came back as another
+  order-replaced : (part : List ℕ) → length part ≡ messageRoom
+      → regions (take orderStart w ++ (part ++ drop (length w - orderStart) (drop orderStart w))) ≡ withQueue (regions w) (take orderPlace (regions w .queue) ++ part)
+  order-replaced part whole =
+      let rest : length w - orderStart ≡ messageRoom = omega arith in
+      let q = queue-length in
+      ap (λ k. regions (take orderStart w ++ (part ++ drop k (drop orderStart w)))) rest
+      ∙ ap regions (lent-sets orderStart messageRoom w part whole (omega arith))
+      ∙ order-sets w part whole
+      ∙ ap (withQueue (regions w)) (sets-last (regions w .queue) part q whole)
+
+  pub order-freed : (part : List ℕ) → part ≡ rising 0 messageRoom
+      → regions (take orderStart w ++ (part ++ drop (length w - orderStart) (drop orderStart w))) ≡ withQueue (regions w) (freshPlaces (regions w .queue))
+  unfolding freshPlaces
+  order-freed part e =
+      order-replaced part (ap length e ∙ length-rising messageRoom 0) ∙ ap (λ p. withQueue (regions w) (take orderPlace (regions w .queue) ++ p)) e
+
   pub order-rotated : (n i : ℕ) (part : List ℕ) → i < n → n ≤ messageRoom → part ≡ rotated n i (take (length w - orderStart) (drop orderStart w))
       → regions (take orderStart w ++ (part ++ drop (length w - orderStart) (drop orderStart w))) ≡ withQueue (regions w) (withoutPlace n i (regions w .queue))
   unfolding withoutPlace
@@ -53,7 +71,4 @@ module _ (w : List ℕ) (long : length w ≡ wordCount) where
       let same : part ≡ rotated n i order = e ∙ ap (λ k. rotated n i (take k (drop orderStart w))) rest ∙ ap (rotated n i) order-part in
       let whole : length part ≡ messageRoom = ap length same ∙ length-rotated n i order among (omega arith) ∙ size in
       let kept : take orderPlace (regions w .queue) ++ part ≡ withoutPlace n i (regions w .queue) = rw (withoutPlace, lt-ltb i n among, same) in
-      ap (λ k. regions (take orderStart w ++ (part ++ drop k (drop orderStart w)))) rest
-      ∙ ap regions (lent-sets orderStart messageRoom w part whole (omega arith))
-      ∙ order-sets w part whole
-      ∙ ap (withQueue (regions w)) (sets-last (regions w .queue) part q whole ∙ kept)
+      order-replaced part whole ∙ ap (withQueue (regions w)) kept

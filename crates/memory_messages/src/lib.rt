@@ -12,8 +12,7 @@ use memory::offsets::MESSAGE_ROUND;
 use memory::offsets::MESSAGE_SENDER;
 use memory::offsets::WRITTEN_COUNTER;
 use memory::offsets::WRITTEN_ELECTION;
-use memory_contents::payload_from_copy;
-use memory_contents::payload_from_working;
+use memory_contents::payload_from_content;
 use memory_regions::Bytes;
 use memory_regions::QUEUE_AT;
 use memory_regions::Words;
@@ -22,11 +21,12 @@ use server::Version;
 ghost use mathlib.Core.Path.{_≡_};
 ghost use Prim.Native.Nat.{_+_, _*_, _%_, _<_, _≤_};
 ghost use lib.ListN.{length, getD};
+ghost use Rattle.blocks.specs.Order.{rising};
 ghost use Rattle.memory.specs.Rows.{row, putRow};
-ghost use Rattle.memory.specs.Layout.{slotRoom, messageRoom, messageSize, orderPlace, placeAt, withoutPlace, messageRow, messageOf, headerAt, messageAt, putHeader};
+ghost use Rattle.memory.specs.Layout.{messageRoom, messageSize, orderPlace, placeAt, withoutPlace, freshPlaces, messageRow, messageOf, headerAt, messageAt, putHeader};
 ghost use Rattle.memory.specs.Lent.{was, is};
 ghost use Rattle.memory_regions.specs.Regions.{wordCount, queuePlace, oldRegions, newRegions, withQueue};
-ghost use Rattle.memory_regions.specs.Contents.{oldContents, copyOf, workingOf};
+ghost use Rattle.memory_regions.specs.Contents.{contentRoom, oldContent};
 ghost use Rattle.memory_messages.specs.Appended.{AppendsHeader, Appends};
 
 fn wide(number: u32) -> usize
@@ -123,34 +123,19 @@ fn append_header(words: &mut Words, count: usize, message: Message) -> usize
     place
 }
 
-// A message is appended at the first free place, with the working content of this slot.
-pub fn append_working(
+// A message is appended at the first free place, with content `content` of the bytes, a number of a block of the whole array.
+pub fn append_message(
     words: &mut Words,
     bytes: &mut Bytes,
     count: usize,
     message: Message,
-    slot: usize,
+    content: usize,
 )
-    requires { ⌜ (count < messageRoom) × (slot < slotRoom) ⌝ }
-    ensures { λ _. ⌜ Appends words bytes count message (workingOf (oldContents bytes) slot) ⌝ }
+    requires { ⌜ (count < messageRoom) × (content < contentRoom) ⌝ }
+    ensures { λ _. ⌜ Appends words bytes count message (oldContent bytes content) ⌝ }
 {
     let place = append_header(words, count, message);
-    payload_from_working(bytes, place, slot);
-}
-
-// A message is appended at the first free place, with the content of the copy at this slot.
-pub fn append_copy(
-    words: &mut Words,
-    bytes: &mut Bytes,
-    count: usize,
-    message: Message,
-    slot: usize,
-)
-    requires { ⌜ (count < messageRoom) × (slot < slotRoom) ⌝ }
-    ensures { λ _. ⌜ Appends words bytes count message (copyOf (oldContents bytes) slot) ⌝ }
-{
-    let place = append_header(words, count, message);
-    payload_from_copy(bytes, place, slot);
+    payload_from_content(bytes, place, content);
 }
 
 // The message with this index is removed: its place is the first free one then.
@@ -167,4 +152,31 @@ fn remove_place(words: &mut [u32], count: usize, index: usize)
     ensures { λ _. ⌜ newRegions words ≡ withQueue (oldRegions words) (withoutPlace count index (oldRegions words .queue)) ⌝ }
 {
     rotate_words(&mut words[QUEUE_AT + ORDER_AT..], count, index);
+}
+
+// All places are free, in their own order.
+pub fn free_places(words: &mut Words)
+    ensures { λ _. ⌜ newRegions words ≡ withQueue (oldRegions words) (freshPlaces (oldRegions words .queue)) ⌝ }
+{
+    number_places(words);
+}
+
+// The same, with the array lent as a slice, so that its order alone can be lent on.
+fn number_places(words: &mut [u32])
+    requires { ⌜ length (now words) ≡ wordCount ⌝ }
+    ensures { λ _. ⌜ newRegions words ≡ withQueue (oldRegions words) (freshPlaces (oldRegions words .queue)) ⌝ }
+{
+    number_words(&mut words[QUEUE_AT + ORDER_AT..], MESSAGES);
+}
+
+// Every word is its own index.
+fn number_words(dst: &mut [u32], len: usize)
+    requires { ⌜ (length (now dst) ≡ len) × (len ≤ messageRoom) ⌝ }
+    ensures { λ _. ⌜ is dst ≡ rising 0 len ⌝ }
+{
+    let mut i = 0;
+    while i < len {
+        dst[i] = i as u32;
+        i += 1;
+    }
 }

@@ -75,6 +75,10 @@ workingOf c k = block contentSize k (c .working)
 abbrev pub payloadOf : Contents → ℕ → List ℕ
 payloadOf c i = block contentSize i (c .payloads)
 
+-- content j of the lent bytes, in the one numbering, as it was
+abbrev pub oldContent : Lent → ℕ → List ℕ
+oldContent bytes j = block contentSize j (was bytes)
+
 abbrev pub putCopy : Contents → ℕ → List ℕ → Contents
 putCopy c k v = withCopies c (putContent (c .copies) k v)
 

@@ -1,0 +1,2 @@
+-- What the proofs of `machine_answers` share.
+pub mod Ended

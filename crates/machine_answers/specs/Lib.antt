@@ -1,0 +1,2 @@
+-- What the contracts of `machine_answers` cite.
+pub mod Answers

@@ -1,0 +1,3 @@
+-- What the proofs of `machine_carrying` share.
+pub mod Parts
+pub mod Zeros

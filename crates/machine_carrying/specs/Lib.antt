@@ -1,0 +1,2 @@
+-- What the contracts of `machine_carrying` cite.
+pub mod Carried

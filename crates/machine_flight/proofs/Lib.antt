@@ -1,0 +1,2 @@
+-- What the proofs of `machine_flight` share.
+pub mod Sends

@@ -1,0 +1,2 @@
+-- What the contracts of `machine_flight` cite.
+pub mod Flown

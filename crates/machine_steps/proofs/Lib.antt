@@ -1,0 +1,2 @@
+-- What the proofs of `machine_steps` share.
+pub mod Loops

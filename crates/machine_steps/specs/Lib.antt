@@ -1,0 +1,2 @@
+-- What the contracts of `machine_steps` cite.
+pub mod Moved
