@@ -18,7 +18,7 @@ use Rattle.lines.specs.Feeding.{Fed, PartFed}
 abbrev pub sessionIn : Memory → (answers reader line : List ℕ) → Tally → Session
 sessionIn m answers reader line t = session m answers t (getD reader 0 0) (held line (getD reader 1 0))
 
--- within the measures, and the order of the messages names no place twice
+-- within the measures, and where a cluster stands the order of the messages names no place twice
 abbrev pub MeasuredIn : Session → Type 0
 MeasuredIn w = Bounded (w .memory) (tallyIn (w .tally))
 

@@ -25,7 +25,7 @@ use Rattle.runs.specs.declared.Tally.{Tally}
 use Rattle.runs.specs.Runs.{carriedRun, executed}
 use Rattle.machine.specs.declared.Told.{Told}
 use Rattle.machine.specs.declared.Stepped.{Stepped}
-use Rattle.machine.specs.Contracts.{ServerChanged, CarriedOn, CarriedOut, Reported, HandedListed, HandRan, RanPlan, RanLine}
+use Rattle.machine.specs.Contracts.{ServerChanged, CarriedOn, CarriedOut, Reported, HandedListed, HandRan, Clustered, RanPlan, RanLine}
 use Rattle.machine.specs.Meaning.{Performed}
 
 -- ---- a plan is carried out
@@ -81,7 +81,11 @@ HandsListed a c i removes r = HandedListed (old a) (oldAnswers a) c i removes (n
 abbrev pub Hands : Lents → ℕ → Bool → Report → Type 0
 Hands a i removes r = HandRan (old a) (oldAnswers a) i removes (new a) (newAnswers a) r
 
--- ---- a line that needs a cluster, any line, and a line with the tally
+-- ---- the cluster line, a line that needs a cluster, any line, and a line with the tally
+
+abbrev pub Clusters : (counts heads slots copies queue : Lent) → (n b r : ℕ) → Type 0
+Clusters counts heads slots copies queue n b r =
+    Clustered (was counts) (was heads) (was slots) (was copies) (was queue) n b (is counts) (is heads) (is slots) (is copies) (is queue) r
 
 abbrev pub RunsPlan : Lents → Line → Report → Type 0
 RunsPlan a x r = RanPlan (old a) (oldAnswers a) x (new a) (newAnswers a) r

@@ -47,12 +47,12 @@ use server::codes::SETIF;
 use server::measures::MAX_BUCKETS;
 use server::measures::MAX_SERVERS;
 ghost use mathlib.Core.Path.{_≡_};
-ghost use Rattle.memory.specs.Lent.{was, is};
+ghost use Rattle.memory.specs.Lent.{was};
 ghost use Rattle.views.specs.Lent.{lent};
 ghost use Rattle.plans.specs.Arrays.{Measured};
 ghost use Rattle.runs.specs.Runs.{wordsWith, wordsOf};
-ghost use Rattle.machine.specs.Contracts.{LinePlanned, Clustered, routeOf, plannedLine};
-ghost use Rattle.machine.specs.Lent.{RunsPlan, RunsLine};
+ghost use Rattle.machine.specs.Contracts.{LinePlanned, routeOf, plannedLine};
+ghost use Rattle.machine.specs.Lent.{RunsPlan, RunsLine, Clusters};
 
 // Ways to run a line: refused at once; a cluster made; planned, then carried out; a message handed over, which leaves the list or stays.
 const MALFORMED_LINE: u32 = 0;
@@ -180,7 +180,7 @@ fn cluster_line(
     servers: u32,
     buckets: u32,
 ) -> u32
-    ensures { λ r. ⌜ Clustered (was counts) (was heads) (was slots) (was copies) (was queue) servers buckets (is counts) (is heads) (is slots) (is copies) (is queue) r ⌝ }
+    ensures { λ r. ⌜ Clusters counts heads slots copies queue servers buckets r ⌝ }
 {
     if standing(load_counts(counts)) {
         return CLUSTER_WRONG;

@@ -8,7 +8,7 @@ use Rattle.memory.specs.Layout.{contentSize, putContent}
 use Rattle.memory.specs.Lent.{Lent, was, is}
 use Rattle.memory_regions.specs.Contents.{byteCount}
 
--- content j became content i
+-- content i has got the bytes of content j
 pub record CopiedContent (bytes : List ℕ) (i j : ℕ) (bytes′ : List ℕ) : Type 0 where
   pub stored : bytes′ ≡ putContent bytes i (block contentSize j bytes)
   pub long : length bytes ≡ byteCount

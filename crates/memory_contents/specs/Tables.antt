@@ -15,7 +15,7 @@ use Rattle.memory_regions.specs.Contents.{byteCount}
 abbrev pub formOver : List Entry → List ℕ → List ℕ
 formOver t v = bucketBytes maxEntries maxValueBytes t ++ drop contentBytes v
 
--- content i has the form of t, and how many bytes there are: laws of regions ask for it, and for the length of the content
+-- content i has the form of t; the two lengths are what laws of regions ask for
 pub record PutTable (bytes : List ℕ) (i : ℕ) (t : List Entry) (bytes′ : List ℕ) : Type 0 where
   pub stored : bytes′ ≡ putContent bytes i (formOver t (block contentSize i bytes))
   pub whole : length (formOver t (block contentSize i bytes)) ≡ contentSize

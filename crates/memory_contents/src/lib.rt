@@ -16,7 +16,7 @@ ghost use Rattle.memory_contents.specs.Copied.{CopiesContent};
 
 pub mod tables;
 
-// The part that begins at `from` and has this length is copied to `to`, which does not lie within it.
+// The part that begins at `from` and has this length is copied to `to`, which does not lie behind `from` within it.
 fn copy_within(list: &mut [u8], to: usize, from: usize, len: usize)
     requires { ⌜ (to + len ≤ length (now list)) × ((from + len ≤ length (now list)) × (from < to → from + len ≤ to)) ⌝ }
     ensures { λ _. ⌜ is list ≡ paste (was list) to (drop from (was list)) len ⌝ }
@@ -29,7 +29,7 @@ fn copy_within(list: &mut [u8], to: usize, from: usize, len: usize)
     }
 }
 
-// Content `from` becomes content `to`; both are numbers of blocks of the whole array.
+// Content `to` gets the bytes of content `from`; both are numbers of blocks of the whole array.
 pub fn copy_content(bytes: &mut Bytes, to: usize, from: usize)
     requires { ⌜ (to < contentRoom) × (from < contentRoom) ⌝ }
     ensures { λ _. ⌜ CopiesContent bytes to from ⌝ }
@@ -37,7 +37,7 @@ pub fn copy_content(bytes: &mut Bytes, to: usize, from: usize)
     copy_within(bytes, to * CONTENT_SIZE, from * CONTENT_SIZE, CONTENT_SIZE);
 }
 
-// The working content of this slot becomes the content of its copy.
+// The working content of this slot gets the bytes of the content of its copy.
 pub fn working_from_copy(bytes: &mut Bytes, slot: usize)
     requires { ⌜ slot < slotRoom ⌝ }
     ensures { λ _. ⌜ newContents bytes ≡ putWorking (oldContents bytes) slot (copyOf (oldContents bytes) slot) ⌝ }
@@ -45,7 +45,7 @@ pub fn working_from_copy(bytes: &mut Bytes, slot: usize)
     copy_content(bytes, FIRST_WORKING + slot, FIRST_COPY + slot);
 }
 
-// The working content of this slot becomes that of the message at this place.
+// The working content of this slot gets the bytes of that of the message at this place.
 pub fn working_from_payload(bytes: &mut Bytes, slot: usize, place: usize)
     requires { ⌜ (slot < slotRoom) × (place < messageRoom) ⌝ }
     ensures { λ _. ⌜ newContents bytes ≡ putWorking (oldContents bytes) slot (payloadOf (oldContents bytes) place) ⌝ }
@@ -53,7 +53,7 @@ pub fn working_from_payload(bytes: &mut Bytes, slot: usize, place: usize)
     copy_content(bytes, FIRST_WORKING + slot, FIRST_PAYLOAD + place);
 }
 
-// The content of the copy at this slot becomes the working content.
+// The content of the copy at this slot gets the bytes of the working content.
 pub fn copy_from_working(bytes: &mut Bytes, slot: usize)
     requires { ⌜ slot < slotRoom ⌝ }
     ensures { λ _. ⌜ newContents bytes ≡ putCopy (oldContents bytes) slot (workingOf (oldContents bytes) slot) ⌝ }
@@ -61,7 +61,7 @@ pub fn copy_from_working(bytes: &mut Bytes, slot: usize)
     copy_content(bytes, FIRST_COPY + slot, FIRST_WORKING + slot);
 }
 
-// The content of the copy at this slot becomes that of the message at this place.
+// The content of the copy at this slot gets the bytes of that of the message at this place.
 pub fn copy_from_payload(bytes: &mut Bytes, slot: usize, place: usize)
     requires { ⌜ (slot < slotRoom) × (place < messageRoom) ⌝ }
     ensures { λ _. ⌜ newContents bytes ≡ putCopy (oldContents bytes) slot (payloadOf (oldContents bytes) place) ⌝ }
@@ -69,7 +69,7 @@ pub fn copy_from_payload(bytes: &mut Bytes, slot: usize, place: usize)
     copy_content(bytes, FIRST_COPY + slot, FIRST_PAYLOAD + place);
 }
 
-// The content of the message at this place becomes content `from`, a number of a block of the whole array.
+// The content of the message at this place gets the bytes of content `from`, a number of a block of the whole array.
 pub fn payload_from_content(bytes: &mut Bytes, place: usize, from: usize)
     requires { ⌜ (place < messageRoom) × (from < contentRoom) ⌝ }
     ensures { λ _. ⌜ newContents bytes ≡ putPayload (oldContents bytes) place (oldContent bytes from) ⌝ }

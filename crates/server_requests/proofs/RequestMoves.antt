@@ -16,7 +16,7 @@ use Rattle.moves.specs.declared.Local.{Local}
 use Rattle.moves.specs.declared.Move.{Move}
 use Rattle.moves.specs.Moves.{withHead, sending, ceasing, steppedDown, voteMove, requestMove, votingMove, handlingMove, handledMove, readsBy, readsTable}
 use Rattle.server_requests.specs.declared.Answered.{Answered}
-use Rattle.server_requests.specs.Requests.{isRequest, seatOf, stepsDown, leftAnswer, hasVote, voteAnswer, writeAnswer, readAnswer, answerTo, replyTo, answeredHead, answeredMove}
+use Rattle.server_requests.specs.Requests.{asksForReply, seatOf, stepsDown, leftAnswer, hasVote, voteAnswer, writeAnswer, readAnswer, answerTo, replyMessage, answeredHead, answeredMove}
 
 abbrev answerWith : ℕ → ℕ → ℕ → Bool → Bool → Answered
 answerWith vote leader kind stores ceases = record { vote = vote; leader = leader; kind = kind; ceases = ceases; stores = stores }
@@ -76,7 +76,7 @@ module _ (m : Message) (l : Local) where
         | false ↦ elim (eqb k 4) [ true ↦ writeAnswer (seatOf (l .head)) m (l .version) | false ↦ readAnswer (seatOf (l .head)) m ]
       ]
 
-  kinds-answered : (n me result k : ℕ) → isRequest k ≡ true → handlingMove n me result m l (handlingIn k) ≡ answeredMove m l (answerBy k)
+  kinds-answered : (n me result k : ℕ) → asksForReply k ≡ true → handlingMove n me result m l (handlingIn k) ≡ answeredMove m l (answerBy k)
   unfolding isBroadcast handlingIn among handlingMove votingMove
   kinds-answered n me result k = go (eqb k 1) refl (eqb k 4) refl
     where
@@ -86,11 +86,11 @@ module _ (m : Message) (l : Local) where
       go false e false f h = rw (eqb-true k 7 h) (read-answered (ltb (m .election) (l .head .vote)) refl)
 
   -- the answer stands for the whole move that the handling of the request makes
-  pub request-handled : (n me result : ℕ) → isRequest (m .kind) ≡ true → handledMove n me result m l ≡ answeredMove m l (answerTo (seatOf (l .head)) m (l .version))
+  pub request-handled : (n me result : ℕ) → asksForReply (m .kind) ≡ true → handledMove n me result m l ≡ answeredMove m l (answerTo (seatOf (l .head)) m (l .version))
   unfolding handledMove answerTo
   request-handled n me result h = kinds-answered n me result (m .kind) h
 
-  kinds-read-nothing : (n k : ℕ) → isRequest k ≡ true → readsBy n m l (handlingIn k) ≡ false
+  kinds-read-nothing : (n k : ℕ) → asksForReply k ≡ true → readsBy n m l (handlingIn k) ≡ false
   unfolding isBroadcast handlingIn among readsBy
   kinds-read-nothing n k = go (eqb k 1) refl (eqb k 4) refl
     where
@@ -99,7 +99,7 @@ module _ (m : Message) (l : Local) where
       go false e true f h = rw (eqb-true k 4 f)
       go false e false f h = rw (eqb-true k 7 h)
 
-  pub request-reads-nothing : (n : ℕ) → isRequest (m .kind) ≡ true → readsTable n m l ≡ false
+  pub request-reads-nothing : (n : ℕ) → asksForReply (m .kind) ≡ true → readsTable n m l ≡ false
   unfolding readsTable
   request-reads-nothing n h = kinds-read-nothing n (m .kind) h
 
@@ -134,7 +134,7 @@ module _ (m : Message) (l : Local) where
 
     -- the reply carries the kind that the move sends, and the version that it sends it under
     pub reply-sent : (me : ℕ)
-        → replyTo me m (a .kind) (l .version)
+        → replyMessage me m (a .kind) (l .version)
         ≡ record {
           kind = answeredMove m l a .sends;
           sender = me;

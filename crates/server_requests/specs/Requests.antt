@@ -1,4 +1,4 @@
--- Requests (RULES, Elections 2, Replicas), by what they look at. The laws in proofs/ tie each answer to the move of crate `moves`
+-- Requests, PLEASEVOTE among them (RULES, Elections 2, Replicas), by what they look at. The laws in proofs/ tie each answer to the move of crate `moves`
 -- that it stands for.
 use mathlib.Core.Bool.{Bool, true, false}
 use Prim.Native.Nat.{ℕ}
@@ -18,8 +18,8 @@ use Rattle.server_requests.specs.declared.Seat.{Seat}
 use Rattle.server_requests.specs.declared.Answered.{Answered}
 
 -- what goes to all others is what asks each of them for a reply: kinds 1, 4 and 7
-abbrev pub isRequest : ℕ → Bool
-isRequest kind = isBroadcast kind
+abbrev pub asksForReply : ℕ → Bool
+asksForReply kind = isBroadcast kind
 
 -- what a request looks at of a head
 abbrev pub seatOf : Head → Seat
@@ -79,8 +79,8 @@ abbrev pub carriedBy : ℕ → Version → Version
 carriedBy kind own = pickVersion (eqb kind 8) own noVersion
 
 -- with the bucket, the election number and the round of what it answers
-abbrev pub replyTo : ℕ → Message → ℕ → Version → Message
-replyTo me m kind own =
+abbrev pub replyMessage : ℕ → Message → ℕ → Version → Message
+replyMessage me m kind own =
     record {
       kind = kind;
       sender = me;

@@ -20,7 +20,7 @@ pub struct Answered {
     pub leader: u32,
     // the kind of the reply
     pub kind: u32,
-    // whether leading ends, and with it all open calls of the server
+    // whether the server ceases to lead or to stand, and with it all its open calls end
     pub ceases: bool,
     // whether the message's copy is stored over the server's own
     pub stores: bool,
@@ -28,7 +28,7 @@ pub struct Answered {
 
 // What a reply makes of the round of a slot.
 pub struct Replied {
-    // the round with the reply counted, if it is one to it
+    // the round, with the reply counted where it belongs to it
     pub round: Round,
     // whether the reported copy is now the best one
     pub better: bool,

@@ -17,7 +17,7 @@ use server::codes::REPLICA_WRITE;
 use server::numbers::above;
 use server::numbers::chosen;
 ghost use mathlib.Core.Path.{_≡_};
-ghost use Rattle.server_requests.specs.Requests.{stepsDown, leftAnswer, votedAnswer, hasVote, voteAnswer, writeAnswer, readAnswer, answerTo, replyTo};
+ghost use Rattle.server_requests.specs.Requests.{stepsDown, leftAnswer, votedAnswer, hasVote, voteAnswer, writeAnswer, readAnswer, answerTo, replyMessage};
 
 // Whether a leader or candidate is one no more where its vote becomes this number.
 fn steps_down(seat: Seat, vote: u32) -> bool
@@ -113,7 +113,7 @@ pub fn answer_to(seat: Seat, message: Message, own: Version) -> Answered
 // The reply of this kind goes to the sender, with the bucket, the election number and the round of what it answers; ACKREAD
 // carries the version of the server's own copy, any other reply none.
 pub fn reply_to(me: u32, message: Message, kind: u32, own: Version) -> Message
-    ensures { λ r. ⌜ r ≡ replyTo me message kind own ⌝ }
+    ensures { λ r. ⌜ r ≡ replyMessage me message kind own ⌝ }
 {
     let version = pick_version(kind == ACK_READ, own, no_version());
     Message {

@@ -43,9 +43,14 @@ fn compare_cut(before: &Session, line: &[u8], cut: usize, whole: &Session, print
     let held = first.len().min(LONGEST + 1);
     assert_eq!(session.held(), held, "bytes held");
     let text = feed(&mut session, second, &mut output);
+    // The whole line was read where it lies, the cut one from the bytes kept.
+    let mut kept = before.line.value;
+    let ended = (line.len() - 1).min(kept.len());
+    kept[..ended].copy_from_slice(&line[..ended]);
+    assert_eq!(whole.line.value, before.line.value, "bytes of a whole line");
     let line = line.escape_ascii();
     assert_eq!(text, printed, "cut at byte {cut}: {line}");
-    // The bytes of a line that has ended mean nothing.
+    assert_eq!(session.line.value, kept, "bytes kept at {cut}: {line}");
     session.line.value = whole.line.value;
     assert!(session == *whole, "something else is left at {cut}: {line}");
 }
