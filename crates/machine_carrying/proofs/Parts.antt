@@ -17,13 +17,13 @@ use Rattle.moves.specs.declared.Move.{Move}
 use Rattle.plans.specs.declared.Step.{Step}
 use Rattle.views.specs.Memory.{Memory}
 use Rattle.views.specs.Changes.{moved}
-use Rattle.views.specs.Queue.{Flight, flight, withoutMessage, sent}
-use Rattle.machine_flight.specs.Flown.{Flown, withFlight, sentBy}
+use Rattle.views.specs.Queue.{flight, withoutMessage, sent}
+use Rattle.machine_flight.specs.Flown.{Flown, sentBy}
 use Rattle.machine_flight.proofs.Sends.{flown-next}
 use Rattle.runs.specs.declared.Report.{Report}
-use Rattle.runs.specs.Runs.{ran, nextCounts, leftFlight, carriedRun, lostRun}
+use Rattle.runs.specs.Runs.{nextCounts, leftFlight, carriedRun, lostRun}
 use Rattle.machine_carrying.specs.declared.Told.{Told}
-use Rattle.machine_carrying.specs.Carried.{withFilled, withCounted, flownBy, flownCounted, ServerChanged, CarriedOn, carriedReport, CarriedOut, Lost}
+use Rattle.machine_carrying.specs.Carried.{withFilled, withCounted, flownBy, flownCounted, ServerChanged, CarriedOn, CarriedOut, Lost}
 
 leb-le : (a b : ℕ) → leb a b ≡ true → a ≤ b
 leb-le a b e = go (decLe a b)

@@ -3,7 +3,6 @@ use Rattle.memory_regions.specs.Regions.{regions}
 use Rattle.memory_regions.specs.Contents.{contents}
 use Rattle.views.specs.Arrays.{memoryOf}
 use Rattle.machine_carrying.proofs.Parts.{room-left, flown-by}
-use borrow.Author.Needs.{needs}
 use Rattle.machine_carrying.proofs.change_flight.Statement.{statement}
 use Rattle.machine_carrying.proofs.change_flight.Tie as tie
 

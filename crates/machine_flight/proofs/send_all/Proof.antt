@@ -1,5 +1,5 @@
 -- `machine_flight::send_all` meets its contract: server by server, and the count of those sent so far leaves room.
-use mathlib.Core.Path.{_≡_, refl, sym, ap, _∙_}
+use mathlib.Core.Path.{_≡_, refl, ap}
 use Prim.Native.Nat.{_≤_, _-_}
 use native.Mathlib.Omega.{arith}
 use Rattle.blocks.specs.Blocks.{block}
