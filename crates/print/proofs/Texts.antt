@@ -33,7 +33,7 @@ tally-text t = simp append-assoc
 
 -- ---- answers
 
-word-of : (o : ResultWord) (v : List ℕ) (l : List (List ℕ)) → wordOf (resultFor o v l) ≡ wordFor o
+pub word-of : (o : ResultWord) (v : List ℕ) (l : List (List ℕ)) → wordOf (resultFor o v l) ≡ wordFor o
 unfolding wordFor resultFor wordOf
 word-of O.Value v l = refl
 word-of O.Keys v l = refl
@@ -60,7 +60,7 @@ firstKeys n l = take n (map keyBytes l)
 pub length-keys : (n : ℕ) (l : List Key) → n ≤ length l → length (firstKeys n l) ≡ n
 length-keys n l h = simp (length-take, length-map) (omega arith)
 
-key-text : (k : List ℕ) (l : List (List ℕ)) → keyList (k ∷ l) ≡ (bytes " " ++ hexPairs k) ++ keyList l
+pub key-text : (k : List ℕ) (l : List (List ℕ)) → keyList (k ∷ l) ≡ (bytes " " ++ hexPairs k) ++ keyList l
 unfolding keyList
 key-text k l = simp append-assoc
 

@@ -93,7 +93,7 @@ fn put_data(out: &mut [u8], at: usize, answer: AnswerLine) -> usize
 }
 
 // The call's number, its result's word and its rounds.
-fn put_head(out: &mut [u8], at: usize, call: u32, word: ResultWord, rounds: u32) -> usize
+pub fn put_head(out: &mut [u8], at: usize, call: u32, word: ResultWord, rounds: u32) -> usize
     requires { ⌜ at + length (decimal call ++ ((bytes " " ++ (wordFor word ++ bytes " ")) ++ decimal rounds)) ≤ length (now out) ⌝ }
     ensures { λ r. ⌜ Printed (decimal call ++ ((bytes " " ++ (wordFor word ++ bytes " ")) ++ decimal rounds)) (now (out .entry)) at (now (out .exit)) r ⌝ }
 {

@@ -28,7 +28,7 @@ fn hex_digit(digit: u8) -> u8
 }
 
 // Two digits for each byte.
-fn put_pairs(out: &mut [u8], at: usize, bytes: &[u8]) -> usize
+pub fn put_pairs(out: &mut [u8], at: usize, bytes: &[u8]) -> usize
     requires { ⌜ at + length (hexPairs (now bytes)) ≤ length (now out) ⌝ }
     ensures { λ r. ⌜ Printed (hexPairs (now (bytes .entry))) (now (out .entry)) at (now (out .exit)) r ⌝ }
 {
@@ -45,7 +45,7 @@ fn put_pairs(out: &mut [u8], at: usize, bytes: &[u8]) -> usize
 }
 
 // The same, with `.` for no bytes.
-fn put_there(out: &mut [u8], at: usize, bytes: &[u8]) -> usize
+pub fn put_there(out: &mut [u8], at: usize, bytes: &[u8]) -> usize
     requires { ⌜ at + length (valueText (some (now bytes))) ≤ length (now out) ⌝ }
     ensures { λ r. ⌜ Printed (valueText (some (now (bytes .entry)))) (now (out .entry)) at (now (out .exit)) r ⌝ }
 {

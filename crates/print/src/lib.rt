@@ -4,9 +4,9 @@ use entries::TABLE_ROOM;
 use entries::Value;
 
 pub mod answer_text;
-mod bytes;
+pub mod bytes;
 mod decimals;
-mod hexadecimals;
+pub mod hexadecimals;
 pub mod other_lines;
 
 // Bytes of output for what a line prints, and for the tally.

@@ -1,0 +1,4 @@
+-- Laws of items: written, read, and read back.
+pub mod Forms
+pub mod Items
+pub mod Back

@@ -1,0 +1,3 @@
+-- What the contracts of `memory_found` cite.
+pub mod Found
+pub mod Steps

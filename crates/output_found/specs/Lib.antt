@@ -1,0 +1,2 @@
+-- What the contracts of `output_found` cite.
+pub mod Answers
