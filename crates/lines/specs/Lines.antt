@@ -6,6 +6,10 @@ use lib.ListN.{length, take, drop, getD}
 use Rattle.model.specs.Parse.{parse}
 use Rattle.model.specs.Print.{outcomeText}
 use Rattle.parse.specs.Meaning.{parsed}
+use Rattle.parse.specs.declared.Line.{Line}
+use Rattle.views.specs.Memory.{Memory}
+use Rattle.progress.specs.declared.Ending.{Ending}
+use Rattle.progress.specs.declared.Progress.{Progress}
 use Rattle.machine.specs.declared.Stepped.{Stepped}
 use Rattle.runs.specs.Meaning.{outcomeIn}
 use Rattle.machine.specs.Meaning.{Performed}
@@ -31,6 +35,13 @@ pub record FeedAt (input : List ℕ) (from to : ℕ) : Type 0 where
   pub stops : to < length input → getD input to 0 ≡ 10
 
 -- ---- its end
+
+-- a line that was read is performed; its outcome is in the output, under the line's number
+pub record LineRun (m : Memory) (l : List ℕ) (x : Line) (m′ : Memory) (l′ out out′ : List ℕ) (p : Progress) (r : Ending) : Type 0 where
+  pub step : Stepped
+  pub performs : Performed m l (p .tally) x m′ l′ step
+  pub counted : r .tally ≡ step .tally
+  pub told : Told (outcomeText (p .lines + 1) (outcomeIn (step .report) l′)) out (p .written) out′ (r .written)
 
 -- the present line ends after the bytes l: it is read and performed; the text is its outcome, under the line's number
 pub record LineEnded (w : Session) (l : List ℕ) (w′ : Session) (text : List ℕ) : Type 0 where
