@@ -34,7 +34,10 @@ fn any_line(line: &mut KeptLine, input: &[u8], progress: Progress) -> Read
     if feed < input.len() {
         let next = feed + 1;
         let present = read_line(line, &input[from..feed], progress.held);
-        return Read { line: present, next };
+        return Read {
+            line: present,
+            next,
+        };
     }
     no_line()
 }
@@ -49,7 +52,10 @@ fn whole_line(line: &mut KeptLine, input: &[u8], progress: Progress) -> Read
         let next = quick.next;
         if next != 0 {
             let present = deliver_line(quick.number);
-            return Read { line: present, next };
+            return Read {
+                line: present,
+                next,
+            };
         }
     }
     any_line(line, input, progress)

@@ -5,9 +5,8 @@ use mathlib.Core.Bool.{Bool, true, false}
 use mathlib.Core.Option.{Option, none, some}
 use Prim.Native.Nat.{ℕ, suc, _≤_, _<_, _+_, _-_, _*_, _^_}
 use native.Mathlib.Omega.{arith}
-use native.Mathlib.Numerals.{add-one}
 use native.Mathlib.Nat.{add-zero, pow-suc, pow-le-pow-right}
-use native.Mathlib.Decide.{decLt, ℕ-discrete}
+use native.Mathlib.Decide.{decLt}
 use lib.Dec.{eqb}
 use lib.ListN.{length, take, drop, getD, length-append, length-drop}
 use lib.Seq.{take-suc, take-add, drop-drop, getD-take, getD-drop, length-take-le}
@@ -20,7 +19,7 @@ use Rattle.model.specs.Parse.{wordsFrom, words, digit, decimalFrom, number, mad
 use Rattle.input.specs.Reading.{NoFeed}
 use Rattle.input.proofs.Parts.{no-feed-append}
 use Rattle.parse.specs.Words.{wordEnd}
-use Rattle.parse.proofs.Numbers.{is-digit, no-digit, digit-low, digit-from, number-one, number-many}
+use Rattle.parse.proofs.Numbers.{is-digit, digit-low, digit-from, number-one, number-many}
 use Rattle.parse.proofs.Sameness.{same-true}
 use Rattle.parse.proofs.Splitting.{words-last, parse-short}
 use Rattle.parse_deliver.specs.declared.Quick.{Quick}

@@ -105,7 +105,10 @@ fn number_and_feed(input: &[u8], start: usize) -> Quick
     if end < input.len() {
         if input[end] == LINE_FEED {
             let next = end + 1;
-            return Quick { number: read.number, next };
+            return Quick {
+                number: read.number,
+                next,
+            };
         }
     }
     not_read()

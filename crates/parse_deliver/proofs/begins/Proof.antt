@@ -1,11 +1,11 @@
 -- `begins` meets its contract.
+use mathlib.Core.Path.{refl}
 use borrow.Author.Needs.{needs}
 use native.Mathlib.Omega.{arith}
 use Rattle.model.specs.Text.{bytes}
 use Rattle.parse_deliver.proofs.Delivering.{absurd-read, begun-same}
 use Rattle.parse_deliver.proofs.begins.Statement.{statement}
 use Rattle.parse_deliver.proofs.begins.Tie as tie
-use mathlib.Core.Path.{refl}
 
 sub-if1 : tie.Need-sub-if1
 sub-if1 c = search needs
@@ -33,7 +33,10 @@ same-word-requires c κs = search needs
 
 returns-2 : tie.Need-returns-2
 unfolding bytes
-returns-2 c = begun-same _ _ (omega (arith, c .before .before .before .before .before .pre, c .before .before .before .if1 .left)) (c .same-word .ensures)
+returns-2 c =
+    let pre = c .before .before .before .before .before .pre in
+    let if1 = c .before .before .before .if1 in
+    begun-same _ _ (omega (arith, pre, if1 .left)) (c .same-word .ensures)
 
 pub begins-spec : {M : Type 1} → statement M
 begins-spec =

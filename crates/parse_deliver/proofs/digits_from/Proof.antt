@@ -19,19 +19,31 @@ shared-slice-read-byte : tie.Need-shared-slice-read-byte Inv-loop μ-loop
 shared-slice-read-byte c = search needs
 
 returns : tie.Need-returns Inv-loop μ-loop
-returns c = c .before .before .before .loop .inv .digits
+returns c =
+    let loop = c .before .before .before .loop in
+    loop .inv .digits
 
 returns-2 : tie.Need-returns-2 Inv-loop μ-loop
-returns-2 c = c .before .before .before .before .loop .inv .digits
+returns-2 c =
+    let loop = c .before .before .before .before .loop in
+    loop .inv .digits
 
 mul-number : tie.Need-mul-number Inv-loop μ-loop
-mul-number c = omega (arith, figuring-small (c .before .before .before .before .loop .inv) (c .before .before .before .before .before .pre .1 .0) (c .before .before .before .loop-test .taken))
+mul-number c =
+    let pre = c .before .before .before .before .before .pre in
+    let loop = c .before .before .before .before .loop in
+    let loop-test = c .before .before .before .loop-test in
+    omega (arith, figuring-small (loop .inv) (pre .1 .0) (loop-test .taken))
 
 cast-number : tie.Need-cast-number Inv-loop μ-loop
 cast-number c = search needs
 
 add-number : tie.Need-add-number Inv-loop μ-loop
-add-number c = omega (arith, figuring-small (c .before .before .before .before .loop .inv) (c .before .before .before .before .before .pre .1 .0) (c .before .before .before .loop-test .taken))
+add-number c =
+    let pre = c .before .before .before .before .before .pre in
+    let loop = c .before .before .before .before .loop in
+    let loop-test = c .before .before .before .loop-test in
+    omega (arith, figuring-small (loop .inv) (pre .1 .0) (loop-test .taken))
 
 add-i : tie.Need-add-i Inv-loop μ-loop
 add-i c = search needs
@@ -40,7 +52,11 @@ loop-less : tie.Need-loop-less Inv-loop μ-loop
 loop-less c = search needs
 
 loop-again : tie.Need-loop-again Inv-loop μ-loop
-loop-again c = figuring-goes-on (c .before .before .before .before .loop .inv) (c .before .before .before .before .before .pre .1 .1) (c .before .before .before .loop-test .taken) (c .before .if1 .left) (c .if2 .left)
+loop-again c =
+    let pre = c .before .before .before .before .before .pre in
+    let loop = c .before .before .before .before .loop in
+    let loop-test = c .before .before .before .loop-test in
+    figuring-goes-on (loop .inv) (pre .1 .1) (loop-test .taken) (c .before .if1 .left) (c .if2 .left)
 
 returns-3 : tie.Need-returns-3 Inv-loop μ-loop
 returns-3 c = c .before .loop .inv .digits

@@ -46,7 +46,8 @@ returns-3 c =
     let digits-from = c .before .before .before .before .before .before .digits-from in
     let if1 = c .before .before .before .before .before .if1 in
     let needless-zero = c .before .before .before .before .needless-zero in
-    numbered _ refl (number-at (digits-from .ensures) (omega (arith, at-most .ensures)) (if1 .left) (needless-zero .ensures (c .before .before .before .if2 .left)) (c .before .before .if3 .taken) (c .if4 .taken))
+    let if2 = c .before .before .before .if2 in
+    numbered _ refl (number-at (digits-from .ensures) (omega (arith, at-most .ensures)) (if1 .left) (needless-zero .ensures (if2 .left)) (c .before .before .if3 .taken) (c .if4 .taken))
 
 not-read-requires-3 : tie.Need-not-read-requires-3
 not-read-requires-3 c κs = search needs
