@@ -1,4 +1,5 @@
 -- The steps of feeding, one after the other, are the whole part.
+use mathlib.Core.Logic.{_≢_}
 use mathlib.Core.Path.{_≡_, refl, sym, subst, _∙_}
 use mathlib.Core.Bool.{Bool, true, false}
 use mathlib.Core.List.{List, [], _∷_, _++_, append-assoc, append-nil}
@@ -17,11 +18,14 @@ use Rattle.progress.specs.declared.Ending.{Ending}
 use Rattle.progress.specs.declared.Progress.{Progress}
 use Rattle.progress.specs.Progress.{begunAt, stoppedAt, endedAt}
 use Rattle.lines.specs.Sessions.{Held, held, putAll, Session, session}
-use Rattle.lines.specs.Lines.{between, Plain, FeedAt, LineTold}
-use Rattle.lines.specs.Feeding.{LinesFed, nothing, line, bytes, past, PartFed, NextFeed, found, full, Advanced, RestKept, waits, passes}
+use Rattle.parse_deliver.specs.Deliver.{between}
+use Rattle.lines.specs.Lines.{Plain, FeedAt, LineRun, LineTold}
+use Rattle.lines.specs.Feeding.{LinesFed, nothing, line, bytes, past, PartFed, WholeLine, whole, unended, NextLine, found, full, Advanced, RestKept, waits, passes}
+use Rattle.lines.specs.declared.Read.{Read}
 use Rattle.lines.proofs.Finding.{take-between, none-found}
+use Rattle.lines.proofs.Told.{line-told}
 
-absurd-more : {A : Type 0} {x : Bool} → x ≡ false → x ≡ true → A
+pub absurd-more : {A : Type 0} {x : Bool} → x ≡ false → x ≡ true → A
 absurd-more e f =
     let z : _≡_ {A = Bool} true false = sym f ∙ e in
     let w : _≡_ {A = ℕ} 0 1 = cc in
@@ -41,11 +45,10 @@ fed-on w room {a} {x} f (line {input = b} {text = y} g h r l n u more e) =
 
 -- ---- one step
 
--- a line feed before the end of the input ends a line that may be run
-pub next-line : (input : List ℕ) (size : ℕ) (p : Progress) (feed : ℕ) → NextFeed input size p feed → feed < length input
-    → (p .lines < maxLines) × (p .written + lineRoom ≤ size) × FeedAt input (p .taken) feed
-next-line input size p feed (found h o k) i = (h, o, k)
-next-line input size p feed (full h e) i = absurd (omega arith)
+-- a line that was read may be run
+pub line-allowed : {line input : List ℕ} {size : ℕ} {p : Progress} {line′ : List ℕ} {d : Read} → NextLine line input size p line′ d → d .next ≢ 0 → (p .lines < maxLines) × (p .written + lineRoom ≤ size)
+line-allowed (found h o k) n = (h, o)
+line-allowed (full h e f) n = absurd (n e)
 
 -- a line ends at a line feed
 line-run : (w : Session) (input out : List ℕ) (p : Progress) (feed : ℕ) (w′ : Session) (out′ : List ℕ) (p′ : Progress) → w .lines < maxLines → p .written + lineRoom ≤ length out
@@ -65,26 +68,37 @@ line-run w input out p feed w′ out′ p′ h o k i t q m =
       rests = λ y. absurd-more y m;
     }
 
-module _ (m : Memory) (l buffer input out : List ℕ) (p r : Progress) (feed : ℕ) where
-  pub advanced-line : (m′ : Memory) (l′ buffer′ out′ : List ℕ) (x : Ending) → NextFeed input (length out) p feed → feed < length input
-      → LineTold (session m l (p .tally) (p .lines) (held buffer (p .held))) (between input (p .taken) feed) (session m′ l′ (x .tally) (p .lines + 1) (held buffer′ 0)) out (p .written) out′ (x .written)
-      → r ≡ endedAt p x (feed + 1)
+module _ (m : Memory) (l buffer input out : List ℕ) (p r : Progress) (buffer′ : List ℕ) (d : Read) where
+  whole-run : (m′ : Memory) (l′ out′ : List ℕ) (x : Ending) → p .lines < maxLines → p .written + lineRoom ≤ length out → WholeLine buffer input p buffer′ d → d .next ≢ 0
+      → LineRun m l (d .line) m′ l′ out out′ p x
+      → Advanced (session m l (p .tally) (p .lines) (held buffer (p .held))) input out p (session m′ l′ (x .tally) (p .lines + 1) (held buffer′ 0)) out′ (endedAt p x (d .next))
+  whole-run m′ l′ out′ x h o (whole feed k i e y z) n t =
+      line-run (session m l (p .tally) (p .lines) (held buffer (p .held))) input out p feed (session m′ l′ (x .tally) (p .lines + 1) (held buffer′ 0)) out′ (endedAt p x (d .next)) h o k i
+      (line-told m l (held buffer (p .held)) (between input (p .taken) feed) (d .line) m′ l′ (held buffer′ 0) out out′ p x t y z) e refl
+  whole-run m′ l′ out′ x h o (unended e f k) n t = absurd (n e)
+
+  pub advanced-line : (m′ : Memory) (l′ out′ : List ℕ) (x : Ending) → NextLine buffer input (length out) p buffer′ d → d .next ≢ 0
+      → LineRun m l (d .line) m′ l′ out out′ p x
+      → r ≡ endedAt p x (d .next)
       → Advanced (session m l (p .tally) (p .lines) (held buffer (p .held))) input out p (session m′ l′ (r .tally) (r .lines) (held buffer′ (r .held))) out′ r
-  advanced-line m′ l′ buffer′ out′ x (found h o k) i t e =
-      rw e (line-run (session m l (p .tally) (p .lines) (held buffer (p .held))) input out p feed (session m′ l′ (x .tally) (p .lines + 1) (held buffer′ 0)) out′ (endedAt p x (feed + 1)) h o k i t refl refl)
-  advanced-line m′ l′ buffer′ out′ x (full h e) i t d = absurd (omega arith)
+  advanced-line m′ l′ out′ x (found h o k) n t e = rw e (whole-run m′ l′ out′ x h o k n t)
+  advanced-line m′ l′ out′ x (full h e f) n t g = absurd (n e)
 
   -- nothing is done where no line can be run
-  no-line : NextFeed input (length out) p feed → length input ≤ feed → p .lines < maxLines → p .written + lineRoom ≤ length out → Plain input (p .taken) (length input)
-  no-line (found h o k) i n q =
-      let e : feed ≡ length input = omega (arith, k .bytes .within) in
-      subst (λ (to : ℕ). Plain input (p .taken) to) e (k .bytes)
-  no-line (full h e) i n q = absurd (omega (arith, h n))
+  no-line : NextLine buffer input (length out) p buffer′ d → d .next ≡ 0 → p .lines < maxLines → p .written + lineRoom ≤ length out → Plain input (p .taken) (length input)
+  no-line (found h o (whole feed k i e y z)) n j q = absurd (omega arith)
+  no-line (found h o (unended e f k)) n j q = k
+  no-line (full h e f) n j q = absurd (omega (arith, h j))
 
-  pub advanced-stopped : p .taken ≤ length input → p .written ≤ length out → NextFeed input (length out) p feed → length input ≤ feed → r ≡ stoppedAt p
-      → Advanced (session m l (p .tally) (p .lines) (held buffer (p .held))) input out p (session m l (r .tally) (r .lines) (held buffer (r .held))) out r
-  advanced-stopped t o k i e =
-      rw e
+  same-line : NextLine buffer input (length out) p buffer′ d → d .next ≡ 0 → buffer′ ≡ buffer
+  same-line (found h o (whole feed k i e y z)) n = absurd (omega arith)
+  same-line (found h o (unended e f k)) n = f
+  same-line (full h e f) n = f
+
+  pub advanced-stopped : p .taken ≤ length input → p .written ≤ length out → NextLine buffer input (length out) p buffer′ d → d .next ≡ 0 → r ≡ stoppedAt p
+      → Advanced (session m l (p .tally) (p .lines) (held buffer (p .held))) input out p (session m l (r .tally) (r .lines) (held buffer′ (r .held))) out r
+  advanced-stopped t o k n e =
+      rw (e, same-line k n)
       (record {
         bytes = [];
         text = [];
@@ -94,7 +108,7 @@ module _ (m : Memory) (l buffer input out : List ℕ) (p r : Progress) (feed : �
         within = t;
         room = o;
         goes = λ y. absurd-more refl y;
-        rests = λ y n q. no-line k i n q;
+        rests = λ y j q. no-line k n j q;
       })
 
 -- ---- all steps

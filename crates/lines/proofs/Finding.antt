@@ -9,7 +9,8 @@ use lib.ListN.{length, take, drop, getD, length-drop}
 use lib.Seq.{take-suc, take-add, getD-take, getD-drop, length-take-le}
 use Rattle.input.specs.Reading.{NoFeed}
 use Rattle.input.proofs.Parts.{no-feed-append}
-use Rattle.lines.specs.Lines.{between, Plain}
+use Rattle.parse_deliver.specs.Deliver.{between}
+use Rattle.lines.specs.Lines.{Plain}
 
 -- the bytes before `to` are those before `from` and those from there on
 pub take-between : (l : List ℕ) (from to : ℕ) → from ≤ to → take to l ≡ take from l ++ between l from to

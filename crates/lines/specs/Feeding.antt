@@ -1,14 +1,18 @@
 -- What feeding a part of an input leaves in the lent arrays, byte by byte and line by line, and what that stands for.
 use mathlib.Core.Path.{_≡_}
-use mathlib.Core.Bool.{true, false}
+use mathlib.Core.Bool.{Bool, true, false}
 use mathlib.Core.List.{List, [], _∷_, _++_}
 use Prim.Native.Nat.{ℕ, _+_, _-_, _≤_, _<_}
 use lib.ListN.{length, take, drop, getD}
 use Rattle.model.specs.Measures.{maxLines}
+use Rattle.model.specs.Parse.{parse}
+use Rattle.parse.specs.Meaning.{parsed}
 use Rattle.print.specs.Printed.{Printed}
 use Rattle.input.specs.Reading.{NoFeed}
-use Rattle.lines.specs.Sessions.{held, putAll, Session, keeping}
-use Rattle.lines.specs.Lines.{between, Plain, FeedAt, LineEnded}
+use Rattle.lines.specs.Sessions.{held, putAll, Session, keeping, endedLine, heldAfter}
+use Rattle.parse_deliver.specs.Deliver.{between}
+use Rattle.lines.specs.Lines.{Plain, FeedAt, LineEnded}
+use Rattle.lines.specs.declared.Read.{Read}
 use Rattle.progress.specs.declared.Progress.{Progress}
 use Rattle.progress.specs.Progress.{waitingAt, passedAt}
 use Rattle.print.specs.Room.{lineRoom}
@@ -43,10 +47,20 @@ pub record PartFed (w : Session) (input out : List ℕ) (w′ : Session) (out′
 
 -- ---- parts of it
 
--- the end of the next line, where there is room for what it prints; else the end of the input
-pub data NextFeed (input : List ℕ) (size : ℕ) (p : Progress) (r : ℕ) : Type 0 where
-  found : p .lines < maxLines → p .written + lineRoom ≤ size → FeedAt input (p .taken) r → NextFeed input size p r
-  full : (p .lines < maxLines → size < p .written + lineRoom) → r ≡ length input → NextFeed input size p r
+-- the next line where it ends in the part, read as a line of its bytes; else `next` is 0
+pub data WholeLine (line input : List ℕ) (p : Progress) (line′ : List ℕ) (r : Read) : Type 0 where
+  whole : (feed : ℕ) → FeedAt input (p .taken) feed → feed < length input → r .next ≡ feed + 1 → r .line ≡ parsed (parse (endedLine (held line (p .held)) (between input (p .taken) feed))) → held line′ 0 ≡ heldAfter (held line (p .held)) (between input (p .taken) feed) → WholeLine line input p line′ r
+  unended : r .next ≡ 0 → line′ ≡ line → Plain input (p .taken) (length input) → WholeLine line input p line′ r
+
+-- one more line may be run
+pub record MayRun (size : ℕ) (p : Progress) (r : Bool) : Type 0 where
+  pub may : r ≡ true → (p .lines < maxLines) × (p .written + lineRoom ≤ size)
+  pub mayNot : r ≡ false → p .lines < maxLines → size < p .written + lineRoom
+
+-- the next line, where it may be run
+pub data NextLine (line input : List ℕ) (size : ℕ) (p : Progress) (line′ : List ℕ) (r : Read) : Type 0 where
+  found : p .lines < maxLines → p .written + lineRoom ≤ size → WholeLine line input p line′ r → NextLine line input size p line′ r
+  full : (p .lines < maxLines → size < p .written + lineRoom) → r .next ≡ 0 → line′ ≡ line → NextLine line input size p line′ r
 
 -- one step of feeding: a line, or nothing where no line that ends in the part can be run
 pub record Advanced (w : Session) (input out : List ℕ) (p : Progress) (w′ : Session) (out′ : List ℕ) (p′ : Progress) : Type 0 where

@@ -1,25 +1,26 @@
 -- One line: where its bytes lie in the input, and what it leaves at its end in the lent arrays and in the output.
 use mathlib.Core.Path.{_≡_}
 use mathlib.Core.List.{List}
-use Prim.Native.Nat.{ℕ, _+_, _-_, _≤_, _<_}
-use lib.ListN.{length, take, drop, getD}
+use Prim.Native.Nat.{ℕ, _+_, _≤_, _<_}
+use lib.ListN.{length, getD}
 use Rattle.model.specs.Parse.{parse}
 use Rattle.model.specs.Print.{outcomeText}
 use Rattle.parse.specs.Meaning.{parsed}
+use Rattle.parse.specs.declared.Line.{Line}
+use Rattle.views.specs.Memory.{Memory}
+use Rattle.progress.specs.declared.Ending.{Ending}
+use Rattle.progress.specs.declared.Progress.{Progress}
 use Rattle.machine.specs.declared.Stepped.{Stepped}
 use Rattle.runs.specs.Meaning.{outcomeIn}
 use Rattle.machine.specs.Meaning.{Performed}
 use Rattle.output.specs.Told.{Told}
 use Rattle.input.specs.Reading.{NoFeed}
+use Rattle.parse_deliver.specs.Deliver.{between}
 use Rattle.lines.specs.Sessions.{Session, endedLine, heldAfter}
 
 -- ---- its bytes
 
--- the bytes from `from` to `to`
-abbrev pub between : List ℕ → (from to : ℕ) → List ℕ
-between l from to = take (to - from) (drop from l)
-
--- they have no line feed
+-- the bytes from `from` to `to` have no line feed
 pub record Plain (input : List ℕ) (from to : ℕ) : Type 0 where
   pub onward : from ≤ to
   pub within : to ≤ length input
@@ -31,6 +32,13 @@ pub record FeedAt (input : List ℕ) (from to : ℕ) : Type 0 where
   pub stops : to < length input → getD input to 0 ≡ 10
 
 -- ---- its end
+
+-- a line that was read is performed; its outcome is in the output, under the line's number
+pub record LineRun (m : Memory) (l : List ℕ) (x : Line) (m′ : Memory) (l′ out out′ : List ℕ) (p : Progress) (r : Ending) : Type 0 where
+  pub step : Stepped
+  pub performs : Performed m l (p .tally) x m′ l′ step
+  pub counted : r .tally ≡ step .tally
+  pub told : Told (outcomeText (p .lines + 1) (outcomeIn (step .report) l′)) out (p .written) out′ (r .written)
 
 -- the present line ends after the bytes l: it is read and performed; the text is its outcome, under the line's number
 pub record LineEnded (w : Session) (l : List ℕ) (w′ : Session) (text : List ℕ) : Type 0 where

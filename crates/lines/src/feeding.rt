@@ -1,6 +1,7 @@
 // A part of the input: lines are run where they end, as long as the output has room; the bytes after them are kept.
 use crate::keeping::keep;
 use crate::keeping::line_feed;
+use crate::reading::next_line;
 use crate::running::end_line;
 use memory::AnswerWords;
 use memory::CopyBytes;
@@ -16,7 +17,6 @@ use progress::MAX_LINES;
 use progress::Progress;
 use progress::begun;
 use progress::ended;
-use progress::has_room;
 use progress::passed;
 use progress::stopped;
 use progress::waiting;
@@ -25,22 +25,8 @@ ghost use Prim.Native.Nat.{_≤_};
 ghost use lib.ListN.{length};
 ghost use Rattle.views.specs.Lent.{lent};
 ghost use Rattle.memory.specs.Lent.{was, is};
-ghost use Rattle.lines.specs.Feeding.{NextFeed, RestKept};
+ghost use Rattle.lines.specs.Feeding.{RestKept};
 ghost use Rattle.lines.specs.Lent.{Advances, FeedsPart};
-
-// The line feed that ends the next line, if there is room for what the line prints; else the end of the input. Nothing after line
-// 4,294,967,295 is read.
-fn next_feed(input: &[u8], size: usize, progress: Progress) -> usize
-    requires { ⌜ progress .taken ≤ length (now input) ⌝ }
-    ensures { λ r. ⌜ NextFeed (was input) size progress r ⌝ }
-{
-    if progress.lines < MAX_LINES {
-        if has_room(size, progress.written) {
-            return line_feed(input, progress.taken);
-        }
-    }
-    input.len()
-}
 
 // The next line that ends in the part is run, if there is one and room for what it prints.
 fn advance(
@@ -61,10 +47,11 @@ fn advance(
     requires { ⌜ (progress .taken ≤ length (now input)) × (progress .written ≤ length (now out)) ⌝ }
     ensures { λ r. ⌜ Advances (lent counts heads slots copies working texts queue payloads answers) line out input progress r ⌝ }
 {
-    let from = progress.taken;
-    let feed = next_feed(input, out.len(), progress);
-    if feed < input.len() {
-        let next = feed + 1;
+    let size = out.len();
+    let read = next_line(line, input, size, progress);
+    let next = read.next;
+    if next != 0 {
+        let present = read.line;
         let ending = end_line(
             counts,
             heads,
@@ -75,9 +62,8 @@ fn advance(
             queue,
             payloads,
             answers,
-            line,
             out,
-            &input[from..feed],
+            present,
             progress,
         );
         return ended(progress, ending, next);

@@ -1,5 +1,4 @@
-// One line at its end: read, run on the cluster's arrays, and told in the output.
-use crate::keeping::read_line;
+// One line at its end: run on the cluster's arrays, and told in the output.
 use machine::entry::step;
 use memory::AnswerWords;
 use memory::CopyBytes;
@@ -11,8 +10,8 @@ use memory::SlotWords;
 use memory::TextBytes;
 use memory::WorkingBytes;
 use output::put_outcome;
+use parse::Line;
 use progress::Ending;
-use progress::KeptLine;
 use progress::Progress;
 ghost use Prim.Native.Nat.{_≤_, _<_, _+_};
 ghost use lib.ListN.{length};
@@ -21,7 +20,7 @@ ghost use Rattle.print.specs.Room.{lineRoom};
 ghost use Rattle.views.specs.Lent.{lent};
 ghost use Rattle.lines.specs.Lent.{EndsLine};
 
-// The present line, of which these are the last bytes: read, run and told.
+// A line that was read is run and told.
 pub fn end_line(
     counts: &mut CountWords,
     heads: &mut HeadWords,
@@ -32,15 +31,13 @@ pub fn end_line(
     queue: &mut QueueWords,
     payloads: &mut PayloadBytes,
     answers: &mut AnswerWords,
-    line: &mut KeptLine,
     out: &mut [u8],
-    bytes: &[u8],
+    line: Line,
     progress: Progress,
 ) -> Ending
     requires { ⌜ (progress .lines < maxLines) × (progress .written + lineRoom ≤ length (now out)) ⌝ }
-    ensures { λ r. ⌜ EndsLine (lent counts heads slots copies working texts queue payloads answers) line out bytes progress r ⌝ }
+    ensures { λ r. ⌜ EndsLine (lent counts heads slots copies working texts queue payloads answers) out line progress r ⌝ }
 {
-    let parsed = read_line(line, bytes, progress.held);
     let tally = progress.tally;
     let stepped = step(
         counts,
@@ -53,7 +50,7 @@ pub fn end_line(
         payloads,
         answers,
         tally,
-        parsed,
+        line,
     );
     let report = stepped.report;
     let number = (progress.lines + 1) as u32;

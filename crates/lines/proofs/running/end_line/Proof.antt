@@ -1,4 +1,4 @@
--- `running::end_line` meets its contract: read, run, then told.
+-- `running::end_line` meets its contract: run, then told.
 use mathlib.Core.Path.{refl}
 use native.Mathlib.Omega.{arith}
 use Rattle.lines.proofs.Told.{few-answers}
@@ -6,25 +6,22 @@ use borrow.Author.Needs.{needs}
 use Rattle.lines.proofs.running.end_line.Statement.{statement}
 use Rattle.lines.proofs.running.end_line.Tie as tie
 
-read-line-requires : tie.Need-read-line-requires
-read-line-requires c κs = search needs
-
 step-requires : tie.Need-step-requires
 step-requires c κs = search needs
 
 add-number : tie.Need-add-number
 add-number c =
-    let pre = c .before .before .before .before .before .before .before .before .before .before .before .before .before .before .before .before .before .pre in
+    let pre = c .before .before .before .before .before .before .before .before .before .before .before .before .before .before .pre in
     omega (arith, pre .0)
 
 cast-number : tie.Need-cast-number
 cast-number c =
-    let pre = c .before .before .before .before .before .before .before .before .before .before .before .before .before .before .before .before .before .pre in
+    let pre = c .before .before .before .before .before .before .before .before .before .before .before .before .before .before .pre in
     omega (arith, pre .0)
 
 put-outcome-requires : tie.Need-put-outcome-requires
 put-outcome-requires c κs =
-    let pre = c .before .before .before .before .before .before .before .before .before .before .before .before .before .before .before .before .before .before .before .pre in
+    let pre = c .before .before .before .before .before .before .before .before .before .before .before .before .before .before .before .before .pre in
     let step = c .before .before .before .before .step in
     (pre .1, few-answers (step .ensures))
 
@@ -33,22 +30,12 @@ same-length c = search needs
 
 returns : tie.Need-returns
 returns c =
-    let read-line = c .before .before .before .before .before .before .before .before .before .before .before .before .before .before .before .before .before .before .before .read-line in
     let step = c .before .before .before .before .before .before .before .before .step in
     let put-outcome = c .before .before .before .put-outcome in
-    let read = read-line in
-    let ran = step in
     record {
-      text = _;
-      ends =
-          record {
-            told = ran .result;
-            performs = rw (← read .ensures .0) (ran .ensures);
-            counted = refl;
-            next = refl;
-            clear = read .ensures .1;
-            printed = refl;
-          };
+      step = step .result;
+      performs = step .ensures;
+      counted = refl;
       told = put-outcome .ensures;
     }
 
@@ -56,7 +43,6 @@ pub end-line-spec : {M : Type 1} → statement M
 end-line-spec =
     tie.close
     (tie.spec
-    read-line-requires
     step-requires
     add-number
     cast-number
