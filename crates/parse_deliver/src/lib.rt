@@ -93,7 +93,7 @@ fn number_and_feed(input: &[u8], start: usize) -> Quick
     requires { ⌜ start ≤ length (now input) ⌝ }
     ensures { λ r. ⌜ NumberRead (now (input .entry)) start r ⌝ }
 {
-    let stop = start + at_most(MOST_DIGITS, input.len() - start);
+    let stop = at_most(start + MOST_DIGITS, input.len());
     let read = digits_from(input, start, stop);
     let end = read.end;
     if end == start {

@@ -7,14 +7,11 @@ use Rattle.parse_deliver.proofs.Delivering.{number-at}
 use Rattle.parse_deliver.proofs.number_and_feed.Statement.{statement}
 use Rattle.parse_deliver.proofs.number_and_feed.Tie as tie
 
-sub-at-most : tie.Need-sub-at-most
-sub-at-most c = search needs
+add-at-most : tie.Need-add-at-most
+add-at-most c = search needs
 
 at-most-requires : tie.Need-at-most-requires
 at-most-requires c κs = search needs
-
-add-stop : tie.Need-add-stop
-add-stop c = search needs
 
 digits-from-requires : tie.Need-digits-from-requires
 digits-from-requires c κs = search needs
@@ -59,9 +56,8 @@ pub number-and-feed-spec : {M : Type 1} → statement M
 number-and-feed-spec =
     tie.close
     (tie.spec
-    sub-at-most
+    add-at-most
     at-most-requires
-    add-stop
     digits-from-requires
     not-read-requires
     returns
