@@ -1,4 +1,6 @@
 // The answers of a step in lent words, in blocks of four: the call's number, its result and its rounds.
+#![tactic(auto)]
+
 ghost use Rattle.std.specs.Prelude.{◌≡◌, ◌<◌, ◌≤◌};
 ghost use Rattle.model.specs.Measures.{max_buckets, most_answers};
 ghost use Rattle.memory.specs.Layout.{server_room, slot_room};

@@ -1,5 +1,7 @@
 // The bench: a script from standard input, what it prints to standard output. What is done with the bytes is crate `feed`; here they
 // are read and written, in blocks of 65,536. Where reading or writing fails it stops there, and prints no tally.
+#![tactic(auto)]
+
 ghost use Rattle.std.specs.Prelude.{◌<◌, ◌≤◌, ◌≡◌};
 ghost use Rattle.tally.specs.Sums.{tally_sum};
 
@@ -21,7 +23,7 @@ const BLOCK: usize = 65536;
 
 // Where the run stands: the tally, where the block ends and how many of its bytes are left, how many turns may follow (none where it
 // stops), and whether the input is at its end.
-#[derive(Drop)]
+#[derive(Clone, Copy)]
 struct Place {
     tally: Tally,
     end: usize,

@@ -1,4 +1,6 @@
 // The bucket form on lent bytes: a table is read from them and written to them.
+#![tactic(auto)]
+
 ghost use Rattle.std.specs.Prelude.{◌≡◌, ◌≤◌, length, take};
 ghost use Rattle.table.specs.Form.{same_bytes};
 ghost use Rattle.bucket.specs.Answers.{numbered, written_number, Read, Refused, write_of};
@@ -10,14 +12,14 @@ use entries::slots::no_table;
 use table::BUCKET_SIZE;
 
 // Whether bucket bytes are taken (RULES, Bucket bytes 4). The refusal of each case is `outcome_number`.
-#[derive(Drop)]
+#[derive(Clone, Copy)]
 pub enum Outcome {
     Accepted,
     Malformed,
 }
 
 // Whether a table was written. The refusal of each case is `written_number`.
-#[derive(Drop)]
+#[derive(Clone, Copy)]
 pub enum Written {
     Accepted,
     Malformed,
@@ -25,7 +27,7 @@ pub enum Written {
 }
 
 // The table that was read, where the outcome is Accepted; no entries else. Its count and lengths are within its arrays.
-#[derive(Drop)]
+#[derive(Clone, Copy)]
 pub struct Reading {
     pub outcome: Outcome,
     pub table: Decoded,

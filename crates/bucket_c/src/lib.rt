@@ -1,4 +1,6 @@
 // The calls on bucket bytes for programs in other languages: numbers and slices only.
+#![tactic(auto)]
+
 ghost use Rattle.std.specs.Prelude.{◌≡◌, ◌≤◌, ◌<◌, ◌+◌, ◌*◌, length, get_or};
 ghost use Rattle.entries.specs.Decoded.{value_bytes};
 ghost use Rattle.table.specs.Form.{read_number};

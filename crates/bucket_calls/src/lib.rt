@@ -1,4 +1,6 @@
 // Calls on lent bucket bytes: a key is looked up, given a value or removed, and the keys are listed.
+#![tactic(auto)]
+
 ghost use Rattle.std.specs.Prelude.{◌≡◌};
 ghost use Rattle.entries.specs.Decoded.{key_bytes, value_bytes};
 ghost use Rattle.bucket.specs.Answers.{numbered, outcome_number};
@@ -11,7 +13,7 @@ use entries::slots::{absent, count_of, find, store};
 use entries::{Decoded, Item, KEY_ROOM, Key, Slot, TABLE_ROOM, VALUE_ROOM, Value, slots};
 
 // What became of a change. The number for each case is `change_number`.
-#[derive(Drop)]
+#[derive(Clone, Copy)]
 pub enum Change {
     Done,
     Full,
@@ -19,14 +21,14 @@ pub enum Change {
 }
 
 // The value that was found, none where the key is absent or the bucket is refused. Its length is at most 16, found or not.
-#[derive(Drop)]
+#[derive(Clone, Copy)]
 pub struct Found {
     pub outcome: Outcome,
     pub item: Item,
 }
 
 // The first `count` keys, at most four; none where the bucket is refused. The length of each of the four is at most 8.
-#[derive(Drop)]
+#[derive(Clone, Copy)]
 pub struct Listing {
     pub outcome: Outcome,
     pub count: usize,

@@ -1,4 +1,6 @@
 // Tests on decoded tables: whether one has a bucket form, and whether its own numbers are within its arrays.
+#![tactic(auto)]
+
 ghost use Rattle.std.specs.Prelude.{◌≡◌, ◌∷◌, []};
 ghost use Rattle.entries.specs.Decoded.{entry_in, table_in};
 ghost use Rattle.table.specs.Form.{sized, rising, fits};

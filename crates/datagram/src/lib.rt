@@ -1,4 +1,6 @@
 // Datagrams: read from lent bytes, and written to them.
+#![tactic(auto)]
+
 ghost use Rattle.std.specs.Prelude.{◌≡◌, ◌++◌, ◌&&◌, true, false, ◌≤◌, length, get_or, drop};
 ghost use Rattle.entries.specs.Decoded.{table_in};
 ghost use Rattle.table.specs.Form.{fits};
@@ -16,7 +18,7 @@ use fields::{
 };
 
 // Whether bytes are taken (RULES, Datagrams 7). The refusal of each case is `outcome_number`.
-#[derive(Drop)]
+#[derive(Clone, Copy)]
 pub enum Outcome {
     Accepted,
     BadBucket,
@@ -24,7 +26,7 @@ pub enum Outcome {
 }
 
 // Whether a datagram was written (RULES, Datagrams 8). The refusal of each case is `written_number`.
-#[derive(Drop)]
+#[derive(Clone, Copy)]
 pub enum Written {
     Accepted,
     BadBucket,
@@ -33,7 +35,7 @@ pub enum Written {
 }
 
 // Kinds other than 4 and 8 carry no version and no table: read as zeros and no entry, and not written.
-#[derive(Drop)]
+#[derive(Clone, Copy)]
 pub struct Datagram {
     pub kind: u8,
     pub from: u8,
@@ -47,7 +49,7 @@ pub struct Datagram {
 }
 
 // The datagram that was read, where the outcome is Accepted; zeros and no entries else.
-#[derive(Drop)]
+#[derive(Clone, Copy)]
 pub struct Reading {
     pub outcome: Outcome,
     pub datagram: Datagram,

@@ -1,4 +1,6 @@
 // The calls on datagrams for programs in other languages: numbers and slices only.
+#![tactic(auto)]
+
 ghost use Rattle.std.specs.Prelude.{◌≡◌};
 ghost use Rattle.bucket.specs.Answers.{numbered};
 ghost use Rattle.bucket_c.specs.Exports.{table_from};

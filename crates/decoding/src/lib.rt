@@ -1,4 +1,6 @@
 // From bucket bytes to a decoded table, by the count and the lengths in them, whatever they are.
+#![tactic(auto)]
+
 ghost use Rattle.std.specs.Prelude.{◌≡◌, ◌≤◌, ◌<◌, ◌+◌, min, length, get_or};
 ghost use Rattle.table.specs.Steps.{CutOut, Decodes};
 

@@ -1,4 +1,6 @@
 // What a call does to its bucket's table.
+#![tactic(auto)]
+
 ghost use Rattle.std.specs.Prelude.{◌≡◌, ℕ};
 ghost use Rattle.entries.specs.Decoded.{key_bytes, value_bytes, item_in, table_in};
 ghost use Rattle.table.specs.Form.{same_bytes, same_value};

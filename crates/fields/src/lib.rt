@@ -1,4 +1,6 @@
 // The fields of a datagram: the rules on them, and numbers in bytes, the highest first.
+#![tactic(auto)]
+
 ghost use Rattle.std.specs.Prelude.{◌≡◌, ◌∷◌, [], ◌++◌, ◌&&◌, ◌≤◌, ◌+◌, eqb, leb, length};
 ghost use Rattle.std.proofs.lemmas.List.Edits.{sets};
 ghost use Rattle.entries.specs.Decoded.{table_in};

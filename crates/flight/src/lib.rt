@@ -1,4 +1,6 @@
 // The messages in flight: one may be removed, then those of the step are appended.
+#![tactic(auto)]
+
 ghost use Rattle.std.specs.Prelude.{◌≡◌, true, ◌≢◌, ◌<◌, ◌≤◌, ◌+◌, ◌-◌, eqb};
 ghost use Rattle.server.specs.Views.{chosen};
 ghost use Rattle.blocks.specs.Blocks.{block};

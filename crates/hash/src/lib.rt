@@ -1,5 +1,7 @@
 // The FNV-1a hash of a key, 32 bits wide, and the bucket that it puts the key in.
 // The two public functions are exported for Rust and C: a slice is passed as pointer and length.
+#![tactic(auto)]
+
 ghost use Rattle.std.specs.Prelude.{◌≡◌, ◌*◌, ◌%◌, ◌^◌};
 ghost use Rattle.hash.specs.Fnv.{fnv_byte, fnv, bucket_of};
 

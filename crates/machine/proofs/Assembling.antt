@@ -15,7 +15,7 @@ use Rattle.plans.specs.declared.Step.{Step}
 use Rattle.runs.specs.declared.Report.{Report}
 use Rattle.runs.specs.Runs.{Ran, ran, carried_run}
 use Rattle.machine.specs.declared.Told.{Told}
-use Rattle.machine.specs.Contracts.{CarriedOn, carried_report, CarriedOut, Reported}
+use Rattle.machine.specs.Steps.{CarriedOn, carried_report, CarriedOut, Reported}
 use borrow.Author.Tests.{lt-leb}
 use native.Mathlib.Decide.{dec_le}
 

@@ -5,7 +5,7 @@ use Rattle.model.specs.Measures.{max_servers, max_buckets}
 use Rattle.memory.specs.Layout.{counts_at}
 use Rattle.views.specs.Memory.{standing}
 use Rattle.runs.specs.Runs.{fresh_memory, created_run, cluster_run}
-use Rattle.machine.specs.Contracts.{Created, Clustered}
+use Rattle.machine.specs.Steps.{Created, Clustered}
 
 module _ {counts heads slots copies queue : List ℕ} {n b : ℕ} where
   pub stands_already : standing (counts_at counts) ≡ true → Clustered counts heads slots copies queue n b counts heads slots copies queue 2

@@ -23,7 +23,7 @@ use Rattle.parse.specs.declared.Kind.{Kind}
 use Rattle.parse.specs.declared.Kind.TheVariants as K
 use Rattle.parse.specs.declared.Line.{Line}
 use Rattle.runs.specs.Runs.{line_plan}
-use Rattle.machine.specs.Contracts.{Carriable, Executable}
+use Rattle.machine.specs.Steps.{Carriable, Executable}
 
 -- ---- the parts of a plan
 

@@ -9,7 +9,7 @@ use Rattle.plans.specs.declared.Step.{Step}
 use Rattle.plans.specs.declared.Plan.{Plan}
 use Rattle.runs.specs.declared.Report.{Report}
 use Rattle.runs.specs.Runs.{ran, refused_run, lost_run, carried_run, taken, executed}
-use Rattle.machine.specs.Contracts.{Carriable, Reported, Lost, Took}
+use Rattle.machine.specs.Steps.{Carriable, Reported, Lost, Took}
 
 -- the server and the bucket of a move have a slot
 pub slot_within : {c : Counts} {x : Step} {v : Move} → Carriable c x v → (x.server < server_room) × (x.bucket < bucket_room)

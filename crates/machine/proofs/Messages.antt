@@ -19,7 +19,7 @@ use Rattle.plans.specs.Arrays.{Measured, asked_at}
 use Rattle.plans.proofs.Judging.{unless_none, unless_some}
 use Rattle.runs.specs.declared.Report.{Report}
 use Rattle.runs.specs.Runs.{Ran, ran, refused_run, carried_run, taken, executed}
-use Rattle.machine.specs.Contracts.{Losable, Carriable, Handable, Lost, Reported, handled_run, HandedListed, HandRan}
+use Rattle.machine.specs.Steps.{Losable, Carriable, Handable, Lost, Reported, handled_run, HandedListed, HandRan}
 use Rattle.machine.proofs.Executables.{stays}
 use Rattle.machine.proofs.Executing.{executes_lost}
 

@@ -21,7 +21,7 @@ use Rattle.runs.proofs.LineMeans.{line_means}
 use Rattle.runs.proofs.Ordering.{line_orders}
 use Rattle.runs.specs.declared.Tally.{Tally}
 use Rattle.machine.specs.declared.Stepped.{Stepped}
-use Rattle.machine.specs.Contracts.{RanLine}
+use Rattle.machine.specs.Steps.{RanLine}
 use Rattle.machine.specs.Meaning.{Performed}
 
 performed_comes_out : (s : lines.State) (o : Option lines.Line) → ComesOut s o (performed s o)

@@ -13,7 +13,7 @@ use Rattle.parse.specs.declared.Kind.TheVariants as K
 use Rattle.parse.specs.declared.Line.{Line}
 use Rattle.runs.specs.declared.Report.{Report}
 use Rattle.runs.specs.Runs.{Ran, ran, refused_run, executed, words_of, line_plan, planned_run, run_by, line_run, EffectOf}
-use Rattle.machine.specs.Contracts.{Reported, seen, route_of, LinePlanned, Clustered, HandRan, RanPlan, RanLine}
+use Rattle.machine.specs.Steps.{Reported, seen, route_of, LinePlanned, Clustered, HandRan, RanPlan, RanLine}
 
 module _ (heads slots copies queue : List ℕ) (c : Counts) (x : Line) (p : Plan) where
   -- the plan of a line, by its kind

@@ -1,4 +1,4 @@
--- The contracts of `machine` over the lent arrays: what each function makes of what they were. The records are those of Contracts.antt and
+-- The contracts of `machine` over the lent arrays: what each function makes of what they were. The records are those of Steps.antt and
 -- Meaning.antt.
 use Rattle.std.specs.Prelude.{◌≡◌, ℕ, Bool, List, length}
 use Rattle.std.specs.Borrow.{Bor}
@@ -21,7 +21,7 @@ use Rattle.runs.specs.declared.Tally.{Tally}
 use Rattle.runs.specs.Runs.{carried_run, executed}
 use Rattle.machine.specs.declared.Told.{Told}
 use Rattle.machine.specs.declared.Stepped.{Stepped}
-use Rattle.machine.specs.Contracts.{ServerChanged, CarriedOn, CarriedOut, Reported, HandedListed, HandRan, Clustered, RanPlan, RanLine}
+use Rattle.machine.specs.Steps.{ServerChanged, CarriedOn, CarriedOut, Reported, HandedListed, HandRan, Clustered, RanPlan, RanLine}
 use Rattle.machine.specs.Meaning.{Performed}
 
 -- ---- a plan is carried out

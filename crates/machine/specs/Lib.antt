@@ -1,4 +1,4 @@
 -- What the contracts of `machine` cite.
-pub mod Contracts
+pub mod Steps
 pub mod Meaning
 pub mod Lent

@@ -6,7 +6,7 @@ use Rattle.parse.specs.Meaning.{line_in}
 use Rattle.runs.specs.declared.Tally.{Tally}
 use Rattle.runs.specs.Meaning.{state_in, Bounded, tally_in, tally_after, performed, outcome_in}
 use Rattle.machine.specs.declared.Stepped.{Stepped}
-use Rattle.machine.specs.Contracts.{RanLine}
+use Rattle.machine.specs.Steps.{RanLine}
 
 -- a line: every word and byte that it leaves, the tally, and, for every state within the measures, the definition's step,
 -- which leaves such a state

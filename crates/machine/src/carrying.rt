@@ -6,7 +6,7 @@ ghost use Rattle.views.specs.Queue.{without_message};
 ghost use Rattle.views.specs.Lent.{lent};
 ghost use Rattle.flight.specs.Flown.{Flown, old_flight};
 ghost use Rattle.runs.specs.Runs.{next_counts};
-ghost use Rattle.machine.specs.Contracts.{Carriable, Losable, carried_report, Lost, Took, Executable};
+ghost use Rattle.machine.specs.Steps.{Carriable, Losable, carried_report, Lost, Took, Executable};
 ghost use Rattle.machine.specs.Lent.{ChangesServer, ChangesFlight, CarriesOn, CarriesOut, Executes};
 
 use crate::Told;

@@ -4,7 +4,7 @@ ghost use Rattle.blocks.specs.Order.{rising};
 ghost use Rattle.memory.specs.Layout.{message_room, queue_length, fresh_places};
 ghost use Rattle.memory.specs.Lent.{was, is};
 ghost use Rattle.runs.specs.Runs.{fresh_counts};
-ghost use Rattle.machine.specs.Contracts.{Created};
+ghost use Rattle.machine.specs.Steps.{Created};
 
 use memory::{
     CONTENTS_LEN, CopyBytes, CountWords, Counts, HEADS_LEN, HeadWords, MESSAGES, ORDER_AT,

@@ -1,5 +1,7 @@
 // One line of a script on the lent arrays: judged, then carried out. What it leaves in them is said in crates/runs/specs, and
 // what that stands for in specs/Meaning.antt.
+#![tactic(auto)]
+
 use runs::{Report, Tally};
 
 mod carrying;
@@ -11,7 +13,7 @@ mod numbers;
 mod one_line;
 
 // What a move that is carried out tells: how many answers were written, how many messages sent, and how many are in flight.
-#[derive(Drop)]
+#[derive(Clone, Copy)]
 pub struct Told {
     pub answers: u32,
     pub sent: u32,
@@ -19,7 +21,7 @@ pub struct Told {
 }
 
 // What a line came to, and the tally after it.
-#[derive(Drop)]
+#[derive(Clone, Copy)]
 pub struct Stepped {
     pub report: Report,
     pub tally: Tally,

@@ -4,7 +4,7 @@ ghost use Rattle.memory.specs.Lent.{was};
 ghost use Rattle.views.specs.Lent.{lent};
 ghost use Rattle.plans.specs.Arrays.{Measured};
 ghost use Rattle.runs.specs.Runs.{words_with, words_of};
-ghost use Rattle.machine.specs.Contracts.{LinePlanned, route_of, planned_line};
+ghost use Rattle.machine.specs.Steps.{LinePlanned, route_of, planned_line};
 ghost use Rattle.machine.specs.Lent.{RunsPlan, RunsLine, Clusters};
 
 use crate::carrying::{bare_report, execute};

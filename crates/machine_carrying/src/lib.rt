@@ -1,5 +1,7 @@
 // A move carried out on the two lent arrays: the server's records and contents, then the messages, then the counts. What it leaves is
 // said in crates/runs/specs.
+#![tactic(auto)]
+
 ghost use Rattle.std.specs.Prelude.{◌≡◌, ◌<◌, ◌≤◌};
 ghost use Rattle.memory.specs.Layout.{server_room, bucket_room, message_room};
 ghost use Rattle.views.specs.Arrays.{old_memory, new_memory};
@@ -28,7 +30,7 @@ use std::num::wrapping_add_u32;
 pub mod fresh;
 
 // What a move that is carried out tells: how many answers were written, how many messages sent, and how many are in flight.
-#[derive(Drop)]
+#[derive(Clone, Copy)]
 pub struct Told {
     pub answers: u32,
     pub sent: u32,

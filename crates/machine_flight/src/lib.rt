@@ -1,4 +1,6 @@
 // The messages in flight in the two lent arrays: one may be removed, then those of the step are appended.
+#![tactic(auto)]
+
 ghost use Rattle.std.specs.Prelude.{◌≡◌, true, ◌≢◌, ◌<◌, ◌≤◌, ◌+◌, ◌-◌, eqb};
 ghost use Rattle.server.specs.Views.{chosen};
 ghost use Rattle.memory.specs.Layout.{message_room};

@@ -1,5 +1,7 @@
 // The cluster's memory in a few lent arrays of fixed size. Where each field of its records and messages lies is said in
 // specs/Layout.antt; proofs/ has the laws of it.
+#![tactic(auto)]
+
 ghost use Rattle.std.specs.Prelude.{◌≡◌, ◌<◌};
 ghost use Rattle.memory.specs.Layout.{server_room, bucket_room, slot_of};
 
@@ -70,7 +72,7 @@ pub type AnswerWords = [u32; ANSWERS_LEN];
 
 // The words of a call without their bytes: kind, bucket, how long the key is, and for the expected value and the new value
 // 0 where there is none, else one above its length.
-#[derive(Drop)]
+#[derive(Clone, Copy)]
 pub struct Numbers {
     pub kind: u32,
     pub bucket: u32,
@@ -80,7 +82,7 @@ pub struct Numbers {
 }
 
 // The cluster's measures and the numbers that count on.
-#[derive(Drop)]
+#[derive(Clone, Copy)]
 pub struct Counts {
     pub servers: u32,
     pub buckets: u32,

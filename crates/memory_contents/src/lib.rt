@@ -1,5 +1,7 @@
 // Contents of buckets in the lent bytes: those of copies, working contents, and those of messages. One is copied to another here; a
 // table is written as one in `tables`.
+#![tactic(auto)]
+
 ghost use Rattle.std.specs.Prelude.{◌≡◌, ◌+◌, ◌*◌, ◌<◌, ◌≤◌, length, drop};
 ghost use Rattle.std.proofs.Math.Seq.{paste};
 ghost use Rattle.memory.specs.Layout.{slot_room, message_room};

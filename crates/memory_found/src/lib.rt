@@ -1,5 +1,7 @@
 // What a call found, in a small lent array of bytes: how many items there are, then for each its length and its bytes. The value of
 // a `get` is one item, the keys of `keys` are at most four. What stands behind the items stays as it was.
+#![tactic(auto)]
+
 use entries::{KEY_ROOM, TABLE_ROOM};
 
 pub mod reading;
@@ -16,7 +18,7 @@ pub const FOUND_LEN: usize = ITEMS_AT + TABLE_ROOM * ITEM_ROOM;
 pub type FoundBytes = [u8; FOUND_LEN];
 
 // A part of the array: `len` bytes from `from` on.
-#[derive(Drop)]
+#[derive(Clone, Copy)]
 pub struct Part {
     pub from: usize,
     pub len: usize,

@@ -1,5 +1,7 @@
 // The messages in flight in two lent arrays: their headers and their order in the last region of the words, their contents among
 // those of the bytes. A message stays at its place; the order lists the places, in the order in which the messages were sent.
+#![tactic(auto)]
+
 ghost use Rattle.std.specs.Prelude.{◌≡◌, ◌+◌, ◌*◌, ◌%◌, ◌<◌, ◌≤◌, length, get_or};
 ghost use Rattle.blocks.specs.Order.{rising};
 ghost use Rattle.memory.specs.Rows.{row, put_row};

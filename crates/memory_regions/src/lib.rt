@@ -1,5 +1,7 @@
 // The cluster's memory in two lent arrays, words and bytes, each cut into regions: where each region begins, and how long the arrays are.
 // The definitions of the same cuts are in specs/, the laws of stores and readings in a region in proofs/.
+#![tactic(auto)]
+
 use memory::{
     CONTENTS_LEN, COUNTS_LEN, HEADS_LEN, MESSAGES, PAYLOADS_LEN, QUEUE_LEN, SLOTS, SLOTS_LEN,
     TEXTS_LEN,

@@ -1,5 +1,7 @@
 // The messages in flight, at most 64: their headers in lent words, a block for each, and their contents in lent bytes likewise.
 // A message stays at its place. The words behind the headers list the places, in the order in which the messages were sent.
+#![tactic(auto)]
+
 ghost use Rattle.std.specs.Prelude.{◌≡◌, ◌+◌, ◌*◌, ◌<◌, ◌≤◌, length};
 ghost use Rattle.blocks.specs.Blocks.{block};
 ghost use Rattle.memory.specs.Layout.{message_room, queue_length, content_size, place_field, place_at, without_place, message_fields, message_stores, header_at, message_at, put_header};

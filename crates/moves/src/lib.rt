@@ -1,5 +1,7 @@
 // What one step of a server makes of its head and of the slot of one bucket, by value, and what it sends and answers.
 // What each number stands for is said in specs/Reactions.antt.
+#![tactic(auto)]
+
 use server::{Answer, Call, Head, Round, Version};
 
 pub mod codes;
@@ -12,7 +14,7 @@ mod replies;
 pub mod roles;
 
 // A server's head, and what stands in the slot of one bucket: the version of the copy, the open round and the open call.
-#[derive(Drop)]
+#[derive(Clone, Copy)]
 pub struct Local {
     pub head: Head,
     pub version: Version,
@@ -21,7 +23,7 @@ pub struct Local {
 }
 
 // What a step makes of it.
-#[derive(Drop)]
+#[derive(Clone, Copy)]
 pub struct Move {
     pub local: Local,
     // the kind of message that is sent, or NO_MESSAGE: a broadcast goes to all others, a reply to the sender of what it answers

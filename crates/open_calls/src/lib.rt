@@ -1,5 +1,7 @@
 // Open calls: the count of their rounds, their endings, and the versions that they read and write. What each number stands for is said
 // in crates/server/specs/Views.antt.
+#![tactic(auto)]
+
 ghost use Rattle.std.specs.Prelude.{◌≡◌, ℕ, ◌+◌, ◌^◌, ◌<◌, List, [], ◌==◌};
 ghost use Rattle.entries.specs.Entries.{Entry};
 ghost use Rattle.model.specs.Calls as calls;

@@ -1,4 +1,6 @@
 // What is printed for a line, from the machine's report of it (RULES, Output).
+#![tactic(auto)]
+
 ghost use Rattle.std.specs.Prelude.{◌≤◌, ◌+◌, length};
 ghost use Rattle.model.specs.Measures.{most_answers};
 ghost use Rattle.model.specs.Print.{outcome_text, tally_text};

@@ -1,4 +1,6 @@
 // An answer's line, with its data from the lent bytes of what its call found.
+#![tactic(auto)]
+
 ghost use Rattle.std.specs.Prelude.{◌≡◌, ◌≤◌, ◌+◌, length};
 ghost use Rattle.model.specs.Print.{answer_text};
 ghost use Rattle.memory.specs.Lent.{was, is};

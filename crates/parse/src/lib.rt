@@ -1,4 +1,6 @@
 // Script lines from their bytes (RULES, Lines 2 to 7).
+#![tactic(auto)]
+
 ghost use Rattle.std.specs.Prelude.{◌≡◌};
 ghost use Rattle.model.specs.Parse.{parse};
 ghost use Rattle.parse.specs.Meaning.{parsed};
@@ -13,14 +15,14 @@ mod shapes;
 pub mod words;
 
 // A number that was read, or none.
-#[derive(Drop)]
+#[derive(Clone, Copy)]
 pub enum Number {
     Is(u32),
     Not,
 }
 
 // The first word of a line, or that the line is malformed (RULES, Lines 2).
-#[derive(Drop)]
+#[derive(Clone, Copy)]
 pub enum Kind {
     Malformed,
     Cluster,
@@ -43,7 +45,7 @@ pub enum Kind {
 // of stores. A key or value has its whole length, which may be above its room, and as many of its bytes as there is room
 // for, with zeros behind them; what a line does not have is zeros. Whether the expected value and the value are there
 // stands last: a flag among the arrays makes every line slower.
-#[derive(Drop)]
+#[derive(Clone, Copy)]
 pub struct Line {
     pub key: Key,
     pub expected: Value,

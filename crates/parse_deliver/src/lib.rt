@@ -1,5 +1,7 @@
 // A line `deliver I` and its line feed, read in one pass where they lie in the input: most lines of a script are such. Every other line
 // is left to `parse`.
+#![tactic(auto)]
+
 ghost use Rattle.std.specs.Prelude.{◌≡◌, true, false, ◌≤◌, ◌<◌, ◌+◌, length};
 ghost use Rattle.std.proofs.Math.Option.{some};
 ghost use Rattle.model.specs.Lines.{deliver};
@@ -18,14 +20,14 @@ const WORD_LEN: usize = 8;
 const MOST_DIGITS: usize = 9;
 
 // The number of some digits, and the place behind them.
-#[derive(Drop)]
+#[derive(Clone, Copy)]
 pub struct Figures {
     pub number: u32,
     pub end: usize,
 }
 
 // The number of a line `deliver I`, and the place behind its line feed; that is 0 where the line is any other.
-#[derive(Drop)]
+#[derive(Clone, Copy)]
 pub struct Quick {
     pub number: u32,
     pub next: usize,

@@ -1,5 +1,7 @@
 // What a line would do, judged before anything changes: the number it is refused with, or the move to carry out.
 // The rules are those of specs/Plans.antt.
+#![tactic(auto)]
+
 use moves::Move;
 use server::{Effect, Message, Words};
 
@@ -11,7 +13,7 @@ mod room;
 pub mod servers;
 
 // Where a move happens, what hands it over, and what it adds to the tally beside the messages sent.
-#[derive(Drop)]
+#[derive(Clone, Copy)]
 pub struct Step {
     pub server: u32,
     pub bucket: u32,
@@ -28,7 +30,7 @@ pub struct Step {
 
 // With refusal NONE the line is accepted: its message is lost and nothing else happens (`loses`), or its move is carried out. A message that is
 // cut counts as lost with its move.
-#[derive(Drop)]
+#[derive(Clone, Copy)]
 pub struct Plan {
     pub refusal: u32,
     pub loses: bool,

@@ -1,4 +1,6 @@
 // What is printed (RULES, Output), written into a lent buffer.
+#![tactic(auto)]
+
 use entries::{Key, TABLE_ROOM, Value};
 
 pub mod answer_text;
@@ -16,14 +18,14 @@ pub const TALLY_ROOM: usize = 64;
 pub const FIGURES: usize = 10;
 
 // The figures of a number: the bytes from `from` on.
-#[derive(Drop)]
+#[derive(Clone, Copy)]
 pub struct Figures {
     pub bytes: [u8; FIGURES],
     pub from: usize,
 }
 
 // The word for the result of a call: `Value` for a value that is there, `Absent` where the key is absent.
-#[derive(Drop)]
+#[derive(Clone, Copy)]
 pub enum ResultWord {
     Value,
     Keys,
@@ -36,7 +38,7 @@ pub enum ResultWord {
 }
 
 // Keys: the first `count` of four.
-#[derive(Drop)]
+#[derive(Clone, Copy)]
 pub struct KeyList {
     pub count: usize,
     pub keys: [Key; TABLE_ROOM],
@@ -44,7 +46,7 @@ pub struct KeyList {
 
 // An answer as it is printed: the call's number, the word for its result, the number of rounds made for it, and the data of
 // `value` and `keys`.
-#[derive(Drop)]
+#[derive(Clone, Copy)]
 pub struct AnswerLine {
     pub call: u32,
     pub word: ResultWord,

@@ -1,4 +1,6 @@
 // How far a part of the input was dealt with, by value, and what is kept of it between two parts, in three lent words.
+#![tactic(auto)]
+
 ghost use Rattle.std.specs.Prelude.{◌≡◌, [], ◌∷◌, ◌+◌, ◌≤◌, ◌<◌, leb, take, set};
 ghost use Rattle.model.specs.Measures.{max_lines};
 ghost use Rattle.print.specs.Room.{line_room};
@@ -32,7 +34,7 @@ pub const KEPT_LEN: usize = MAX_LINE + 1;
 pub type KeptLine = [u8; KEPT_LEN];
 
 // The tally after a line, and where its text ends in the output.
-#[derive(Drop)]
+#[derive(Clone, Copy)]
 pub struct Ending {
     pub tally: Tally,
     pub written: usize,
@@ -40,7 +42,7 @@ pub struct Ending {
 
 // The tally, the lines read, the bytes held of the present line, the bytes taken of the part, the bytes written, and whether there may
 // be more to do.
-#[derive(Drop)]
+#[derive(Clone, Copy)]
 pub struct Progress {
     pub tally: Tally,
     pub lines: usize,

@@ -1,5 +1,7 @@
 // Refusals 3, 5, 6, 7 and 12, which bear on several kinds of lines, and 18 of a start: from the counts of a cluster, 6 and 18 with a
 // server's head, 12 with the kind of message that is sent.
+#![tactic(auto)]
+
 ghost use Rattle.std.specs.Prelude.{◌≡◌, ◌≤◌};
 ghost use Rattle.memory.specs.Layout.{server_room, message_room};
 ghost use Rattle.refusals.specs.Refusals.{send_count, places_left, server_refusal, start_refusal, no_receiver, inside, message_refusal};

@@ -1,5 +1,7 @@
 // What a line comes to: its report, and the tally after it. What a line leaves in the lent arrays is said in specs/Runs.antt, and what that
 // stands for in specs/Meaning.antt.
+#![tactic(auto)]
+
 ghost use Rattle.std.specs.Prelude.{◌≡◌};
 ghost use Rattle.runs.specs.Meaning.{tally_after};
 
@@ -9,7 +11,7 @@ use std::num::wrapping_add_u32;
 
 // What a line came to: the number it is refused with, or 0; how many answers it wrote; what it adds to the tally; the messages
 // in flight after it; the effect of the call that it answers, with the data of `value` and `keys`.
-#[derive(Drop)]
+#[derive(Clone, Copy)]
 pub struct Report {
     pub effect: Effect,
     pub refusal: u32,
@@ -23,7 +25,7 @@ pub struct Report {
 
 // The tally of messages: sent, copied, delivered, lost, in flight.
 #[repr(C)]
-#[derive(Drop)]
+#[derive(Clone, Copy)]
 pub struct Tally {
     pub sent: u32,
     pub copied: u32,

@@ -1,5 +1,7 @@
 // The public calls for callers in other languages, who lend arrays of these sizes, no two of them overlapping, and the tally: a part of a
 // script, and its end. What a call counts is added to the lent tally.
+#![tactic(auto)]
+
 ghost use Rattle.views.specs.Lent.{lent};
 ghost use Rattle.feed.specs.Lent.{FeedsScript, FinishesScript};
 

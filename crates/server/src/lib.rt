@@ -1,4 +1,6 @@
 // The rules of one server on small structs by value. What each number stands for is said in specs/Views.antt.
+#![tactic(auto)]
+
 use crate::measures::SERVERS;
 use entries::{Decoded, Item, Key, Value};
 
@@ -9,7 +11,7 @@ pub mod numbers;
 pub mod votes;
 
 // A version: the election number decides first, then the counter.
-#[derive(Drop)]
+#[derive(Clone, Copy)]
 pub struct Version {
     pub election: u32,
     pub counter: u32,
@@ -17,7 +19,7 @@ pub struct Version {
 
 // A server without its copies, rounds and calls. Stored: number, vote, leader. Not stored: role, last (the number of the last round), votes.
 // Votes, and the marks of a round, are words, as the memory keeps them: a load or a store converts nothing.
-#[derive(Drop)]
+#[derive(Clone, Copy)]
 pub struct Head {
     pub number: u32,
     pub vote: u32,
@@ -30,7 +32,7 @@ pub struct Head {
 
 // An open round: one mark for each server beside its numbers. Open with a purpose from RECOVERY_READ to OWN_WRITE; with any
 // other word, as NO_ROUND, none is.
-#[derive(Drop)]
+#[derive(Clone, Copy)]
 pub struct Round {
     pub purpose: u32,
     pub number: u32,
@@ -40,14 +42,14 @@ pub struct Round {
 }
 
 // A round with a reply counted, and whether the reported copy is now the best one.
-#[derive(Drop)]
+#[derive(Clone, Copy)]
 pub struct Counted {
     pub round: Round,
     pub better: bool,
 }
 
 // An open call beside its words. Open with a kind from GET to KEYS; with any other word, as NO_CALL, none is.
-#[derive(Drop)]
+#[derive(Clone, Copy)]
 pub struct Call {
     pub kind: u32,
     pub number: u32,
@@ -56,7 +58,7 @@ pub struct Call {
 }
 
 // The words of a call: kinds GET, SET, SETIF, DEL and KEYS.
-#[derive(Drop)]
+#[derive(Clone, Copy)]
 pub struct Words {
     pub kind: u32,
     pub bucket: u32,
@@ -66,7 +68,7 @@ pub struct Words {
 }
 
 // An answer without its data.
-#[derive(Drop)]
+#[derive(Clone, Copy)]
 pub struct Answer {
     pub call: u32,
     pub result: u32,
@@ -75,7 +77,7 @@ pub struct Answer {
 
 // What is left to do once the table is read: with NO_RESULT the table is to be written, otherwise the call is answered. The
 // value counts with VALUE; with ABSENT there is none.
-#[derive(Drop)]
+#[derive(Clone, Copy)]
 pub struct Effect {
     pub value: Value,
     pub table: Decoded,
@@ -83,7 +85,7 @@ pub struct Effect {
 }
 
 // A message without its content.
-#[derive(Drop)]
+#[derive(Clone, Copy)]
 pub struct Message {
     pub kind: u32,
     pub sender: u32,
@@ -95,7 +97,7 @@ pub struct Message {
 }
 
 // How a server handles a message.
-#[derive(Drop)]
+#[derive(Clone, Copy)]
 pub enum Handling {
     // a vote message: PLEASE_VOTE, ACK_VOTE or NACK_VOTE
     Vote(u32),

@@ -1,12 +1,14 @@
 // Messages that are handed over, judged by what they look at alone: a request at four numbers of the head and at the copy's
 // version, a reply at the round. What each answer stands for is said in specs/Requests.antt and specs/Replies.antt.
+#![tactic(auto)]
+
 use server::Round;
 
 pub mod replies;
 pub mod requests;
 
 // What a request looks at of a server's head.
-#[derive(Drop)]
+#[derive(Clone, Copy)]
 pub struct Seat {
     pub number: u32,
     pub vote: u32,
@@ -15,7 +17,7 @@ pub struct Seat {
 }
 
 // What a server makes of a request.
-#[derive(Drop)]
+#[derive(Clone, Copy)]
 pub struct Answered {
     // the vote and its leader from then on
     pub vote: u32,
@@ -29,7 +31,7 @@ pub struct Answered {
 }
 
 // What a reply makes of the round of a slot.
-#[derive(Drop)]
+#[derive(Clone, Copy)]
 pub struct Replied {
     // the round, with the reply counted where it belongs to it
     pub round: Round,

@@ -1,4 +1,6 @@
 // The bucket form (RULES, Bucket bytes), tables of up to four keys as 113 bytes: definitions in specs/, laws in proofs/.
+#![tactic(auto)]
+
 use entries::{KEY_ROOM, TABLE_ROOM, VALUE_ROOM};
 
 // Where the entries' bytes begin, behind the count; and how many they are for each entry: the offset and the length of its key,

@@ -1,4 +1,6 @@
 // The tally of messages is added to: what a call counts is a change, which is added to the tally by value, or to one that is lent.
+#![tactic(auto)]
+
 ghost use Rattle.std.specs.Prelude.{◌≡◌};
 ghost use Rattle.tally.specs.Sums.{tally_sum};
 

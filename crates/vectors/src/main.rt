@@ -1,6 +1,8 @@
 // Runs the cases of standard input through the proved crates. A line is the name of a call, two words for what it takes, one
 // for the bytes that are lent to it, and the name of the case. What is printed is the name of the case, the number that
 // the call answers, and the lent bytes afterwards; `?` for a line of any other form.
+#![tactic(auto)]
+
 mod calls;
 mod datagrams;
 mod showing;

@@ -1,7 +1,7 @@
 -- `one_line::planned_line` meets its contract: planned, then carried out.
 use Rattle.std.proofs.Common.{sym, ◌∙◌, subst, rules}
 use Rattle.runs.proofs.Standing.{standing_measured}
-use Rattle.machine.specs.Contracts.{Executable}
+use Rattle.machine.specs.Steps.{Executable}
 use Rattle.machine.proofs.Executables.{executable}
 use Rattle.machine.proofs.Planning.{planned_run_lem, unplanned_run}
 use Rattle.machine.proofs.one_line.planned_line.Statement.{statement}

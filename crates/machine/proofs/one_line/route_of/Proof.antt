@@ -1,6 +1,6 @@
 -- `one_line::route_of` meets its contract: kind by kind.
 use Rattle.std.proofs.Common.{sym, ap, rules}
-use Rattle.machine.specs.Contracts.{route_of}
+use Rattle.machine.specs.Steps.{route_of}
 use Rattle.machine.proofs.one_line.route_of.Statement.{statement}
 use Rattle.machine.proofs.one_line.route_of.Tie as tie
 
