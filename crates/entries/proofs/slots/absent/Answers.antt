@@ -1,0 +1,6 @@
+-- `slots::absent` meets its contract.
+use borrow.Author.Rules.{rules}
+use Rattle.entries.proofs.slots.absent.Goals as goal
+
+pub returns : goal.returns
+returns c = rw c.no_value-value.ensures

@@ -1,0 +1,10 @@
+-- `fresh::zero_bytes` meets its contract: zero by zero.
+use Rattle.std.proofs.Common.{◌-◌, arith, rules}
+use Rattle.machine.proofs.Zeros.{Zeroed, zeros_start, zeros_go_on, zeros_end}
+use Rattle.machine.proofs.fresh.zero_bytes.Given as goal
+
+abbrev pub invariant-loop-i : goal.invariant-loop-i
+invariant-loop-i l = Zeroed l.initial.dst l.len l.dst l.i
+
+abbrev pub decreases-loop-i : goal.decreases-loop-i
+decreases-loop-i l = l.len - l.i

@@ -1,0 +1,30 @@
+-- `machine_answers::end_call` meets its contract: the call is open or not.
+use mathlib.Core.Path.{sym, ap, ◌∙◌}
+use Prim.Native.Nat.{◌+◌}
+use native.Mathlib.Omega.{arith}
+use Rattle.server.specs.Views.{among}
+use Rattle.open_calls.specs.Calls.{ended_of}
+use Rattle.memory_regions.specs.Regions.{regions}
+use Rattle.views.specs.Changes.{put_answer}
+use Rattle.machine_answers.specs.Answers.{written}
+use Rattle.machine_answers.proofs.Ended.{ended_open, ended_none}
+use borrow.Author.Rules.{rules}
+use Rattle.machine_answers.proofs.end_call.Goals as goal
+
+pub returns-then-is_open_call : goal.returns-then-is_open_call
+returns-then-is_open_call c =
+    let t = ap (λ x. among 5 x.kind) c.load_call-call.ensures in
+    record {
+      is =
+          ap (λ x. written x (c.args.count + 1)) (c.put_answer.ensures ∙ ap (put_answer c.args.answers.now c.args.count) (c.ended.ensures.0 ∙ ap ended_of c.load_call-call.ensures))
+          ∙ ended_open (regions c.args.words.now).slots c.args.answers.now c.args.slot c.args.count (sym t ∙ sym c.is_open_call.ensures ∙ c.if-is_open_call.true);
+      few = omega arith;
+    }
+
+pub returns : goal.returns
+returns c =
+    let t = ap (λ x. among 5 x.kind) c.load_call-call.ensures in
+    record {
+      is = ended_none (regions c.args.words.now).slots c.args.answers.now c.args.slot c.args.count (sym t ∙ sym c.is_open_call.ensures ∙ c.if-is_open_call.false);
+      few = omega arith;
+    }

@@ -1,0 +1,6 @@
+-- `machine_carrying::change_server` meets its contract: the answers, then the server.
+use Rattle.std.proofs.Common.{rules}
+use Rattle.machine_carrying.proofs.change_server.Goals as goal
+
+pub returns : goal.returns
+returns c = record { listed = c.answer-written.ensures; moves = c.move_server.ensures }

@@ -1,0 +1,7 @@
+-- `fresh::zero_copies` meets its contract: the region is lent as a part.
+use Rattle.machine_carrying.proofs.Zeros.{copies_zeroed}
+use Rattle.std.proofs.Common.{rules}
+use Rattle.machine_carrying.proofs.fresh.zero_copies.Goals as goal
+
+pub returns : goal.returns
+returns c = copies_zeroed c.args.bytes.now _ c.requires c.zero_bytes.ensures

@@ -1,0 +1,19 @@
+-- `fresh::zero_words` meets its contract: zero by zero.
+use Rattle.std.proofs.Common.{◌-◌, arith, rules}
+use Rattle.machine_carrying.proofs.Zeros.{Zeroed, zeros_start, zeros_go_on, zeros_end}
+use Rattle.machine_carrying.proofs.fresh.zero_words.Goals as goal
+
+pub loop-i-init : goal.loop-i-init
+loop-i-init c = zeros_start _ _ c.requires
+
+pub bounds-dst-i : goal.bounds-dst-i
+bounds-dst-i c = omega (arith, c.loop-i.invariant.size, c.requires)
+
+pub loop-i-preserved : goal.loop-i-preserved
+loop-i-preserved c = zeros_go_on c.loop-i.invariant c.loop-i-test.true
+
+pub shape_of-dst : goal.shape_of-dst
+shape_of-dst c = c.loop-i.invariant.size
+
+pub returns : goal.returns
+returns c = zeros_end c.requires c.loop-i.invariant c.loop-i-test.false

@@ -1,0 +1,13 @@
+-- `memory_contents::copy_content` meets its contract: a content is copied as a part of the same array.
+use Rattle.blocks.proofs.Laws.{paste_stored}
+use Rattle.memory.specs.Layout.{content_size, put_content}
+use borrow.Author.Rules.{rules}
+use Rattle.memory_contents.proofs.copy_content.Goals as goal
+
+pub returns : goal.returns
+unfolding put_content
+returns c =
+    record {
+      stored = rw c.copy_within.ensures (paste_stored content_size c.args.to c.args.from c.args.bytes.now c.args.bytes.now (search rules) (search rules));
+      long = search rules;
+    }

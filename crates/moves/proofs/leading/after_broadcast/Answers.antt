@@ -1,0 +1,6 @@
+-- `leading::after_broadcast` meets its contract: what its calls ensure, put together.
+use borrow.Author.Rules.{rules}
+use Rattle.moves.proofs.leading.after_broadcast.Goals as goal
+
+pub returns : goal.returns
+returns c = rw (c.one_more-call.ensures.0, c.new_round-round.ensures.0, c.opened-head.ensures.0)

@@ -1,0 +1,15 @@
+-- `leading::recovered_alone` meets its contract: both make the same test.
+use mathlib.Core.Path.{sym, ◌∙◌}
+use borrow.Author.Rules.{rules}
+use Rattle.moves.specs.Moves.{recovered_alone}
+use Rattle.moves.proofs.leading.recovered_alone.Goals as goal
+
+pub returns-then-recovered : goal.returns-then-recovered
+unfolding recovered_alone
+returns-then-recovered c = rw (recovered_alone, sym c.recovered.ensures ∙ c.if-recovered.true)
+
+pub returns : goal.returns
+unfolding recovered_alone
+returns c =
+    let k = c in
+    rw (recovered_alone, sym k.before.recovered.ensures ∙ k.if1.false, c.recovery_move-written.ensures, c.reading_move-read.ensures)

@@ -1,0 +1,6 @@
+-- `parts::ceasing` meets its contract: what its calls ensure, put together.
+use borrow.Author.Rules.{rules}
+use Rattle.moves.proofs.parts.ceasing.Goals as goal
+
+pub returns : goal.returns
+returns c = rw (c.with_head-follower.ensures, c.ceased.ensures.0)

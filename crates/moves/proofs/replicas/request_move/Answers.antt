@@ -1,0 +1,17 @@
+-- `replicas::request_move` meets its contract: both make the same test.
+use mathlib.Core.Path.{sym, ◌∙◌}
+use borrow.Author.Rules.{rules}
+use Rattle.moves.specs.Moves.{request_move}
+use Rattle.moves.proofs.replicas.request_move.Goals as goal
+
+pub returns-then-may_accept : goal.returns-then-may_accept
+unfolding request_move
+returns-then-may_accept c =
+    let k = c in
+    rw (request_move, sym k.before.may-accept.ensures ∙ k.if1.true, c.stepped_down.ensures, c.accepted_move.ensures)
+
+pub returns : goal.returns
+unfolding request_move
+returns c =
+    let k = c in
+    rw (request_move, sym k.before.may-accept.ensures ∙ k.if1.false, c.plain.ensures, c.chosen.ensures)

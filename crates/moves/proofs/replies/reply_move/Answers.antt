@@ -1,0 +1,19 @@
+-- `replies::reply_move` meets its contract: both make the same test.
+use mathlib.Core.List.{[]}
+use mathlib.Core.Path.{sym, ◌∙◌}
+use borrow.Author.Rules.{rules}
+use Rattle.moves.specs.Moves.{reply_move}
+use Rattle.moves.proofs.replies.reply_move.Goals as goal
+
+pub returns-then-matches : goal.returns-then-matches
+unfolding reply_move
+returns-then-matches c =
+    let k = c in
+    let a = k.before.args in
+    rw (reply_move, sym (k.matches.ensures a.servers []) ∙ c.if-matches.true, c.counted_move.ensures, c.counted-after.ensures.0)
+
+pub returns : goal.returns
+unfolding reply_move
+returns c =
+    let k = c in
+    rw (reply_move, sym (k.matches.ensures k.before.args.servers []) ∙ c.if-matches.false) c.quiet.ensures

@@ -1,0 +1,8 @@
+-- `roles::elected_move` meets its contract: what its calls ensure, put together.
+use borrow.Author.Rules.{rules}
+use Rattle.moves.specs.Moves.{elected_move}
+use Rattle.moves.proofs.roles.elected_move.Goals as goal
+
+pub returns : goal.returns
+unfolding elected_move
+returns c = rw (c.headed-next.ensures, c.elected.ensures.0)

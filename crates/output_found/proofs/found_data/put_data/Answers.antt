@@ -1,0 +1,50 @@
+-- `found_data::put_data` meets its contract: word by word.
+use Rattle.model.specs.Text.{bytes}
+use Rattle.model.specs.Print.{data_of}
+use Rattle.memory_found.specs.Found.{found_in}
+use Rattle.print.specs.Answers.{result_for}
+use Rattle.print.proofs.Printing.{printed_none}
+use Rattle.output_found.specs.Answers.{result_of}
+use Rattle.output_found.proofs.Texts.{data_value, data_absent, data_keys}
+use borrow.Author.Rules.{rules}
+use Rattle.output_found.proofs.found_data.put_data.Goals as goal
+
+pub put_value-requires : goal.put_value-requires
+put_value-requires c = rw (data_value c.args.word (found_in c.args.found.now) c.in-Value.is) at c.requires
+
+pub put_keys-requires : goal.put_keys-requires
+put_keys-requires c = rw (data_keys c.args.word (found_in c.args.found.now) c.in-Keys.is) at c.requires
+
+pub put_bytes-requires : goal.put_bytes-requires
+unfolding bytes
+put_bytes-requires c = rw (data_absent c.args.word (found_in c.args.found.now) c.in-Absent.is) at c.requires
+
+pub returns-in-Value : goal.returns-in-Value
+returns-in-Value c = rw (data_value c.args.word (found_in c.args.found.now) c.in-Value.is) c.put_value.ensures
+
+pub returns-in-Keys : goal.returns-in-Keys
+returns-in-Keys c = rw (data_keys c.args.word (found_in c.args.found.now) c.in-Keys.is) c.put_keys.ensures
+
+pub returns-in-Done : goal.returns-in-Done
+unfolding result_of result_for data_of
+returns-in-Done c = printed_none _ _ (rw c.in-Done.is)
+
+pub returns-in-Mismatch : goal.returns-in-Mismatch
+unfolding result_of result_for data_of
+returns-in-Mismatch c = printed_none _ _ (rw c.in-Mismatch.is)
+
+pub returns-in-Full : goal.returns-in-Full
+unfolding result_of result_for data_of
+returns-in-Full c = printed_none _ _ (rw c.in-Full.is)
+
+pub returns-in-NotDone : goal.returns-in-NotDone
+unfolding result_of result_for data_of
+returns-in-NotDone c = printed_none _ _ (rw c.in-NotDone.is)
+
+pub returns-in-Unknown : goal.returns-in-Unknown
+unfolding result_of result_for data_of
+returns-in-Unknown c = printed_none _ _ (rw c.in-Unknown.is)
+
+pub returns-in-Absent : goal.returns-in-Absent
+unfolding bytes
+returns-in-Absent c = rw (data_absent c.args.word (found_in c.args.found.now) c.in-Absent.is) c.put_bytes.ensures

@@ -1,0 +1,14 @@
+-- `hexadecimals::item_in` meets its contract: absent for `-`.
+use borrow.Author.Rules.{rules}
+use mathlib.Core.Path.{sym, ◌∙◌}
+use Rattle.model.specs.Text.{bytes}
+use Rattle.parse.proofs.Pairs.{item_there, item_absent}
+use Rattle.parse.proofs.hexadecimals.item_in.Goals as goal
+
+pub returns-then-same_word : goal.returns-then-same_word
+unfolding bytes
+returns-then-same_word c = item_absent _ _ (sym c.same_word.ensures ∙ c.if-same_word.true) c.value_in-value.ensures
+
+pub returns : goal.returns
+unfolding bytes
+returns c = item_there _ _ (sym c.same_word.ensures ∙ c.if-same_word.false) c.value_in-value.ensures

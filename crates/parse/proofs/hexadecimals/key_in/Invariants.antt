@@ -1,0 +1,16 @@
+-- `hexadecimals::key_in` meets its contract: a copy, pair by pair.
+use borrow.Author.Rules.{rules}
+use mathlib.Core.Path.{sym}
+use Prim.Native.Nat.{◌-◌}
+use native.Mathlib.Omega.{arith}
+use Rattle.parse.specs.Digits.{pair_bytes}
+use Rattle.parse.specs.Kept.{padded}
+use Rattle.parse.proofs.Padding.{Padding, padding_starts, padding_goes_on}
+use Rattle.parse.proofs.Pairs.{length_pairs, key_padded}
+use Rattle.parse.proofs.hexadecimals.key_in.Given as goal
+
+abbrev pub invariant-loop-i : goal.invariant-loop-i
+invariant-loop-i l = Padding 8 (pair_bytes l.word) l.kept l.bytes l.i
+
+abbrev pub decreases-loop-i : goal.decreases-loop-i
+decreases-loop-i l = l.kept - l.i

@@ -1,0 +1,6 @@
+-- `calls::call_step` meets its contract: what its calls ensure, put together.
+use Rattle.std.proofs.Common.{rules}
+use Rattle.plans.proofs.calls.call_step.Goals as goal
+
+pub returns : goal.returns
+returns c = rw (c.wrapping_add_u32.ensures, c.no_message.ensures)

@@ -1,0 +1,27 @@
+-- `hexadecimals::put_value` meets its contract.
+use borrow.Author.Rules.{rules}
+use mathlib.Core.Path.{sym}
+use mathlib.Core.Option.{some}
+use lib.Seq.{length-take-le}
+use Rattle.entries.specs.Decoded.{value_bytes}
+use Rattle.entries.proofs.Views.{value_whole, value_within}
+use Rattle.model.specs.Text.{bytes}
+use Rattle.model.specs.Print.{value_text}
+use Rattle.print.proofs.Printing.{fits_second, both}
+use native.Mathlib.Omega.{arith}
+use lib.ListN.{length-append}
+use Rattle.print.proofs.hexadecimals.put_value.Goals as goal
+
+pub put_bytes-next-requires : goal.put_bytes-next-requires
+unfolding bytes
+put_bytes-next-requires c = omega (arith, c.requires, length-append (bytes " ") (value_text (some (value_bytes c.args.value))))
+
+pub put_there-requires : goal.put_there-requires
+unfolding bytes
+put_there-requires c =
+    rw (value_whole c.args.value c.value_length-len.ensures) (fits_second (bytes " ") (value_text (some (value_bytes c.args.value))) (c.requires) c.put_bytes-next.ensures)
+
+pub returns : goal.returns
+unfolding bytes
+returns c =
+    both (bytes " ") (value_text (some (value_bytes c.args.value))) (c.requires) c.put_bytes-next.ensures (rw (value_whole c.args.value c.value_length-len.ensures) at c.put_there.ensures)

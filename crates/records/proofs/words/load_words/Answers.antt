@@ -1,0 +1,14 @@
+-- `words::load_words` meets its contract: its numbers, then its three texts.
+use Rattle.memory.specs.Layout.{words_at, numbers_at}
+use borrow.Author.Rules.{rules}
+use Rattle.records.proofs.words.load_words.Goals as goal
+
+pub returns : goal.returns
+unfolding words_at numbers_at
+returns c =
+    rw (
+      c.item_from-value.ensures,
+      c.item_from-expected.ensures,
+      c.key_from-key.ensures,
+      c.numbers_fields-numbers.ensures,
+    )

@@ -1,0 +1,12 @@
+-- `numbers::count` meets its contract: the loop has counted the places that it passed.
+use Rattle.std.proofs.Common.{◌≡◌, ◌+◌, ◌-◌, ◌≤◌, min, eqb, length, get_or, take, refl, ap, ◌∙◌, ⊎_elim, arith, rules, eq-eqb, ne_eqb}
+use Rattle.entries.proofs.Lists.{take_min}
+use Rattle.server.specs.Counts.{count_of}
+use Rattle.server.proofs.Counting.{one, count_next}
+use Rattle.server.proofs.numbers.count.Given as goal
+
+abbrev pub invariant-loop-i : goal.invariant-loop-i
+invariant-loop-i l = (l.i ≤ l.top) × ((l.found ≤ l.i) × (l.found ≡ count_of l.word (take l.i l.places)))
+
+abbrev pub decreases-loop-i : goal.decreases-loop-i
+decreases-loop-i l = l.top - l.i

@@ -1,0 +1,8 @@
+-- `votes::ceased` meets its contract: a head has seven votes, and none is left.
+use Rattle.std.proofs.Common.{refl}
+use lib.ListN.{length-map}
+use Rattle.server.proofs.HeadLaws.{ceased_means}
+use Rattle.server.proofs.votes.ceased.Goals as goal
+
+pub returns : goal.returns
+returns c = (refl, λ n x. ceased_means n x c.args.head (simp length-map at c.well-formed.0.1.1.1.1.1.1.1.1.0.1.0.1))
