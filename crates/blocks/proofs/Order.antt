@@ -2,7 +2,7 @@
 -- is named twice then.
 use mathlib.Core.Path.{◌≡◌, refl, sym, ap, subst, ◌∙◌}
 use mathlib.Core.Logic.{◌≢◌}
-use mathlib.Core.List.{List, [], ◌∷◌, ◌++◌, map, map_append, append_assoc, append-nil}
+use mathlib.Core.List.{List, [], ◌∷◌, ◌++◌, map, map-append, append_assoc, append-nil}
 use Prim.Native.Nat.{ℕ, zero, suc, ◌+◌, ◌-◌, ◌≤◌, ◌<◌}
 use native.Mathlib.Nat.{zero-add, suc-add, mod-lt, mod-eq_of_lt}
 use native.Mathlib.Numerals.{add-one}
@@ -42,7 +42,7 @@ module _ {A B : Type 0} (f : A → B) where
 
   map_without : (i : ℕ) (l : List A) → map f (without i l) ≡ without i (map f l)
   unfolding without
-  map_without i l = rw (map_append f (take i l) (drop (i + 1) l), map-take_lem, map-drop_lem)
+  map_without i l = rw (map-append f (take i l) (drop (i + 1) l), map-take_lem, map-drop_lem)
 
 -- ---- one of the list
 
@@ -151,7 +151,7 @@ unfolding listed
 listed_appended at at' n o m room h stored elsewhere =
     let fresh : All (λ q. place q ≢ place (get_or o n 0)) (take n o) =
     ordered_before (take n o) (drop (suc n) o) (get_or o n 0) (subst (λ l. Ordered l) (split_at o n 0 room) h) in
-    rw (add-one n, take-suc o n 0 room, map_append, stored, others at at' (place (get_or o n 0)) elsewhere (take n o) fresh)
+    rw (add-one n, take-suc o n 0 room, map-append, stored, others at at' (place (get_or o n 0)) elsewhere (take n o) fresh)
 
 -- ---- the places in their own order
 

@@ -1,6 +1,6 @@
 -- An element put into an array, or taken out of it, by moving those behind it; and what that is to the part in use.
 use mathlib.Core.Path.{◌≡◌, refl, sym, ap, ◌∙◌}
-use mathlib.Core.List.{List, [], ◌∷◌, ◌++◌, append-nil, map, map_append}
+use mathlib.Core.List.{List, [], ◌∷◌, ◌++◌, append-nil, map, map-append}
 use Prim.Native.Nat.{ℕ, zero, suc, ◌≤◌, ◌<◌, ◌+◌, ◌-◌}
 use native.Mathlib.Omega.{arith}
 use native.Mathlib.Numerals.{add-one}
@@ -150,7 +150,7 @@ module _ {A B : Type 0} (f : A → B) (top n p : ℕ) (l r : List A) where
       sym (map-take_lem f (n + 1) r)
       ∙ ap (λ x. map f (take (n + 1) x)) q
       ∙ ap (map f) (take-take (n + 1) top (take p l ++ (s ∷ drop p l)) (omega arith) ∙ ap (λ x. take x (take p l ++ (s ∷ drop p l))) more ∙ used_inserted p m l s (omega arith))
-      ∙ map_append f (take p (take (p + m) l)) (s ∷ drop p (take (p + m) l))
+      ∙ map-append f (take p (take (p + m) l)) (s ∷ drop p (take (p + m) l))
       ∙ rw (all, map-take_lem f p (take n l), map-drop_lem f p (take n l), map-take_lem f n l)
 
   pub part_removed : p < n → n ≤ top + 1 → length l ≡ top + 1 → take top r ≡ take p l ++ drop (p + 1) l → take (n - 1) (map f r) ≡ take p (take n (map f l)) ++ drop (p + 1) (take n (map f l))
@@ -161,5 +161,5 @@ module _ {A B : Type 0} (f : A → B) (top n p : ℕ) (l r : List A) where
       sym (map-take_lem f (n - 1) r)
       ∙ ap (map f)
       (sym (take-take (n - 1) top r (omega arith)) ∙ ap (take (n - 1)) q ∙ ap (λ x. take x (take p l ++ drop (p + 1) l)) less ∙ used_removed p m l (omega arith))
-      ∙ map_append f (take p (take (p + 1 + m) l)) (drop (p + 1) (take (p + 1 + m) l))
+      ∙ map-append f (take p (take (p + 1 + m) l)) (drop (p + 1) (take (p + 1 + m) l))
       ∙ rw (all, map-take_lem f p (take n l), map-drop_lem f (p + 1) (take n l), map-take_lem f n l)

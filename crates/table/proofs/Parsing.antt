@@ -1,6 +1,6 @@
 -- Bucket bytes decoded entry by entry.
 use mathlib.Core.Path.{◌≡◌, sym, ap, ◌∙◌}
-use mathlib.Core.List.{List, [], ◌∷◌, ◌++◌, map, map_append, append-nil}
+use mathlib.Core.List.{List, [], ◌∷◌, ◌++◌, map, map-append, append-nil}
 use Prim.Native.Nat.{ℕ, suc, ◌≤◌, ◌<◌, ◌+◌, ◌-◌, ◌*◌, min}
 use native.Mathlib.Omega.{arith}
 use native.Mathlib.Numerals.{add-one}
@@ -66,7 +66,7 @@ module _ {b : List ℕ} {n : ℕ} {l : List Slot} {at i : ℕ} (c : Decoding b n
       more : map entry_in (take i l) ++ entries_of 16 (n - i) (drop (1 + 4 * i) b) (drop at b) ≡ map entry_in (take (i + 1) (set l i s)) ++ entries_of 16 (n - (i + 1)) (drop (1 + 4 * (i + 1)) b) (drop (at + k + v) b)
       more =
           let left : n - i ≡ suc (n - (i + 1)) = omega arith in
-          rw (left, next_of (n - (i + 1)) b i at k v hk hv, ← e.is, add-one i, take-suc-set l i s (omega (arith, c.four, c.low)), map_append entry_in (take i l) (s ∷ []))
+          rw (left, next_of (n - (i + 1)) b i at k v hk hv, ← e.is, add-one i, take-suc-set l i s (omega (arith, c.four, c.low)), map-append entry_in (take i l) (s ∷ []))
           (sym (append_snoc (map entry_in (take i l)) (entry_in s) _))
 
   pub decoding_ends : n ≤ i → Decodes b (record { count = n; slots = l })

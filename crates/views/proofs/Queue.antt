@@ -1,7 +1,7 @@
 -- The messages in flight after one was appended or removed, and one of them; the order of their places.
 use mathlib.Core.Path.{◌≡◌, refl, ap, ◌∙◌}
 use mathlib.Core.Bool.{Bool, true, false}
-use mathlib.Core.List.{List, [], ◌∷◌, ◌++◌, map, map_append}
+use mathlib.Core.List.{List, [], ◌∷◌, ◌++◌, map, map-append}
 use Prim.Native.Nat.{ℕ, zero, suc, ◌+◌, ◌-◌, ◌≤◌, ◌<◌}
 use native.Mathlib.Omega.{arith}
 use lib.Dec.{eqb}
@@ -29,7 +29,7 @@ use Rattle.views.specs.Queue.{Flight, Sound, flight_in, appended, without_messag
 module _ {A B : Type 0} (f : A → B) where
   map_without : (i : ℕ) (a : List A) → map f (without i a) ≡ drop_at i (map f a)
   unfolding without
-  map_without i a = rw (map_append f (take i a) (drop (i + 1) a), map-take_lem, map-drop_lem)
+  map_without i a = rw (map-append f (take i a) (drop (i + 1) a), map-take_lem, map-drop_lem)
 
   get_or_mapped : (a : List A) (i : ℕ) (d : A) (e : B) → i < length a → get_or (map f a) i e ≡ f (get_or a i d)
   get_or_mapped [] i d e h = absurd (omega arith)
@@ -59,7 +59,7 @@ module _ (v : List ℕ) (m : Message) (x : Flight) (sound : Sound x) (room : x.c
   unfolding flight_at appended
   appended_flight =
       ap (map sent_in) (messages_appended x.count x.queue x.payloads m v sound.queue room sound.payloads whole sound.order)
-      ∙ map_append sent_in (messages_at x.count x.queue x.payloads) (record { header = m; content = take 113 v } ∷ [])
+      ∙ map-append sent_in (messages_at x.count x.queue x.payloads) (record { header = m; content = take 113 v } ∷ [])
 
   pub appended_sound : Sound (appended v m x)
   unfolding appended

@@ -1,7 +1,7 @@
 -- The messages in flight after those of a step were appended: a broadcast to all others, or one reply.
 use mathlib.Core.Path.{◌≡◌, refl, sym, ap, ◌∙◌}
 use mathlib.Core.Bool.{Bool, true, false}
-use mathlib.Core.List.{List, [], ◌∷◌, ◌++◌, map, map_append, append-nil, append_assoc}
+use mathlib.Core.List.{List, [], ◌∷◌, ◌++◌, map, map-append, append-nil, append_assoc}
 use Prim.Native.Nat.{ℕ, zero, suc, ◌+◌, ◌-◌, ◌≤◌, ◌<◌}
 use native.Mathlib.Omega.{arith}
 use borrow.Author.Tests.{eqb-true}
@@ -81,7 +81,7 @@ module _ (v : List ℕ) (m : Message) (x : Flight) (sound : Sound x) (whole : le
           let more : length (without p (below (suc n))) ≡ length (without p (below n)) + 1 = rw (without_takes p n e) (length-append (without p (below n)) (n ∷ [])) in
           let a : Added x (spread v m n x) (spread_to m t (without p (below n))) = before (omega arith) in
           let small : (spread v m n x).count < 64 = omega (arith, length-map (without p (below n)) (λ q. message_in (message_to m q) t)) in
-          rw (spread_takes v m n x e, without_takes p n e, map_append (λ q. message_in (message_to m q) t) (without p (below n)) (n ∷ []))
+          rw (spread_takes v m n x e, without_takes p n e, map-append (λ q. message_in (message_to m q) t) (without p (below n)) (n ∷ []))
           (one_added v (message_to m n) x (spread v m n x) (spread_to m t (without p (below n))) a small whole)
 
   pub spread_flight : (n : ℕ) → m.sender < n → x.count + (n - 1) ≤ 64

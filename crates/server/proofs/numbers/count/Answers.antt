@@ -12,7 +12,7 @@ loop-i-init c = (omega arith, (omega arith, refl))
 pub loop-i-preserved : goal.loop-i-preserved
 unfolding one
 loop-i-preserved c =
-    let h : length c.args.t2 ≡ 7 = c.well-formed.1.0.1.0.1 in
+    let h : length c.args.t2 ≡ 7 = c.well_formed.1.0.1.0.1 in
     let e : count_of c.args.word (take (c.loop-i.i + 1) c.args.t2) ≡ count_of c.args.word (take c.loop-i.i c.args.t2) + one (eqb (get_or c.args.t2 c.loop-i.i 0) c.args.word) = count_next c.args.word c.args.t2 c.loop-i.i (omega arith) in
     ⊎_elim
     (λ w. (omega arith, (omega arith, omega (arith, rw (eq-eqb _ _ w.0.taken, one) at e))))

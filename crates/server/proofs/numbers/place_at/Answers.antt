@@ -16,5 +16,5 @@ returns-then-i-ge-SERVERS c =
 pub returns : goal.returns
 returns c =
     let h : c.args.at < c.args.servers = omega arith in
-    let seven : length c.args.t2 ≡ 7 = c.well-formed.1.0.1.0.1 in
+    let seven : length c.args.t2 ≡ 7 = c.well_formed.1.0.1.0.1 in
     sym (get_or-take c.args.servers c.args.t2 c.args.at c.args.past h ∙ get_or_within c.args.t2 c.args.at c.args.past 0 (omega arith))

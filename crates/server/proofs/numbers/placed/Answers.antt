@@ -5,5 +5,5 @@ use Rattle.server.proofs.numbers.placed.Goals as goal
 
 pub returns : goal.returns
 returns c =
-    let seven : length c.args.places ≡ 7 = c.well-formed.0.1.0.1 in
+    let seven : length c.args.places ≡ 7 = c.well_formed.0.1.0.1 in
     sym (set_out c.args.places c.args.at c.args.word (omega arith))
