@@ -7,7 +7,7 @@ use Rattle.bucket_c.proofs.Exporting.{KeysPassing, passing_starts, passing_goes_
 use Rattle.bucket_c.proofs.keys_room.Goals as goal
 
 pub loop-i-init : goal.loop-i-init
-loop-i-init c = passing_starts c.requires (simp length-map at c.well_formed.0.1.1.1.1.0.1.0.1)
+loop-i-init c = passing_starts c.requires c.well_formed.0.1.1.1.1.0.1.0.1
 
 pub loop-i-preserved : goal.loop-i-preserved
 loop-i-preserved c = passing_goes_on c.loop-i.invariant c.loop-i-test.true c.key_length-len.ensures.is c.key_length-len.ensures.low

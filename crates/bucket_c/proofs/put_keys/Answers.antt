@@ -9,7 +9,7 @@ use Rattle.bucket_c.proofs.put_keys.Goals as goal
 
 pub loop-i-init : goal.loop-i-init
 unfolding keys_in
-loop-i-init c = putting_starts c.requires.0 (simp length-map at c.well_formed.1.0.1.1.1.1.0.1.0.1) c.requires.1
+loop-i-init c = putting_starts c.requires.0 c.well_formed.1.0.1.1.1.1.0.1.0.1 c.requires.1
 
 pub bounds-out-at : goal.bounds-out-at
 bounds-out-at c = omega (arith, putting_within c.loop-i.invariant c.loop-i-test.true c.key_length-len.ensures.is)

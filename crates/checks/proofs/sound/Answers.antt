@@ -10,7 +10,7 @@ pub returns-then-count-gt-TABLE_ROOM : goal.returns-then-count-gt-TABLE_ROOM
 returns-then-count-gt-TABLE_ROOM c = sym (sound_count c.args.table c.if-count-gt-TABLE_ROOM.true)
 
 pub loop-i-init : goal.loop-i-init
-loop-i-init c = sounding_starts c.if-count-gt-TABLE_ROOM.false (simp length-map at c.well_formed.0.1.1.1.0.1.0.1)
+loop-i-init c = sounding_starts c.if-count-gt-TABLE_ROOM.false c.well_formed.0.1.1.1.0.1.0.1
 
 pub loop-i-preserved : goal.loop-i-preserved
 loop-i-preserved c = sounding_goes_on c.loop-i.invariant c.loop-i-test.true (sym c.slot_sound.ensures ∙ c.if-slot_sound.true)

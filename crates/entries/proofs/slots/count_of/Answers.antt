@@ -10,6 +10,6 @@ use Rattle.entries.proofs.slots.count_of.Goals as goal
 pub returns : goal.returns
 unfolding table_in
 returns c =
-    let l : length c.args.table.slots ≡ 4 = simp length-map at c.well_formed.0.1.1.1.0.1.0.1 in
+    let l : length c.args.table.slots ≡ 4 = c.well_formed.0.1.1.1.0.1.0.1 in
     let cut = cut_length c.args.table.count 4 (map entry_in c.args.table.slots) (length-map c.args.table.slots entry_in ∙ l) in
     record { is = c.at_most.ensures ∙ cut.is; low = rw c.at_most.ensures cut.low; four = l }
