@@ -323,7 +323,7 @@ def convert(crate, fpath, row, here, said):
             continue
         params = m[1].split()
         body = rest[m.end() :]
-        if body.strip() in TRIVIAL:
+        if body.strip() in TRIVIAL and not unf:
             continue
         if "κs" in params and not re.search(r"(?<![\w])κs(?![\w])", body):
             params = [q for q in params if q != "κs"]

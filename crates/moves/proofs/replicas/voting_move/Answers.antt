@@ -12,7 +12,7 @@ pub returns-then-kind-eq-ACK_VOTE : goal.returns-then-kind-eq-ACK_VOTE
 unfolding voting_move
 returns-then-kind-eq-ACK_VOTE c =
     let k = c in
-    rw (voting_move, ne_eqb _ _ k.before.if1.false, eq-eqb _ _ k.if2.true, c.headed.ensures, c.on_ack_vote-head.ensures.0)
+    rw (voting_move, ne_eqb _ _ k.before.if1.false, eq-eqb _ _ k.if2.true, c.headed.ensures, c.on_ack_vote-head.ensures.is)
 
 pub returns : goal.returns
 unfolding voting_move

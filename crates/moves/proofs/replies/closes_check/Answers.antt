@@ -11,7 +11,7 @@ unfolding reads_by
 returns-then-matches c =
     let k = c in
     let a = k.before.before.before.before.args in
-    rw (reads_by, eq-eqb _ _ k.before.if1.true, sym (k.matches.ensures a.servers []) ∙ c.if-matches.true, c.closes.ensures, c.counted-after.ensures.0, c.pick_version-report.ensures, c.no_version.ensures)
+    rw (reads_by, eq-eqb _ _ k.before.if1.true, sym (k.matches.ensures a.servers []) ∙ c.if-matches.true, c.closes.ensures, c.counted-after.ensures.is, c.pick_version-report.ensures, c.no_version.ensures)
 
 pub returns-else-matches : goal.returns-else-matches
 unfolding reads_by

@@ -10,7 +10,7 @@ unfolding reply_move
 returns-then-matches c =
     let k = c in
     let a = k.before.args in
-    rw (reply_move, sym (k.matches.ensures a.servers []) ∙ c.if-matches.true, c.counted_move.ensures, c.counted-after.ensures.0)
+    rw (reply_move, sym (k.matches.ensures a.servers []) ∙ c.if-matches.true, c.counted_move.ensures, c.counted-after.ensures.is)
 
 pub returns : goal.returns
 unfolding reply_move
