@@ -23,13 +23,13 @@ rest (y ∷ l) (Memᴰ.head e) = l
 rest (y ∷ l) (Memᴰ.tail m) = y ∷ rest l m
 
 rest_length : {x : ℕ} (l : List ℕ) (m : x ∈ l) → suc (length (rest l m)) ≡ length l
-rest_length (y ∷ l) (Memᴰ.head e) = refl
 rest_length [] m = elim m [ ]
+rest_length (y ∷ l) (Memᴰ.head e) = refl
 rest_length (y ∷ l) (Memᴰ.tail m) = ap suc (rest_length l m)
 
 rest_keeps : {x q : ℕ} (l : List ℕ) (m : x ∈ l) → q ∈ l → q ≢ x → q ∈ rest l m
+rest_keeps [] m _ d = elim m [ ]
 rest_keeps (y ∷ l) (Memᴰ.head e) (Memᴰ.head f) d = absurd (d (f ∙ sym e))
-rest_keeps {q = q} [] m _ d = elim m [ ]
 rest_keeps (y ∷ l) (Memᴰ.head e) (Memᴰ.tail k) d = k
 rest_keeps (y ∷ l) (Memᴰ.tail m) (Memᴰ.head f) d = Memᴰ.head f
 rest_keeps (y ∷ l) (Memᴰ.tail m) (Memᴰ.tail k) d = Memᴰ.tail (rest_keeps l m k d)
