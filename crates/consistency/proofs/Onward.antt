@@ -5,22 +5,20 @@ use mathlib.Core.Path.{◌≡◌, refl}
 use mathlib.Core.Logic.{◌⊎◌, inl, inr}
 use mathlib.Core.List.{List, [], ◌∷◌}
 use mathlib.Core.Bool.{Bool, true, false}
-use mathlib.Core.Option.{Option, none, some}
+use mathlib.Core.Option.{none, some}
 use Prim.Native.Nat.{ℕ, zero, suc, ◌≤◌}
 use native.Mathlib.Omega.{arith}
-use lib.Dec.{ltb, eqb}
+use lib.Dec.{ltb}
 use lib.ListN.{length, get_or, set, take}
 use Rattle.entries.specs.Entries.{Entry}
 use Rattle.model.specs.Calls.{Words, Result, done, Effect, answers, writes, effect}
-use Rattle.model.specs.Cluster.{version, Copy, fresh_copy, Stored, copy_at, Role, follower, candidate, leading, Purpose, recovery_read, recovery_write, check, own_write, Mark, acknowledged, refused, Round, Volatile, round_at, call_at, Server, Body, please_vote, ack_vote, nack_vote, replica_write, ack_write, nack_write, replica_read, ack_read, nack_read, Message}
+use Rattle.model.specs.Cluster.{Copy, fresh_copy, Stored, copy_at, Role, follower, candidate, leading, Purpose, recovery_read, recovery_write, check, own_write, Round, Volatile, call_at, Server, Message}
 use Rattle.model.specs.Lines.{cut_server, restarted}
 use Rattle.model.specs.Stores.{copy_store, put_store, put_stores, stores_of}
-use Rattle.model.specs.Replica.{voting, after_vote, Request, reading, writing, may_accept, storing, accepting, acknowledging, refusing}
+use Rattle.model.specs.Replica.{voting, after_vote, Request, reading, writing, storing, accepting}
 use Rattle.model.specs.Leader.{Reaction, reaction, no_reaction, after, with_stored, with_round, endings, cease, step_down, standing, elect, on_ack_vote, closes, fails, new_round, opening, open_round, answer_of, finish, applying, after_read, checking, recovering, recovered, start_read, start_call, begin_call, closed, counted, counting, on_reply, on_please_vote, on_request, handle}
 use Rattle.model.specs.Leader
-use Rattle.model.proofs.Elections.{above_the_number, always_stands}
 use Rattle.model.proofs.FirstRound.{first_round}
-use Rattle.model.proofs.Replicas.{step_down_cases}
 use Rattle.model.proofs.Stores.{cut_cases}
 use Rattle.history.specs.Version.{◌≼◌, ◌≺◌}
 use Rattle.history.proofs.VersionLaws.{le_refl, le_trans, le_of_lt}

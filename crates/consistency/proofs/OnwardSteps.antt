@@ -1,28 +1,20 @@
 -- Each step of a server goes onward (Onward.antt).
 use mathlib.Core.Path.{◌≡◌, refl}
-use mathlib.Core.Logic.{◌⊎◌, inl, inr}
+use mathlib.Core.Logic.{inl, inr}
 use mathlib.Core.List.{List, [], ◌∷◌}
 use mathlib.Core.Bool.{Bool, true, false}
 use mathlib.Core.Option.{Option, none, some}
-use Prim.Native.Nat.{ℕ, zero, suc, ◌≤◌}
+use Prim.Native.Nat.{ℕ}
 use native.Mathlib.Omega.{arith}
-use lib.Dec.{ltb, eqb}
-use lib.ListN.{length, get_or, set, take}
-use Rattle.entries.specs.Entries.{Entry}
-use Rattle.model.specs.Calls.{Words, Result, done, Effect, answers, writes, effect}
-use Rattle.model.specs.Cluster.{version, Copy, fresh_copy, Stored, copy_at, Role, follower, candidate, leading, Purpose, recovery_read, recovery_write, check, own_write, Mark, acknowledged, refused, Round, Volatile, round_at, call_at, Server, Body, please_vote, ack_vote, nack_vote, replica_write, ack_write, nack_write, replica_read, ack_read, nack_read, Message}
-use Rattle.model.specs.Lines.{cut_server, restarted}
-use Rattle.model.specs.Stores.{copy_store, put_store, put_stores, stores_of}
-use Rattle.model.specs.Replica.{voting, after_vote, Request, reading, writing, may_accept, storing, accepting, acknowledging, refusing}
+use lib.Dec.{eqb}
+use lib.ListN.{set}
+use Rattle.model.specs.Cluster.{Copy, fresh_copy, Stored, Role, follower, candidate, leading, Mark, acknowledged, refused, Round, round_at, Server, Body, please_vote, ack_vote, nack_vote, replica_write, ack_write, nack_write, replica_read, ack_read, nack_read, Message}
+use Rattle.model.specs.Replica.{Request, reading, writing, may_accept, acknowledging, refusing}
 use Rattle.model.specs.Leader.{Reaction, reaction, no_reaction, after, with_stored, with_round, endings, cease, step_down, standing, elect, on_ack_vote, closes, fails, new_round, opening, open_round, answer_of, finish, applying, after_read, checking, recovering, recovered, start_read, start_call, begin_call, closed, counted, counting, on_reply, on_please_vote, on_request, handle}
 use Rattle.model.specs.Leader
 use Rattle.model.proofs.Elections.{above_the_number, always_stands}
-use Rattle.model.proofs.FirstRound.{first_round}
 use Rattle.model.proofs.Replicas.{step_down_cases}
-use Rattle.model.proofs.Stores.{cut_cases}
-use Rattle.history.specs.Version.{◌≼◌, ◌≺◌}
-use Rattle.history.proofs.VersionLaws.{le_refl, le_trans, le_of_lt}
-use Rattle.consistency.proofs.Above.{above_lt}
+use Rattle.history.proofs.VersionLaws.{le_refl}
 use Rattle.consistency.proofs.Onward.{Onward, onward_trans, Renewed, accepting_renews, vote_renews, renewed, still, closed_moves, Goes, going, cease_goes}
 
 -- what is stored is renewed, then the server may cease
