@@ -8,6 +8,6 @@ use Rattle.decoding.proofs.slot_at.Goals as goal
 
 pub returns : goal.returns
 returns c =
-    let k : c.args.at + c.args.key-len - c.args.at ≡ c.args.key-len = omega arith in
-    let v : c.args.at + c.args.key-len + c.args.value_len - (c.args.at + c.args.key-len) ≡ c.args.value_len = omega arith in
-    slot_cut c.args.bucket.now c.args.at c.args.key-len c.args.value_len c.key_of-key_read.result c.value_of-value_read.result (search rules) (search rules) (search rules) (rw k at c.key_of-key_read.ensures) (rw v at c.value_of-value_read.ensures)
+    let k : c.args.at + c.args.key_len - c.args.at ≡ c.args.key_len = omega arith in
+    let v : c.args.at + c.args.key_len + c.args.value_len - (c.args.at + c.args.key_len) ≡ c.args.value_len = omega arith in
+    slot_cut c.args.bucket.now c.args.at c.args.key_len c.args.value_len c.key_of-key_read.result c.value_of-value_read.result (search rules) (search rules) (search rules) (rw k at c.key_of-key_read.ensures) (rw v at c.value_of-value_read.ensures)
