@@ -163,6 +163,8 @@ def path_turner(fields, arms, said, callees={}, params={}):
                 return arms[key].split(".") + steps[n + 1 :]
         if first in fields:
             return [fields[first]] + steps[1:]
+        if first == "well_formed":
+            return ["well_formed"] + steps[1:]
         if first in ("args", "requires", "ranges", "lifetimes", "type_inv", "auto", "well_formed"):
             return steps
         if steps[0] == "pre":
@@ -187,8 +189,8 @@ def turn_body(text, root, turn_path):
         if path[0] == root:
             base = [p for p in path[1:] if p != "before"]
         elif path[0] in alias:
-            base = alias[path[0]] + path[1:]
-        if base is None or not base:
+            base = [p for p in alias[path[0]] + path[1:] if p != "before"]
+        if base is None:
             pos = m.end()
             continue
         name = m[1]
@@ -202,7 +204,7 @@ def turn_body(text, root, turn_path):
         if path[0] == root and len(path) > 1:
             steps = [p for p in path[1:] if p != "before"]
         elif path[0] in alias:
-            steps = alias[path[0]] + path[1:]
+            steps = [p for p in alias[path[0]] + path[1:] if p != "before"]
         else:
             return m[0]
         if not steps:
@@ -323,7 +325,7 @@ def convert(crate, fpath, row, here, said):
             continue
         params = m[1].split()
         body = rest[m.end() :]
-        if body.strip() in TRIVIAL:
+        if body.strip() in TRIVIAL and not unf:
             continue
         if "κs" in params and not re.search(r"(?<![\w])κs(?![\w])", body):
             params = [q for q in params if q != "κs"]

@@ -31,7 +31,7 @@ fn put_answer(answers: &mut AnswerWords, place: usize, answer: Answer)
 // The call of this slot ends, where one is open; `count` answers were written before.
 fn end_call(answers: &mut AnswerWords, slots: &SlotWords, slot: usize, count: usize) -> usize
     requires { (slot < slot_room) × (count < most_answers) }
-    ensures { EndedCall (was slots) slot (was answers) count (is answers) result }
+    ensures { EndedCall slots.now slot (was answers) count (is answers) result }
 {
     let call = load_call(slots, slot);
     if is_open_call(call.kind) {
@@ -44,7 +44,7 @@ fn end_call(answers: &mut AnswerWords, slots: &SlotWords, slot: usize, count: us
 // The open calls of this server end, in bucket order.
 fn end_calls(answers: &mut AnswerWords, slots: &SlotWords, server: usize, buckets: usize) -> u32
     requires { (server < server_room) × (buckets ≤ max_buckets) }
-    ensures { Listed (ended_calls (was slots) server buckets (was answers)) (is answers) result }
+    ensures { Listed (ended_calls slots.now server buckets (was answers)) (is answers) result }
 {
     let mut count = 0;
     let mut bucket = 0;
@@ -65,7 +65,7 @@ pub fn answer(
     next: Move,
 ) -> u32
     requires { (server < server_room) × (buckets ≤ max_buckets) }
-    ensures { Listed (answered (was slots) buckets server next (was answers)) (is answers) result }
+    ensures { Listed (answered slots.now buckets server next (was answers)) (is answers) result }
 {
     let own = next.answer;
     if next.ceases {

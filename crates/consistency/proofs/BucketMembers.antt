@@ -30,6 +30,7 @@ map_each of l P f x m = let (a, i, e) = Memᴰ.of_map of l m in subst P e (f a i
 module _ {A : Type 0} (bucket : A → ℕ) (b : ℕ) where
   in_bucket_lem : {a : A} (l : List A) → a ∈ l → bucket a ≡ b → a ∈ in_bucket bucket b l
   unfolding in_bucket
+  in_bucket_lem [] m e = elim m [ ]
   in_bucket_lem (x ∷ l) m e = in_put (ℕ_discrete (bucket x) b) (λ i. ap bucket i ∙ e) m (λ k. in_bucket_lem l k e)
 
   of_bucket : (l : List A) (a : A) → a ∈ in_bucket bucket b l → (a ∈ l) × (bucket a ≡ b)
@@ -93,6 +94,7 @@ entry_of (x ∷ l) i {e} h ended = go (λ k. entry_of l i k ended) (ℕ_discrete
 pub entry_found : (l : List Ended) → ((x y : Ended) → x ∈ l → y ∈ l → x.number ≡ y.number → x ≡ y) → (x : Ended) → x ∈ l
     → end_of l x.number ≡ end_by x.line x.result
 unfolding end_of
+entry_found [] once x m = elim m [ ]
 entry_found (y ∷ l) once x m =
     go (entry_found l (λ a b i j. once a b (Memᴰ.tail i) (Memᴰ.tail j)) x)
     (ℕ_discrete y.number x.number) m

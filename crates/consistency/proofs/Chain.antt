@@ -12,7 +12,7 @@ use native.Mathlib.Decide.{ℕ_discrete}
 use borrow.Author.Tests.{eqb-true, eqb-false}
 use Rattle.entries.specs.Entries.{Entry}
 use Rattle.model.specs.Calls.{Result, done, Effect, answers, writes, effect}
-use Rattle.model.specs.Cluster.{Version, version, above, Copy, copy_of, copy_at, Purpose, recovery_read, recovery_write, check, own_write, Round, Call, round_at, call_at, Server}
+use Rattle.model.specs.Cluster.{Version, version, Copy, copy_of, copy_at, Purpose, recovery_read, recovery_write, check, own_write, Round, Call, round_at, call_at, Server}
 use Rattle.model.specs.Replica.{reading, writing, request_body, accepting}
 use Rattle.model.specs.Leader.{Reaction, is_own, report_to, new_round, closes, opening, open_round, broadcast, finish, next_version, applying, after_read, checking, recovering, recovered, start_read, start_call, closed}
 use Rattle.model.proofs.FirstRound.{first_round}

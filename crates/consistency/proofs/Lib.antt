@@ -20,6 +20,7 @@ pub mod Replying
 pub mod Voting
 pub mod Storing
 pub mod Onward
+pub mod OnwardSteps
 pub mod Reached
 pub mod Once
 pub mod Requests

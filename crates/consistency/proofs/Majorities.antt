@@ -10,7 +10,8 @@ use Rattle.model.specs.Measures.{majority}
 use Rattle.model.proofs.Majorities.{majority_half}
 use Rattle.history.specs.Members.{◌∈◌}
 use Rattle.history.specs.History.{Quorums}
-use Rattle.history.proofs.Quorum.{Majority, majority_quorums, count, marked, marked_passes, quorum_of}
+use Rattle.history.proofs.Quorum.{Majority, count, marked, marked_passes}
+use Rattle.history.proofs.MajorityQuorums.{majority_quorums, quorum_of}
 
 -- a majority of n servers
 abbrev pub MajorityOf : ℕ → List ℕ → Type 0

@@ -16,7 +16,8 @@ use Rattle.model.specs.Run.{step, state_after, state_after_up_to}
 use Rattle.history.specs.Version.{◌≼◌}
 use Rattle.history.proofs.VersionLaws.{le_refl}
 use Rattle.limits.proofs.Refusals.{ComesOut, refused_by_lem, founded, took, comes_out}
-use Rattle.consistency.proofs.Onward.{Onward, onward_refl, onward_trans, set_either, cut_onward, start_onward, begin_call_moves, cease_goes, elect_goes, handle_goes}
+use Rattle.consistency.proofs.Onward.{Onward, onward_refl, onward_trans, set_either, cut_onward, start_onward, begin_call_moves, cease_goes}
+use Rattle.consistency.proofs.OnwardSteps.{elect_goes, handle_goes}
 
 -- server p of the cluster that stands; where there is none a server that has done nothing
 abbrev pub server_of : Option Cluster → ℕ → Server

@@ -11,7 +11,7 @@ use lib.Dec.{eqb}
 use lib.ListN.{length, get_or, set, length-set, get_or-eq_default}
 use lib.Seq.{get_or-set_same, get_or-set_other}
 use borrow.Author.Tests.{eqb-true}
-use Rattle.model.specs.Cluster.{Version, version, above, Copy, fresh_copy, copy_at, Role, follower, candidate, leading, Purpose, recovery_read, recovery_write, check, own_write, Mark, silent, acknowledged, refused, Round, Call, round_at, call_at, Server, Message, ack_write, ack_read}
+use Rattle.model.specs.Cluster.{Version, above, Copy, fresh_copy, copy_at, Role, follower, candidate, leading, Purpose, recovery_read, recovery_write, check, own_write, Mark, silent, acknowledged, refused, Round, Call, round_at, call_at, Server, Message, ack_write, ack_read}
 use Rattle.model.specs.Leader.{Reaction, no_reaction, closes, fails, cease, closed, better, marked_by, report_to, counted, with_round, counting, on_reply}
 use Rattle.history.specs.Members.{◌∈◌}
 use Rattle.history.specs.Version.{◌≼◌}

@@ -21,7 +21,7 @@ use Rattle.limits.proofs.Counting.{none_applies}
 use Rattle.limits.proofs.Refusals.{ComesOut, refused_by_lem, founded, took, comes_out}
 use Rattle.limits.specs.Stands.{Measured}
 use Rattle.limits.proofs.Always.{line_keeps_measures}
-use Rattle.consistency.specs.Statement.{Begin, End, buckets, meaning, begins_from, ends_from, begins, ends, Distinct}
+use Rattle.consistency.specs.Statement.{Begin, End, meaning, begins_from, ends_from, begins, ends, Distinct}
 use Rattle.consistency.proofs.Log.{Begun, Ended, Log, empty_log, Grows, ◌⊆◌}
 use Rattle.consistency.proofs.Claims.{Holds}
 use Rattle.consistency.proofs.Claims

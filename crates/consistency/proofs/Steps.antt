@@ -31,7 +31,8 @@ use Rattle.consistency.proofs.Electing.{elect_kept}
 use Rattle.consistency.proofs.Beginning.{begin_kept}
 use Rattle.consistency.proofs.Handling.{handle_kept}
 use Rattle.consistency.proofs.Good.{Good, stepped_good}
-use Rattle.consistency.proofs.Onward.{going, cease_goes, elect_goes, begin_call_moves, handle_goes}
+use Rattle.consistency.proofs.Onward.{going, cease_goes, begin_call_moves}
+use Rattle.consistency.proofs.OnwardSteps.{elect_goes, handle_goes}
 use Rattle.consistency.proofs.Once.{numbers_of, answers_once}
 
 -- the call that a line begins

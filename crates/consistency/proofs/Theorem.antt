@@ -80,13 +80,13 @@ module _ {cluster : Option Cluster} {log : Log} {bs : List Begin} {es : List End
       ap (λ x. x.end) g ∙ ap (OneBucket.end_of log.ends) (sym (e ∙ ap (λ x. x.number) g)) ∙ printed_end y k
 
   -- what stands in the order is a call
-  fed_call : (t : List Entry) (l : List ℕ) → O.Fed OneBucket.plain calls t l → (i : ℕ) → i ∈ l → (c : Call OneBucket.plain) × (c ∈ calls) × (c.number ≡ i)
-  fed_call t [] h i m = none_in m
-  fed_call t (j ∷ l) h i (Memᴰ.head e) = (h.0, h.1, h.2 ∙ sym e)
-  fed_call t (j ∷ l) h i (Memᴰ.tail m) = fed_call _ l h.4 i m
+  fed_call : (l : List ℕ) (t : List Entry) → O.Fed OneBucket.plain calls t l → (i : ℕ) → i ∈ l → (c : Call OneBucket.plain) × (c ∈ calls) × (c.number ≡ i)
+  fed_call [] t h i m = none_in m
+  fed_call (j ∷ l) t h i (Memᴰ.head e) = (h.0, h.1, h.2 ∙ sym e)
+  fed_call (j ∷ l) t h i (Memᴰ.tail m) = fed_call l _ h.4 i m
 
   in_order : (i : ℕ) → i ∈ order.order → (c : Call OneBucket.plain) × (c ∈ calls) × (c.number ≡ i)
-  in_order i m = fed_call [] order.order order.fed i m
+  in_order i m = fed_call order.order [] order.fed i m
 
   begin_of_lem : (c : Call OneBucket.plain) → c ∈ calls → (x : Begin) × (x ∈ bs) × (x.number ≡ c.number) × (x.bucket ≡ b) × (x.words ≡ c.words)
   begin_of_lem c m =
@@ -112,13 +112,13 @@ module _ {cluster : Option Cluster} {log : Log} {bs : List Begin} {es : List End
   not_undone c m in-it y k e r = order.none_undone c m in-it y.line (call_end c m y k e ∙ ap (end_by y.line) r ∙ undone_by y.line)
 
   -- the plain table and the machine's go alike through the calls
-  fed_too : (p t : List Entry) (l : List ℕ) → Alike p t → ((i : ℕ) → i ∈ l → i ∈ order.order) → O.Fed OneBucket.plain calls t l → Fed bs es p l
-  fed_too p t [] alike sub h = tt
-  fed_too p t (i ∷ l) alike sub h =
+  fed_too : (l : List ℕ) (p t : List Entry) → Alike p t → ((i : ℕ) → i ∈ l → i ∈ order.order) → O.Fed OneBucket.plain calls t l → Fed bs es p l
+  fed_too [] p t alike sub h = tt
+  fed_too (i ∷ l) p t alike sub h =
       let c = h.0 in
       let (x, m, e, f, g) = begin_of_lem c h.1 in
       let (agrees, next) = plain_agrees c.words p t alike in
-      let rest = fed_too _ _ l next (λ j k. sub j (Memᴰ.tail k)) h.4 in (
+      let rest = fed_too l _ _ next (λ j k. sub j (Memᴰ.tail k)) h.4 in (
         x,
         m,
         e ∙ h.2,
@@ -151,7 +151,7 @@ module _ {cluster : Option Cluster} {log : Log} {bs : List Begin} {es : List End
             let ended : EndedIn c.end y.line = rw (call_end c p y k (e ∙ sym g)) (ended_in y.line y.result) in
             let first = order.in_real_time c d p q (rw g m) (rw (r, f) n) y.line ended (rw t before) in
             rw (← g, ← f, ← r) first;
-        answered = fed_too [] [] order.order nothing_alike (λ i m. m) order.fed;
+        answered = fed_too order.order [] [] nothing_alike (λ i m. m) order.fed;
       }
 
 -- ---- the theorem

@@ -10,7 +10,7 @@ use native.Mathlib.Omega.{arith}
 use lib.ListN.{set, length-set, length-replicate}
 use lib.Seq.{get_or-set_same, get_or-set_other}
 use Rattle.entries.specs.Entries.{Entry}
-use Rattle.model.specs.Cluster.{Version, version, above, Copy, copy_of, Stored, fresh_copy, copy_at, Purpose, check, Call, round_at, call_at, Server}
+use Rattle.model.specs.Cluster.{Version, above, Copy, copy_of, Stored, fresh_copy, copy_at, Purpose, check, Call, round_at, call_at, Server}
 use Rattle.model.specs.Replica.{writing, accepting, storing, voting}
 use Rattle.model.specs.Leader.{is_own, one_more, new_round, opening}
 use Rattle.history.specs.Members.{◌∈◌}

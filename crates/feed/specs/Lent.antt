@@ -1,6 +1,6 @@
 -- The contracts of the public calls over what is lent to them. The definitions are those of Entry.antt.
 use Rattle.std.specs.Prelude.{ℕ, get_or}
-use Rattle.std.specs.Borrow.{Bor}
+use Rattle.std.specs.Borrow.{MutBor}
 use denote.Triple.Both.{Both}
 use Rattle.memory.specs.Lent.{Lent, was, is}
 use Rattle.views.specs.Lent.{Lents, old, new, old_answers, new_answers}
@@ -63,7 +63,7 @@ FinishesValue a reader line t out r = FinishesFrom a reader line t out (tally_su
 
 -- with the tally lent
 abbrev pub LentTally : Type 0
-LentTally = Both (Bor Tally) (Bor Tally)
+LentTally = Both (MutBor Tally) (MutBor Tally)
 
 abbrev pub FeedsScript : Lents → (reader line : Lent) → LentTally → (input out : Lent) → ℕ → Type 0
 FeedsScript a reader line t input out taken = FeedsFrom a reader line t.entry.now input out t.exit.now taken

@@ -1,7 +1,7 @@
 // The public calls: a part of the input, and its end, on lent arrays. They are given the tally by value, and answer what is to be added
 // to it.
 ghost use Rattle.std.specs.Prelude.{◌≡◌, length};
-ghost use Rattle.memory.specs.Lent.{was};
+ghost use Rattle.memory.specs.Lent.{was, read_only};
 ghost use Rattle.views.specs.Lent.{lent};
 ghost use Rattle.feed.specs.Lent.{FeedsValue, FinishesValue};
 
@@ -23,7 +23,7 @@ const FINISH_ROOM: usize = LINE_ROOM + TALLY_ROOM;
 // The sizes of two arrays, for the caller's proof: it does nothing.
 fn sizes(reader: &[usize], line: &[u8])
     requires { (length reader.now ≡ 3) × (length line.now ≡ 121) }
-    ensures { (length (was reader) ≡ 3) × (length (was line) ≡ 121) }
+    ensures { (length reader.now ≡ 3) × (length line.now ≡ 121) }
 {}
 
 // A part of the input.
@@ -43,7 +43,7 @@ pub fn feed_value(
     input: &[u8],
     out: &mut [u8],
 ) -> FedPart
-    ensures { FeedsValue (lent counts heads slots copies working texts queue payloads answers) reader line tally input out result }
+    ensures { FeedsValue (lent counts heads slots copies working texts queue payloads answers) reader line tally (read_only input) out result }
 {
     sizes(reader, line);
     let lines = reader[LINES_READ];

@@ -5,7 +5,7 @@ ghost use Rattle.std.specs.Prelude.{◌≡◌, true, ◌≢◌, ◌<◌, ◌≤�
 ghost use Rattle.server.specs.Views.{chosen};
 ghost use Rattle.blocks.specs.Blocks.{block};
 ghost use Rattle.memory.specs.Layout.{slot_room, message_room, content_size};
-ghost use Rattle.memory.specs.Lent.{was, is};
+ghost use Rattle.memory.specs.Lent.{was, is, read_only};
 ghost use Rattle.refusals.specs.Refusals.{send_count};
 ghost use Rattle.views.specs.Queue.{without_message, message_to, sent_to, spread, broadcast_of, reply_of, sent};
 ghost use Rattle.flight.specs.Flown.{Flown, old_flight};
@@ -20,7 +20,7 @@ use server::kinds::is_broadcast;
 // The message with this index is removed.
 pub fn remove(queue: &mut QueueWords, payloads: &PayloadBytes, count: usize, index: usize) -> usize
     requires { (index < count) × (count ≤ message_room) }
-    ensures { Flown (without_message true index (old_flight queue payloads count)) (is queue) (is payloads) result }
+    ensures { Flown (without_message true index (old_flight queue (read_only payloads) count)) (is queue) payloads.now result }
 {
     remove_message(queue, count, index);
     count - 1
@@ -89,7 +89,7 @@ fn send_to(
     slot: usize,
 ) -> usize
     requires { (slot < slot_room) × ((count ≤ message_room) × (receiver ≢ message.sender → count < message_room)) }
-    ensures { Flown (sent_to (block content_size slot (was working)) message receiver (old_flight queue payloads count)) (is queue) (is payloads) result }
+    ensures { Flown (sent_to (block content_size slot working.now) message receiver (old_flight queue payloads count)) (is queue) (is payloads) result }
 {
     if receiver == message.sender {
         return count;
@@ -116,7 +116,7 @@ fn send_all(
     slot: usize,
 ) -> usize
     requires { (slot < slot_room) × ((message.sender < servers) × (count + (servers - 1) ≤ message_room)) }
-    ensures { Flown (spread (block content_size slot (was working)) message servers (old_flight queue payloads count)) (is queue) (is payloads) result }
+    ensures { Flown (spread (block content_size slot working.now) message servers (old_flight queue payloads count)) (is queue) (is payloads) result }
 {
     let mut sent = count;
     let mut receiver = 0;
@@ -142,7 +142,7 @@ pub fn send(
     next: Move,
 ) -> usize
     requires { (slot < slot_room) × ((me < servers) × (count + send_count servers next.sends ≤ message_room)) }
-    ensures { Flown (sent servers me bucket slot asked next (was working) (was copies) (old_flight queue payloads count)) (is queue) (is payloads) result }
+    ensures { Flown (sent servers me bucket slot asked next working.now copies.now (old_flight queue payloads count)) (is queue) (is payloads) result }
 {
     if next.sends == NO_MESSAGE {
         return count;

@@ -14,7 +14,8 @@ use Rattle.history.specs.Version.{Version, version, ◌≼◌}
 use Rattle.history.specs.History.{Contents, Quorums, Write, Accept, Report, Win, Check, unknown, notdone, answered, Call, History, Holds, first, later, quorum, kept, changed, Origin, Succeeds, recovers, follows, ByWrite, ByCheck, Facts}
 use Rattle.history.specs.Ordering.{Distinct, Fed}
 use Rattle.history.proofs.MemberLaws.{first_in, none_in, each_cons, clash}
-use Rattle.history.proofs.Quorum.{Majority, majority_quorums}
+use Rattle.history.proofs.Quorum.{Majority}
+use Rattle.history.proofs.MajorityQuorums.{majority_quorums}
 use Rattle.history.proofs.Theorem.{one_order}
 
 -- a number; a call writes one or reads

@@ -2,6 +2,7 @@
 pub mod MemberLaws
 pub mod VersionLaws
 pub mod Quorum
+pub mod MajorityQuorums
 pub mod Descent
 pub mod Freshness
 pub mod Sequence

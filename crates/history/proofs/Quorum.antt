@@ -10,7 +10,6 @@ use native.Mathlib.Omega.{arith}
 use native.Mathlib.Decide.{ℕ_discrete}
 use lib.ListN.{length, length-append, get_or}
 use Rattle.history.specs.Members.{◌∈◌}
-use Rattle.history.specs.History.{Quorums}
 use Rattle.history.specs.Ordering.{Distinct}
 use Rattle.history.proofs.MemberLaws.{first_in, none_in, each_cons, each_append}
 
@@ -18,14 +17,17 @@ use Rattle.history.proofs.MemberLaws.{first_in, none_in, each_cons, each_append}
 
 -- l without one of its members
 abbrev rest : {x : ℕ} (l : List ℕ) → x ∈ l → List ℕ
+rest [] m = elim m [ ]
 rest (y ∷ l) (Memᴰ.head e) = l
 rest (y ∷ l) (Memᴰ.tail m) = y ∷ rest l m
 
 rest_length : {x : ℕ} (l : List ℕ) (m : x ∈ l) → suc (length (rest l m)) ≡ length l
+rest_length [] m = elim m [ ]
 rest_length (y ∷ l) (Memᴰ.head e) = refl
 rest_length (y ∷ l) (Memᴰ.tail m) = ap suc (rest_length l m)
 
 rest_keeps : {x q : ℕ} (l : List ℕ) (m : x ∈ l) → q ∈ l → q ≢ x → q ∈ rest l m
+rest_keeps [] m _ d = elim m [ ]
 rest_keeps (y ∷ l) (Memᴰ.head e) (Memᴰ.head f) d = absurd (d (f ∙ sym e))
 rest_keeps (y ∷ l) (Memᴰ.head e) (Memᴰ.tail k) d = k
 rest_keeps (y ∷ l) (Memᴰ.tail m) (Memᴰ.head f) d = Memᴰ.head f
@@ -97,12 +99,9 @@ majorities_meet first n m h k l a b =
           absurd (omega (arith, most, group_length first n, length-append k l, a.enough, b.enough))
     ]
 
-abbrev pub majority_quorums : (first n m : ℕ) → n < 2 * m → Quorums
-majority_quorums first n m h = record { Quorum = Majority first n m; meet = majorities_meet first n m h }
-
 -- ---- a majority from marks: a list with an entry for each server of the group, and a count of the entries that pass a test
 
-abbrev one_if : Bool → ℕ
+abbrev pub one_if : Bool → ℕ
 one_if true = 1
 one_if false = 0
 
@@ -111,12 +110,12 @@ unfoldable pub count : {A : Type 0} → (A → Bool) → List A → ℕ
 count f [] = 0
 count f (a ∷ l) = one_if (f a) + count f l
 
-abbrev put_if : Bool → ℕ → List ℕ → List ℕ
+abbrev pub put_if : Bool → ℕ → List ℕ → List ℕ
 put_if true i l = i ∷ l
 put_if false i l = l
 
 -- the servers of a group whose marks pass the test: the mark at place i of l is that of server first + i
-pub marked : {A : Type 0} → (A → Bool) → ℕ → List A → List ℕ
+unfoldable pub marked : {A : Type 0} → (A → Bool) → ℕ → List A → List ℕ
 marked f first [] = []
 marked f first (a ∷ l) = put_if (f a) first (marked f (suc first) l)
 
@@ -137,28 +136,3 @@ module _ {A : Type 0} (f : A → Bool) where
       go : ((p : ℕ) → p ∈ marked f (suc first) l → Passes (suc first) l p) → (t : Bool) → f a ≡ t → q ∈ put_if t first (marked f (suc first) l) → Passes first (a ∷ l) q
       go ih true e k = each_cons {P = Passes first (a ∷ l)} (0, omega arith, omega arith, λ d. e) (λ p n. passes_later first a l p (ih p n)) q k
       go ih false e k = passes_later first a l q (ih q k)
-
-  marked_distinct : (first : ℕ) (l : List A) → Distinct (marked f first l)
-  unfolding marked
-  marked_distinct first [] = tt
-  marked_distinct first (a ∷ l) =
-      let ih = marked_distinct (suc first) l in
-      elim (f a) as (λ t. Distinct (put_if t first (marked f (suc first) l))) [
-        | true ↦ (λ m. omega (arith, (marked_passes (suc first) l first m).1), ih)
-        | false ↦ ih
-      ]
-
-  marked_length : (first : ℕ) (l : List A) → length (marked f first l) ≡ count f l
-  unfolding marked count
-  marked_length first [] = refl
-  marked_length first (a ∷ l) =
-      let ih = marked_length (suc first) l in
-      elim (f a) as (λ t. length (put_if t first (marked f (suc first) l)) ≡ one_if t + count f l) [ true ↦ omega arith | false ↦ omega arith ]
-
-  -- those of enough marks are a majority
-  pub quorum_of : (first n m : ℕ) (l : List A) → length l ≤ n → m ≤ count f l → Majority first n m (marked f first l)
-  quorum_of first n m l h k = record {
-    distinct = marked_distinct first l;
-    servers = λ q i. let (j, e, b, t) = marked_passes first l q i in (omega arith, omega arith);
-    enough = omega (arith, marked_length first l);
-  }

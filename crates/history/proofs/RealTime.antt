@@ -6,7 +6,7 @@ use Prim.Native.Nat.{ℕ, ◌≤◌, ◌<◌}
 use native.Mathlib.Omega.{arith}
 use Rattle.history.specs.Members.{◌∈◌}
 use Rattle.history.specs.Version.{Version, ◌≼◌}
-use Rattle.history.specs.History.{Contents, Quorums, Write, History, Call, End, unknown, notdone, answered, Facts}
+use Rattle.history.specs.History.{Contents, Quorums, Write, History, Call, End, unknown, notdone, never, answered, Facts}
 use Rattle.history.specs.Ordering.{EndedIn, by_unknown, by_notdone, by_answer}
 use Rattle.history.proofs.VersionLaws.{le_refl, lt_of_le_lt, lt_not_le}
 use Rattle.history.proofs.Descent.{Ancestor, up, ancestor_le, age, parent_before}
@@ -44,6 +44,7 @@ module _ {Q : Quorums} {M : Contents} (h : History M) (f : Facts Q h) where
   own_ended : (c : Call M) → c ∈ h.calls → (w : Write M) → w ∈ h.writes → w.call ≡ some c.number → (line : ℕ) (e : End M) → c.end ≡ e → EndedIn e line → w.line ≤ line
   own_ended c m w n s line (unknown _) e by_unknown = f.in_time c m line e w n s
   own_ended c m w n s line (notdone _) e by_notdone = absurd (f.undone c m line e w n s)
+  own_ended c m w n s line never e d = elim d [ ]
   own_ended c m w n s line (answered _ r) e by_answer =
       elim (f.justified c m line r e) [
         | inl b ↦ omega (arith, b.before, ap (λ y. y.line) (f.once w b.write n b.made c.number s b.own))

@@ -1,7 +1,7 @@
 // A part of the input: lines are run where they end, as long as the output has room; the bytes after them are kept.
 ghost use Rattle.std.specs.Prelude.{◌≤◌, length};
 ghost use Rattle.views.specs.Lent.{lent};
-ghost use Rattle.memory.specs.Lent.{was, is};
+ghost use Rattle.memory.specs.Lent.{was, is, read_only};
 ghost use Rattle.lines.specs.Feeding.{RestKept};
 ghost use Rattle.lines.specs.Lent.{Advances, FeedsPart};
 
@@ -32,7 +32,7 @@ fn advance(
     progress: Progress,
 ) -> Progress
     requires { (progress.taken ≤ length input.now) × (progress.written ≤ length out.old) }
-    ensures { Advances (lent counts heads slots copies working texts queue payloads answers) line out input progress result }
+    ensures { Advances (lent counts heads slots copies working texts queue payloads answers) line out (read_only input) progress result }
 {
     let size = out.len();
     let read = next_line(line, input, size, progress);
@@ -51,7 +51,7 @@ fn advance(
 // The bytes after the last line that was run are kept, up to a line feed.
 fn keep_rest(line: &mut KeptLine, input: &[u8], progress: Progress) -> Progress
     requires { progress.taken ≤ length input.now }
-    ensures { RestKept progress (was line) (was input) result (is line) }
+    ensures { RestKept progress (was line) input.now result (is line) }
 {
     if progress.lines < MAX_LINES {
         let from = progress.taken;
@@ -80,7 +80,7 @@ pub fn feed_part(
     lines: usize,
     count: usize,
 ) -> Progress
-    ensures { FeedsPart (lent counts heads slots copies working texts queue payloads answers) line out input tally lines count result }
+    ensures { FeedsPart (lent counts heads slots copies working texts queue payloads answers) line out (read_only input) tally lines count result }
 {
     let mut progress = begun(tally, lines, count);
     while progress.more {

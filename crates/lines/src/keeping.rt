@@ -1,6 +1,6 @@
 // The bytes of the present line.
 ghost use Rattle.std.specs.Prelude.{◌≡◌, ◌≤◌, length};
-ghost use Rattle.memory.specs.Lent.{was, is};
+ghost use Rattle.memory.specs.Lent.{was, is, read_only};
 ghost use Rattle.lines.specs.Sessions.{held, put, put_all, present_line};
 ghost use Rattle.lines.specs.Lines.{FeedAt};
 ghost use Rattle.lines.specs.Lent.{ReadsLine};
@@ -22,7 +22,7 @@ fn keep_byte(line: &mut KeptLine, count: usize, byte: u8) -> usize
 
 // Bytes of the present line, behind those that are kept already.
 pub fn keep(line: &mut KeptLine, bytes: &[u8], count: usize) -> usize
-    ensures { held (is line) result ≡ put_all (held (was line) count) (was bytes) }
+    ensures { held (is line) result ≡ put_all (held (was line) count) bytes.now }
 {
     let mut held = count;
     let mut i = 0;
@@ -35,7 +35,7 @@ pub fn keep(line: &mut KeptLine, bytes: &[u8], count: usize) -> usize
 
 // The bytes that are kept; a count above the room counts as all of it.
 fn kept_bytes(line: &[u8], count: usize) -> &[u8]
-    ensures { result.now ≡ present_line (held (was line) count) }
+    ensures { result.now ≡ present_line (held line.now count) }
 {
     let length = at_most(count, line.len());
     &line[..length]
@@ -43,7 +43,7 @@ fn kept_bytes(line: &[u8], count: usize) -> &[u8]
 
 // The present line, read; these are its last bytes. Where nothing of it is kept they are all of it, and it is read where it lies.
 pub fn read_line(line: &mut KeptLine, bytes: &[u8], count: usize) -> Line
-    ensures { ReadsLine line bytes count result }
+    ensures { ReadsLine line (read_only bytes) count result }
 {
     if count == 0 {
         return parse_line(bytes);
@@ -55,7 +55,7 @@ pub fn read_line(line: &mut KeptLine, bytes: &[u8], count: usize) -> Line
 // The place of the next line feed, or the end of the input.
 pub fn line_feed(input: &[u8], from: usize) -> usize
     requires { from ≤ length input.now }
-    ensures { FeedAt (was input) from result }
+    ensures { FeedAt input.now from result }
 {
     let mut i = from;
     while i < input.len() {

@@ -1,4 +1,5 @@
 // The next line that ends in the part, read.
+ghost use Rattle.memory.specs.Lent.{read_only};
 ghost use Rattle.std.specs.Prelude.{◌≡◌, ◌≤◌, length};
 ghost use Rattle.lines.specs.Feeding.{MayRun};
 ghost use Rattle.lines.specs.Lent.{ReadsWhole, ReadsNext};
@@ -21,7 +22,7 @@ fn no_line() -> Read
 // A line of any kind: its line feed is looked for first.
 fn any_line(line: &mut KeptLine, input: &[u8], progress: Progress) -> Read
     requires { progress.taken ≤ length input.now }
-    ensures { ReadsWhole line input progress result }
+    ensures { ReadsWhole line (read_only input) progress result }
 {
     let from = progress.taken;
     let feed = line_feed(input, from);
@@ -39,7 +40,7 @@ fn any_line(line: &mut KeptLine, input: &[u8], progress: Progress) -> Read
 // Most lines are `deliver` with a number and lie whole in the part: these are tried first, in one pass.
 fn whole_line(line: &mut KeptLine, input: &[u8], progress: Progress) -> Read
     requires { progress.taken ≤ length input.now }
-    ensures { ReadsWhole line input progress result }
+    ensures { ReadsWhole line (read_only input) progress result }
 {
     if progress.held == 0 {
         let quick = quick_deliver(input, progress.taken);
@@ -68,7 +69,7 @@ fn may_run(size: usize, progress: Progress) -> bool
 // The next line, if it may be run.
 pub fn next_line(line: &mut KeptLine, input: &[u8], size: usize, progress: Progress) -> Read
     requires { progress.taken ≤ length input.now }
-    ensures { ReadsNext line input size progress result }
+    ensures { ReadsNext line (read_only input) size progress result }
 {
     if may_run(size, progress) {
         return whole_line(line, input, progress);

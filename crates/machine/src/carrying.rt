@@ -1,7 +1,7 @@
 // A plan is carried out: the server's arrays, then the messages, then the counts.
 ghost use Rattle.std.specs.Prelude.{◌≡◌, ◌<◌, ◌≤◌, true};
 ghost use Rattle.memory.specs.Layout.{server_room, bucket_room, message_room};
-ghost use Rattle.memory.specs.Lent.{was, is};
+ghost use Rattle.memory.specs.Lent.{was, is, read_only};
 ghost use Rattle.views.specs.Queue.{without_message};
 ghost use Rattle.views.specs.Lent.{lent};
 ghost use Rattle.flight.specs.Flown.{Flown, old_flight};
@@ -70,7 +70,7 @@ fn leave(
     removes: bool,
 ) -> usize
     requires { (count ≤ message_room) × (removes ≡ true → index < count) }
-    ensures { Flown (without_message removes index (old_flight queue payloads count)) (is queue) (is payloads) result }
+    ensures { Flown (without_message removes index (old_flight queue (read_only payloads) count)) (is queue) payloads.now result }
 {
     if removes {
         return remove(queue, payloads, count, index);
@@ -92,7 +92,7 @@ fn change_server(
     place: usize,
 ) -> u32
     requires { Carriable cluster step next × (place < message_room) }
-    ensures { ChangesServer heads slots copies working payloads answers cluster step next place result }
+    ensures { ChangesServer heads slots copies (read_only working) (read_only payloads) answers cluster step next place result }
 {
     let server = step.server as usize;
     let buckets = cluster.buckets as usize;
@@ -123,7 +123,7 @@ fn change_flight(
     next: Move,
 ) -> usize
     requires { Carriable cluster step next }
-    ensures { ChangesFlight queue payloads working copies cluster step next result }
+    ensures { ChangesFlight queue payloads (read_only working) (read_only copies) cluster step next result }
 {
     let left = leave(
         queue,
@@ -164,7 +164,7 @@ fn carry_on(
     place: usize,
 ) -> Told
     requires { Carriable cluster step next × (place < message_room) }
-    ensures { CarriesOn counts heads slots copies working queue payloads answers cluster step next place result }
+    ensures { CarriesOn counts heads slots copies (read_only working) queue payloads answers cluster step next place result }
 {
     let written = change_server(
         heads, slots, copies, working, payloads, answers, cluster, step, next, place,
@@ -211,7 +211,7 @@ pub fn carry_out(
     table: Decoded,
 ) -> Told
     requires { Carriable cluster step next }
-    ensures { CarriesOut (lent counts heads slots copies working texts queue payloads answers) cluster step next table result }
+    ensures { CarriesOut (lent counts heads slots copies working (read_only texts) queue payloads answers) cluster step next table result }
 {
     let slot = slot_of(step.server as usize, step.bucket as usize);
     let place = place_of(queue, step.index as usize);
@@ -231,7 +231,7 @@ pub fn lose(
     effect: Effect,
 ) -> Report
     requires { Losable cluster step }
-    ensures { Lost (was counts) (was queue) (was payloads) cluster step effect (is counts) (is queue) (is payloads) result }
+    ensures { Lost (was counts) (was queue) payloads.now cluster step effect (is counts) (is queue) payloads.now result }
 {
     let count = leave(
         queue,

@@ -22,7 +22,7 @@ pub fn plan_cut(
     stores: u32,
 ) -> Plan
     requires { Measured cluster }
-    ensures { result ≡ cut_in (was heads) (was slots) (was queue) cluster index stores result.effect }
+    ensures { result ≡ cut_in heads.now slots.now queue.now cluster index stores result.effect }
 {
     let effect = no_effect();
     let refusal = message_refusal(cluster, index);

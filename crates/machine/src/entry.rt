@@ -1,4 +1,5 @@
 // One line with the tally, by value: what it leaves, and what that stands for.
+ghost use Rattle.memory.specs.Lent.{read_only};
 ghost use Rattle.views.specs.Lent.{lent};
 ghost use Rattle.runs.specs.Meaning.{WholeLine};
 ghost use Rattle.machine.specs.Lent.{Performs, LentSizes, OldSizes};
@@ -25,7 +26,7 @@ fn sizes(
     answers: &[u32],
 )
     requires { LentSizes counts heads slots copies working texts queue payloads answers }
-    ensures { OldSizes (lent counts heads slots copies working texts queue payloads answers) }
+    ensures { OldSizes (lent (read_only counts) (read_only heads) (read_only slots) (read_only copies) (read_only working) (read_only texts) (read_only queue) (read_only payloads) (read_only answers)) }
 {}
 
 // The lengths of a line's arrays, for the caller's proof: it does nothing.

@@ -1,4 +1,5 @@
 // Messages that are handed over: judged, and carried out at once. Most lines are such, so no plan is made of them.
+ghost use Rattle.memory.specs.Lent.{read_only};
 ghost use Rattle.std.specs.Prelude.{◌<◌};
 ghost use Rattle.views.specs.Lent.{lent};
 ghost use Rattle.plans.specs.Arrays.{Measured};
@@ -35,7 +36,7 @@ fn hand_listed(
     removes: bool,
 ) -> Report
     requires { Measured cluster × (index < cluster.messages) }
-    ensures { HandsListed (lent counts heads slots copies working texts queue payloads answers) cluster index removes result }
+    ensures { HandsListed (lent counts heads slots copies working (read_only texts) queue payloads answers) cluster index removes result }
 {
     let message = load_message(queue, index as usize);
     let step = message_step(cluster, index, removes, message);
@@ -80,7 +81,7 @@ pub fn hand_line(
     index: u32,
     removes: bool,
 ) -> Report
-    ensures { Hands (lent counts heads slots copies working texts queue payloads answers) index removes result }
+    ensures { Hands (lent counts heads slots copies working (read_only texts) queue payloads answers) index removes result }
 {
     let cluster = load_counts(counts);
     if standing(cluster) {

@@ -101,7 +101,7 @@ fn plan_line(
     line: Line,
 ) -> Plan
     requires { Measured cluster × (route_of line.kind ≡ planned_line) }
-    ensures { LinePlanned (was heads) (was slots) (was copies) (was queue) cluster line result }
+    ensures { LinePlanned heads.now slots.now copies.now queue.now cluster line result }
 {
     let kind = line.kind;
     let server = line.first;

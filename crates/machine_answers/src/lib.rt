@@ -4,7 +4,7 @@
 ghost use Rattle.std.specs.Prelude.{◌≡◌, ◌<◌, ◌≤◌};
 ghost use Rattle.model.specs.Measures.{max_buckets, most_answers};
 ghost use Rattle.memory.specs.Layout.{server_room, slot_room};
-ghost use Rattle.memory.specs.Lent.{was, is};
+ghost use Rattle.memory.specs.Lent.{was, is, read_only};
 ghost use Rattle.memory_regions.specs.Regions.{old_regions};
 ghost use Rattle.views.specs.Changes.{put_answer, ended_calls, answered};
 ghost use Rattle.machine_answers.specs.Answers.{EndedCall, Listed};
@@ -33,7 +33,7 @@ fn put_answer(answers: &mut AnswerWords, place: usize, answer: Answer)
 // The call of this slot ends, where one is open; `count` answers were written before.
 fn end_call(answers: &mut AnswerWords, words: &Words, slot: usize, count: usize) -> usize
     requires { (slot < slot_room) × (count < most_answers) }
-    ensures { EndedCall (old_regions words).slots slot (was answers) count (is answers) result }
+    ensures { EndedCall (old_regions (read_only words)).slots slot (was answers) count (is answers) result }
 {
     let call = load_call(words, slot);
     if is_open_call(call.kind) {
@@ -46,7 +46,7 @@ fn end_call(answers: &mut AnswerWords, words: &Words, slot: usize, count: usize)
 // The open calls of this server end, in bucket order.
 fn end_calls(answers: &mut AnswerWords, words: &Words, server: usize, buckets: usize) -> u32
     requires { (server < server_room) × (buckets ≤ max_buckets) }
-    ensures { Listed (ended_calls (old_regions words).slots server buckets (was answers)) (is answers) result }
+    ensures { Listed (ended_calls (old_regions (read_only words)).slots server buckets (was answers)) (is answers) result }
 {
     let mut count = 0;
     let mut bucket = 0;
@@ -67,7 +67,7 @@ pub fn answer(
     next: Move,
 ) -> u32
     requires { (server < server_room) × (buckets ≤ max_buckets) }
-    ensures { Listed (answered (old_regions words).slots buckets server next (was answers)) (is answers) result }
+    ensures { Listed (answered (old_regions (read_only words)).slots buckets server next (was answers)) (is answers) result }
 {
     let own = next.answer;
     if next.ceases {

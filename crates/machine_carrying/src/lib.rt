@@ -2,6 +2,7 @@
 // said in crates/runs/specs.
 #![tactic(auto)]
 
+ghost use Rattle.memory.specs.Lent.{read_only};
 ghost use Rattle.std.specs.Prelude.{◌≡◌, ◌<◌, ◌≤◌};
 ghost use Rattle.memory.specs.Layout.{server_room, bucket_room, message_room};
 ghost use Rattle.views.specs.Arrays.{old_memory, new_memory};
@@ -55,7 +56,7 @@ fn next_counts(cluster: Counts, messages: usize, calls: u32) -> Counts
 // The message handed over leaves the list, where it is not a copy.
 fn leave(words: &mut Words, bytes: &Bytes, cluster: Counts, step: Step) -> usize
     requires { Losable cluster step }
-    ensures { Flies words bytes (left_flight (old_memory words bytes) cluster step) result }
+    ensures { Flies words (read_only bytes) (left_flight (old_memory words (read_only bytes)) cluster step) result }
 {
     let count = cluster.messages as usize;
     if step.removes {
@@ -163,7 +164,7 @@ pub fn report_of(told: Told, step: Step, effect: Effect) -> Report
 // A message is lost.
 pub fn lose(words: &mut Words, bytes: &Bytes, cluster: Counts, step: Step, effect: Effect) -> Report
     requires { Losable cluster step }
-    ensures { Loses words bytes cluster step effect result }
+    ensures { Loses words (read_only bytes) cluster step effect result }
 {
     let count = leave(words, bytes, cluster, step);
     store_counts(words, next_counts(cluster, count, step.calls));

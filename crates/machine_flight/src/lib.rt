@@ -1,6 +1,7 @@
 // The messages in flight in the two lent arrays: one may be removed, then those of the step are appended.
 #![tactic(auto)]
 
+ghost use Rattle.memory.specs.Lent.{read_only};
 ghost use Rattle.std.specs.Prelude.{◌≡◌, true, ◌≢◌, ◌<◌, ◌≤◌, ◌+◌, ◌-◌, eqb};
 ghost use Rattle.server.specs.Views.{chosen};
 ghost use Rattle.memory.specs.Layout.{message_room};
@@ -21,7 +22,7 @@ use server::kinds::is_broadcast;
 // The message with this index is removed.
 pub fn remove(words: &mut Words, bytes: &Bytes, count: usize, index: usize) -> usize
     requires { (index < count) × (count ≤ message_room) }
-    ensures { Flies words bytes (without_message true index (old_flight words bytes count)) result }
+    ensures { Flies words (read_only bytes) (without_message true index (old_flight words (read_only bytes) count)) result }
 {
     remove_message(words, count, index);
     count - 1

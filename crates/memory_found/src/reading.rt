@@ -11,7 +11,7 @@ use entries::keys::{at_most, wide};
 
 // The number of items, four where the array says more.
 pub fn found_count(found: &FoundBytes) -> usize
-    ensures { FoundCount (was found) result }
+    ensures { FoundCount found.now result }
 {
     let count = wide(found[0]);
     at_most(count, TABLE_ROOM)
@@ -19,7 +19,7 @@ pub fn found_count(found: &FoundBytes) -> usize
 
 // Item i, a part within the array. There is none from the number of items on; the answer is a part of no bytes then.
 pub fn found_at(found: &FoundBytes, i: usize) -> Part
-    ensures { FoundPart (was found) i result }
+    ensures { FoundPart found.now i result }
 {
     let count = found_count(found);
     if i < count {
@@ -32,7 +32,7 @@ pub fn found_at(found: &FoundBytes, i: usize) -> Part
 // Where item i begins.
 fn item_start(found: &[u8], i: usize) -> usize
     requires { length found.now ≡ found_len }
-    ensures { ItemStart (was found) i result }
+    ensures { ItemStart found.now i result }
 {
     let mut at = ITEMS_AT;
     let mut j = 0;
@@ -47,7 +47,7 @@ fn item_start(found: &[u8], i: usize) -> usize
 // The bytes of the item that begins at `at`.
 fn item_at(found: &[u8], at: usize) -> Part
     requires { (length found.now ≡ found_len) × (at ≤ found_len) }
-    ensures { ItemAt (was found) at result }
+    ensures { ItemAt found.now at result }
 {
     if at < FOUND_LEN {
         let from = at + 1;

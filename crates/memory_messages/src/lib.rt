@@ -6,7 +6,7 @@ ghost use Rattle.std.specs.Prelude.{◌≡◌, ◌+◌, ◌*◌, ◌%◌, ◌<�
 ghost use Rattle.blocks.specs.Order.{rising};
 ghost use Rattle.memory.specs.Rows.{row, put_row};
 ghost use Rattle.memory.specs.Layout.{message_room, message_size, order_place, place_at, without_place, fresh_places, message_row, message_of, header_at, message_at, put_header};
-ghost use Rattle.memory.specs.Lent.{was, is};
+ghost use Rattle.memory.specs.Lent.{was, is, read_only};
 ghost use Rattle.memory_regions.specs.Regions.{word_count, queue_place, old_regions, new_regions, with_queue};
 ghost use Rattle.memory_regions.specs.Contents.{content_room, old_content};
 ghost use Rattle.memory_messages.specs.Appended.{AppendsHeader, Appends};
@@ -30,7 +30,7 @@ fn wide(number: u32) -> usize
 // The place of the message with this index: every number in the order names one.
 pub fn place_of(words: &Words, index: usize) -> usize
     requires { index < message_room }
-    ensures { (result ≡ place_at (old_regions words).queue index) × (result < message_room) }
+    ensures { (result ≡ place_at (old_regions (read_only words)).queue index) × (result < message_room) }
 {
     place_field(words, index)
 }
@@ -38,7 +38,7 @@ pub fn place_of(words: &Words, index: usize) -> usize
 // The same, with the word written out in the contract, as one of the whole array.
 fn place_field(words: &Words, index: usize) -> usize
     requires { index < message_room }
-    ensures { result ≡ get_or (was words) (queue_place + (order_place + index)) 0 % message_room }
+    ensures { result ≡ get_or words.now (queue_place + (order_place + index)) 0 % message_room }
 {
     wide(words[QUEUE_AT + (ORDER_AT + index)]) % MESSAGES
 }
@@ -46,7 +46,7 @@ fn place_field(words: &Words, index: usize) -> usize
 // The header of the message with this index.
 pub fn load_message(words: &Words, index: usize) -> Message
     requires { index < message_room }
-    ensures { result ≡ message_at (old_regions words).queue index }
+    ensures { result ≡ message_at (old_regions (read_only words)).queue index }
 {
     let place = place_of(words, index);
     load_header(words, place)
@@ -55,7 +55,7 @@ pub fn load_message(words: &Words, index: usize) -> Message
 // The header at this place.
 fn load_header(words: &Words, place: usize) -> Message
     requires { place < message_room }
-    ensures { result ≡ header_at (old_regions words).queue place }
+    ensures { result ≡ header_at (old_regions (read_only words)).queue place }
 {
     message_fields(words, place)
 }
@@ -63,7 +63,7 @@ fn load_header(words: &Words, place: usize) -> Message
 // The same, with the fields written out in the contract, as words of the whole array.
 fn message_fields(words: &Words, place: usize) -> Message
     requires { place < message_room }
-    ensures { result ≡ message_of (row (queue_place + place * message_size) 0 message_size (was words)) }
+    ensures { result ≡ message_of (row (queue_place + place * message_size) 0 message_size words.now) }
 {
     let base = QUEUE_AT + place * HEADER_SIZE;
     let version = Version {

@@ -2,7 +2,7 @@
 ghost use Rattle.std.specs.Prelude.{◌≡◌};
 ghost use Rattle.memory.specs.Rows.{row, put_row};
 ghost use Rattle.memory.specs.Layout.{counts_words, counts_row, counts_of, counts_at, put_counts};
-ghost use Rattle.memory.specs.Lent.{was, is};
+ghost use Rattle.memory.specs.Lent.{was, is, read_only};
 ghost use Rattle.memory_regions.specs.Regions.{counts_place, old_regions, new_regions, with_counts};
 
 use memory::Counts;
@@ -10,14 +10,14 @@ use memory::offsets::{COUNT_BUCKETS, COUNT_CALLS, COUNT_LINES, COUNT_MESSAGES, C
 use memory_regions::{COUNTS_AT, Words};
 
 pub fn load_counts(words: &Words) -> Counts
-    ensures { result ≡ counts_at (old_regions words).counts }
+    ensures { result ≡ counts_at (old_regions (read_only words)).counts }
 {
     counts_fields(words)
 }
 
 // The same, with the fields written out in the contract, as words of the whole array.
 fn counts_fields(words: &Words) -> Counts
-    ensures { result ≡ counts_of (row counts_place 0 counts_words (was words)) }
+    ensures { result ≡ counts_of (row counts_place 0 counts_words words.now) }
 {
     Counts {
         servers: words[COUNTS_AT + COUNT_SERVERS],

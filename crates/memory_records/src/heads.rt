@@ -2,7 +2,7 @@
 ghost use Rattle.std.specs.Prelude.{◌≡◌, ◌+◌, ◌*◌, ◌<◌};
 ghost use Rattle.memory.specs.Rows.{row, put_row};
 ghost use Rattle.memory.specs.Layout.{server_room, head_size, head_words, head_numbers, head_of, head_at, put_head};
-ghost use Rattle.memory.specs.Lent.{was, is};
+ghost use Rattle.memory.specs.Lent.{was, is, read_only};
 ghost use Rattle.memory_regions.specs.Regions.{heads_place, old_regions, new_regions, with_heads};
 
 use memory::HEAD_SIZE;
@@ -17,7 +17,7 @@ use server::measures::SERVERS;
 // The head of this server.
 pub fn load_head(words: &Words, server: usize) -> Head
     requires { server < server_room }
-    ensures { result ≡ head_at (old_regions words).heads server }
+    ensures { result ≡ head_at (old_regions (read_only words)).heads server }
 {
     head_fields(words, server)
 }
@@ -25,7 +25,7 @@ pub fn load_head(words: &Words, server: usize) -> Head
 // The same, with the fields written out in the contract, as words of the whole array.
 fn head_fields(words: &Words, server: usize) -> Head
     requires { server < server_room }
-    ensures { result ≡ head_of (row (heads_place + server * head_size) 0 head_words (was words)) }
+    ensures { result ≡ head_of (row (heads_place + server * head_size) 0 head_words words.now) }
 {
     let base = HEADS_AT + server * HEAD_SIZE;
     let votes = [

@@ -3,7 +3,7 @@
 ghost use Rattle.std.specs.Prelude.{◌≡◌, ◌+◌, ◌*◌, ◌<◌};
 ghost use Rattle.memory.specs.Rows.{row, put_row};
 ghost use Rattle.memory.specs.Layout.{server_room, slot_room, slot_size, version_place, version_words, version_row, version_of, version_at, put_version, round_place, round_words, round_numbers, round_of, round_at, put_round, call_place, call_words, call_row, call_of, call_at, put_call};
-ghost use Rattle.memory.specs.Lent.{was, is};
+ghost use Rattle.memory.specs.Lent.{was, is, read_only};
 ghost use Rattle.memory_regions.specs.Regions.{slots_place, old_regions, new_regions, with_slots};
 
 use memory::SLOT_SIZE;
@@ -19,7 +19,7 @@ use server::{Call, Round, Version};
 // The version of the copy at this slot.
 pub fn load_version(words: &Words, slot: usize) -> Version
     requires { slot < slot_room }
-    ensures { result ≡ version_at (old_regions words).slots slot }
+    ensures { result ≡ version_at (old_regions (read_only words)).slots slot }
 {
     version_fields(words, slot)
 }
@@ -27,7 +27,7 @@ pub fn load_version(words: &Words, slot: usize) -> Version
 // The same, with the fields written out in the contract, as words of the whole array: so are those of each load and store below.
 fn version_fields(words: &Words, slot: usize) -> Version
     requires { slot < slot_room }
-    ensures { result ≡ version_of (row (slots_place + slot * slot_size) version_place version_words (was words)) }
+    ensures { result ≡ version_of (row (slots_place + slot * slot_size) version_place version_words words.now) }
 {
     let base = SLOTS_AT + slot * SLOT_SIZE;
     Version {
@@ -56,14 +56,14 @@ fn version_stores(words: &mut Words, slot: usize, version: Version)
 // The open round of this slot.
 pub fn load_round(words: &Words, slot: usize) -> Round
     requires { slot < slot_room }
-    ensures { result ≡ round_at (old_regions words).slots slot }
+    ensures { result ≡ round_at (old_regions (read_only words)).slots slot }
 {
     round_fields(words, slot)
 }
 
 fn round_fields(words: &Words, slot: usize) -> Round
     requires { slot < slot_room }
-    ensures { result ≡ round_of (row (slots_place + slot * slot_size) round_place round_words (was words)) }
+    ensures { result ≡ round_of (row (slots_place + slot * slot_size) round_place round_words words.now) }
 {
     let base = SLOTS_AT + slot * SLOT_SIZE;
     let best = Version {
@@ -128,14 +128,14 @@ fn round_marks(words: &mut Words, slot: usize, marks: [u32; SERVERS])
 // The open call of this slot, without its words.
 pub fn load_call(words: &Words, slot: usize) -> Call
     requires { slot < slot_room }
-    ensures { result ≡ call_at (old_regions words).slots slot }
+    ensures { result ≡ call_at (old_regions (read_only words)).slots slot }
 {
     call_fields(words, slot)
 }
 
 fn call_fields(words: &Words, slot: usize) -> Call
     requires { slot < slot_room }
-    ensures { result ≡ call_of (row (slots_place + slot * slot_size) call_place call_words (was words)) }
+    ensures { result ≡ call_of (row (slots_place + slot * slot_size) call_place call_words words.now) }
 {
     let base = SLOTS_AT + slot * SLOT_SIZE;
     Call {

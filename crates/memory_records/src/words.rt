@@ -3,7 +3,7 @@ ghost use Rattle.std.specs.Prelude.{◌≡◌, ◌+◌, ◌-◌, ◌*◌, ◌<�
 ghost use Rattle.std.proofs.Math.Seq.{paste};
 ghost use Rattle.memory.specs.Rows.{row, put_row};
 ghost use Rattle.memory.specs.Layout.{slot_room, slot_size, text_size, key_room, value_room, numbers_place, numbers_words, numbers_row, numbers_of, numbers_at, numbers_in, item_word, key_from, value_from, item_from, words_at, put_texts};
-ghost use Rattle.memory.specs.Lent.{was, is};
+ghost use Rattle.memory.specs.Lent.{was, is, read_only};
 ghost use Rattle.memory_regions.specs.Regions.{slots_place, old_regions};
 ghost use Rattle.memory_regions.specs.Contents.{old_contents, new_contents, with_texts};
 ghost use Rattle.memory_records.specs.Stored.{StoresWords};
@@ -22,7 +22,7 @@ use server::Words;
 // The words of the call of this slot.
 pub fn load_words(words: &memory_regions::Words, bytes: &Bytes, slot: usize) -> Words
     requires { slot < slot_room }
-    ensures { result ≡ words_at (old_regions words).slots (old_contents bytes).texts slot }
+    ensures { result ≡ words_at (old_regions (read_only words)).slots (old_contents (read_only bytes)).texts slot }
 {
     let numbers = load_numbers(words, slot);
     let base = slot * TEXT_SIZE;
@@ -40,14 +40,14 @@ pub fn load_words(words: &memory_regions::Words, bytes: &Bytes, slot: usize) -> 
 
 fn load_numbers(words: &memory_regions::Words, slot: usize) -> Numbers
     requires { slot < slot_room }
-    ensures { result ≡ numbers_at (old_regions words).slots slot }
+    ensures { result ≡ numbers_at (old_regions (read_only words)).slots slot }
 {
     numbers_fields(words, slot)
 }
 
 fn numbers_fields(words: &memory_regions::Words, slot: usize) -> Numbers
     requires { slot < slot_room }
-    ensures { result ≡ numbers_of (row (slots_place + slot * slot_size) numbers_place numbers_words (was words)) }
+    ensures { result ≡ numbers_of (row (slots_place + slot * slot_size) numbers_place numbers_words words.now) }
 {
     let base = SLOTS_AT + slot * SLOT_SIZE;
     Numbers {
@@ -62,7 +62,7 @@ fn numbers_fields(words: &memory_regions::Words, slot: usize) -> Numbers
 // A key whose eight bytes begin at this place of the region, and a value whose sixteen do.
 fn key_from(bytes: &Bytes, at: usize, len: usize) -> Key
     requires { at + key_room ≤ slot_room * text_size }
-    ensures { result ≡ key_from (old_contents bytes).texts at len }
+    ensures { result ≡ key_from (old_contents (read_only bytes)).texts at len }
 {
     let mut read = [0u8; KEY_ROOM];
     copy_part_bytes(&mut read, 0, bytes, TEXTS_AT + at, KEY_ROOM);
@@ -71,7 +71,7 @@ fn key_from(bytes: &Bytes, at: usize, len: usize) -> Key
 
 fn value_from(bytes: &Bytes, at: usize, len: usize) -> Value
     requires { at + value_room ≤ slot_room * text_size }
-    ensures { result ≡ value_from (old_contents bytes).texts at len }
+    ensures { result ≡ value_from (old_contents (read_only bytes)).texts at len }
 {
     let mut read = [0u8; VALUE_ROOM];
     copy_part_bytes(&mut read, 0, bytes, TEXTS_AT + at, VALUE_ROOM);
@@ -91,7 +91,7 @@ fn one_less(number: usize) -> usize
 // A value by its word: none for 0, else of a length one below it.
 fn item_from(bytes: &Bytes, at: usize, word: usize) -> Item
     requires { at + value_room ≤ slot_room * text_size }
-    ensures { result ≡ item_from (old_contents bytes).texts at word }
+    ensures { result ≡ item_from (old_contents (read_only bytes)).texts at word }
 {
     let value = value_from(bytes, at, one_less(word));
     Item {
@@ -167,14 +167,14 @@ fn store_texts(bytes: &mut Bytes, slot: usize, call: Words)
 // The bytes of a key, or of a value, are stored from this place of the region on.
 fn put_key(bytes: &mut Bytes, at: usize, key: &[u8; KEY_ROOM])
     requires { at + key_room ≤ slot_room * text_size }
-    ensures { new_contents bytes ≡ with_texts (old_contents bytes) (paste (old_contents bytes).texts at (was key) key_room) }
+    ensures { new_contents bytes ≡ with_texts (old_contents bytes) (paste (old_contents bytes).texts at key.now key_room) }
 {
     copy_part_bytes(bytes, TEXTS_AT + at, key, 0, KEY_ROOM);
 }
 
 fn put_value(bytes: &mut Bytes, at: usize, value: &[u8; VALUE_ROOM])
     requires { at + value_room ≤ slot_room * text_size }
-    ensures { new_contents bytes ≡ with_texts (old_contents bytes) (paste (old_contents bytes).texts at (was value) value_room) }
+    ensures { new_contents bytes ≡ with_texts (old_contents bytes) (paste (old_contents bytes).texts at value.now value_room) }
 {
     copy_part_bytes(bytes, TEXTS_AT + at, value, 0, VALUE_ROOM);
 }

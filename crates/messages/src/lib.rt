@@ -27,7 +27,7 @@ fn wide(number: u32) -> usize
 // The place of the message with this index: every number in the order names one.
 pub fn place_of(queue: &QueueWords, index: usize) -> usize
     requires { index < message_room }
-    ensures { (result ≡ place_at (was queue) index) × (result < message_room) }
+    ensures { (result ≡ place_at queue.now index) × (result < message_room) }
 {
     place_field(queue, index)
 }
@@ -35,7 +35,7 @@ pub fn place_of(queue: &QueueWords, index: usize) -> usize
 // The same, with the word written out in the contract.
 fn place_field(queue: &QueueWords, index: usize) -> usize
     requires { index < message_room }
-    ensures { result ≡ place_field (was queue) index }
+    ensures { result ≡ place_field queue.now index }
 {
     wide(queue[ORDER_AT + index]) % MESSAGES
 }
@@ -43,7 +43,7 @@ fn place_field(queue: &QueueWords, index: usize) -> usize
 // The header of the message with this index.
 pub fn load_message(queue: &QueueWords, index: usize) -> Message
     requires { index < message_room }
-    ensures { result ≡ message_at (was queue) index }
+    ensures { result ≡ message_at queue.now index }
 {
     let place = place_of(queue, index);
     load_header(queue, place)
@@ -52,7 +52,7 @@ pub fn load_message(queue: &QueueWords, index: usize) -> Message
 // The header at this place.
 fn load_header(queue: &QueueWords, place: usize) -> Message
     requires { place < message_room }
-    ensures { result ≡ header_at (was queue) place }
+    ensures { result ≡ header_at queue.now place }
 {
     message_fields(queue, place)
 }
@@ -60,7 +60,7 @@ fn load_header(queue: &QueueWords, place: usize) -> Message
 // The same, with the fields written out in the contract.
 fn message_fields(queue: &QueueWords, place: usize) -> Message
     requires { place < message_room }
-    ensures { result ≡ message_fields (was queue) place }
+    ensures { result ≡ message_fields queue.now place }
 {
     let base = place * HEADER_SIZE;
     let version = Version {
@@ -112,7 +112,7 @@ pub fn append_message(
     content: usize,
 )
     requires { (count < message_room) × ((content + 1) * content_size ≤ length from.now) }
-    ensures { Appended (was queue) (was payloads) count message (block content_size content (was from)) (is queue) (is payloads) }
+    ensures { Appended (was queue) (was payloads) count message (block content_size content from.now) (is queue) (is payloads) }
 {
     let place = place_of(queue, count);
     store_header(queue, place, message);

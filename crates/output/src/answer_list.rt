@@ -59,7 +59,7 @@ fn key_list(table: Decoded) -> KeyList
 // Answer i.
 fn load_answer(answers: &AnswerWords, place: usize) -> Answer
     requires { place < most_answers }
-    ensures { result ≡ answer_at (was answers) place }
+    ensures { result ≡ answer_at answers.now place }
 {
     answer_fields(answers, place)
 }
@@ -67,7 +67,7 @@ fn load_answer(answers: &AnswerWords, place: usize) -> Answer
 // The same, with the fields written out in the contract.
 fn answer_fields(answers: &AnswerWords, place: usize) -> Answer
     requires { place < most_answers }
-    ensures { result ≡ answer_fields (was answers) place }
+    ensures { result ≡ answer_fields answers.now place }
 {
     let base = place * ANSWER_SIZE;
     Answer {
@@ -104,7 +104,7 @@ pub fn put_answers(
     table: Decoded,
 ) -> usize
     requires { (at + line_room ≤ length out.old) × (count ≤ most_answers) }
-    ensures { Told (answer_texts (answers_at count (was answers) (value_bytes value) (table_in table))) (was out) at (is out) result }
+    ensures { Told (answer_texts (answers_at count answers.now (value_bytes value) (table_in table))) (was out) at (is out) result }
 {
     let mut next = at;
     let mut i = 0;

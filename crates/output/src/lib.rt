@@ -26,7 +26,7 @@ pub fn put_outcome(
     answers: &AnswerWords,
 ) -> usize
     requires { (at + line_room ≤ length out.old) × (report.answers ≤ most_answers) }
-    ensures { Told (outcome_text line (outcome_in report (was answers))) (was out) at (is out) result }
+    ensures { Told (outcome_text line (outcome_in report answers.now)) (was out) at (is out) result }
 {
     if report.refusal != 0 {
         return put_refusal(out, at, line, report.refusal);

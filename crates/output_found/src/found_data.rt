@@ -17,7 +17,7 @@ use print::hexadecimals::{put_pairs, put_there};
 // A part of a list as a value, after a space.
 fn put_value_part(out: &mut [u8], at: usize, list: &[u8], from: usize, len: usize) -> usize
     requires { (from + len ≤ length list.now) × (at + length (bytes " " ++ value_text (some (take len (drop from list.now)))) ≤ length out.old) }
-    ensures { Printed (bytes " " ++ value_text (some (take len (drop from (was list))))) (was out) at (is out) result }
+    ensures { Printed (bytes " " ++ value_text (some (take len (drop from list.now)))) (was out) at (is out) result }
 {
     let end = from + len;
     let next = put_bytes(out, at, b" ");
@@ -27,7 +27,7 @@ fn put_value_part(out: &mut [u8], at: usize, list: &[u8], from: usize, len: usiz
 // A part of a list as a key, after a space.
 fn put_key_part(out: &mut [u8], at: usize, list: &[u8], from: usize, len: usize) -> usize
     requires { (from + len ≤ length list.now) × (at + length (bytes " " ++ hex_pairs (take len (drop from list.now))) ≤ length out.old) }
-    ensures { Printed (bytes " " ++ hex_pairs (take len (drop from (was list)))) (was out) at (is out) result }
+    ensures { Printed (bytes " " ++ hex_pairs (take len (drop from list.now))) (was out) at (is out) result }
 {
     let end = from + len;
     let next = put_bytes(out, at, b" ");
@@ -37,7 +37,7 @@ fn put_key_part(out: &mut [u8], at: usize, list: &[u8], from: usize, len: usize)
 // The first item, as a value.
 fn put_value(out: &mut [u8], at: usize, found: &FoundBytes) -> usize
     requires { at + length (bytes " " ++ value_text (some (item_of (found_in found.now) 0))) ≤ length out.old }
-    ensures { Printed (bytes " " ++ value_text (some (item_of (found_in (was found)) 0))) (was out) at (is out) result }
+    ensures { Printed (bytes " " ++ value_text (some (item_of (found_in found.now) 0))) (was out) at (is out) result }
 {
     let part = found_at(found, 0);
     put_value_part(out, at, found, part.from, part.len)
@@ -46,7 +46,7 @@ fn put_value(out: &mut [u8], at: usize, found: &FoundBytes) -> usize
 // Item i, as a key.
 fn put_key(out: &mut [u8], at: usize, found: &FoundBytes, i: usize) -> usize
     requires { at + length (bytes " " ++ hex_pairs (item_of (found_in found.now) i)) ≤ length out.old }
-    ensures { Printed (bytes " " ++ hex_pairs (item_of (found_in (was found)) i)) (was out) at (is out) result }
+    ensures { Printed (bytes " " ++ hex_pairs (item_of (found_in found.now) i)) (was out) at (is out) result }
 {
     let part = found_at(found, i);
     put_key_part(out, at, found, part.from, part.len)
@@ -55,7 +55,7 @@ fn put_key(out: &mut [u8], at: usize, found: &FoundBytes, i: usize) -> usize
 // All items, as keys.
 fn put_each_key(out: &mut [u8], at: usize, found: &FoundBytes) -> usize
     requires { at + length (key_list (found_in found.now)) ≤ length out.old }
-    ensures { Printed (key_list (found_in (was found))) (was out) at (is out) result }
+    ensures { Printed (key_list (found_in found.now)) (was out) at (is out) result }
 {
     let count = found_count(found);
     let mut end = at;
@@ -70,7 +70,7 @@ fn put_each_key(out: &mut [u8], at: usize, found: &FoundBytes) -> usize
 // The same, with `-` for none.
 fn put_keys(out: &mut [u8], at: usize, found: &FoundBytes) -> usize
     requires { at + length (keys_text (found_in found.now)) ≤ length out.old }
-    ensures { Printed (keys_text (found_in (was found))) (was out) at (is out) result }
+    ensures { Printed (keys_text (found_in found.now)) (was out) at (is out) result }
 {
     if found_count(found) == 0 {
         return put_bytes(out, at, b" -");
@@ -81,7 +81,7 @@ fn put_keys(out: &mut [u8], at: usize, found: &FoundBytes) -> usize
 // The data that the word of a result asks for.
 pub fn put_data(out: &mut [u8], at: usize, word: ResultWord, found: &FoundBytes) -> usize
     requires { at + length (data_of (result_of word (found_in found.now))) ≤ length out.old }
-    ensures { Printed (data_of (result_of word (found_in (was found)))) (was out) at (is out) result }
+    ensures { Printed (data_of (result_of word (found_in found.now))) (was out) at (is out) result }
 {
     match word {
         ResultWord::Value => put_value(out, at, found),

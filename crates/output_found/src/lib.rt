@@ -20,7 +20,7 @@ mod found_data;
 // An array of what was found is as long as its type says; this tells the proof of its caller.
 fn whole(found: &[u8])
     requires { length found.now ≡ found_len }
-    ensures { length (was found) ≡ found_len }
+    ensures { length found.now ≡ found_len }
 {}
 
 // The call's number, its result's word, its rounds and its data.
@@ -33,7 +33,7 @@ fn put_line(
     found: &FoundBytes,
 ) -> usize
     requires { at + length (answer_text (answer_of call word rounds (found_in found.now))) ≤ length out.old }
-    ensures { Printed (answer_text (answer_of call word rounds (found_in (was found)))) (was out) at (is out) result }
+    ensures { Printed (answer_text (answer_of call word rounds (found_in found.now))) (was out) at (is out) result }
 {
     let after_head = put_head(out, at, call, word, rounds);
     let after_data = put_data(out, after_head, word, found);
@@ -50,7 +50,7 @@ pub fn put_found_answer(
     found: &FoundBytes,
 ) -> usize
     requires { at + answer_room ≤ length out.old }
-    ensures { Printed (answer_text (answer_of call word rounds (found_in (was found)))) (was out) at (is out) result × (result ≤ at + answer_room) }
+    ensures { Printed (answer_text (answer_of call word rounds (found_in found.now))) (was out) at (is out) result × (result ≤ at + answer_room) }
 {
     whole(found);
     put_line(out, at, call, word, rounds, found)

@@ -156,7 +156,7 @@ fn call_plan(
 // What a call does to the table of this slot's copy.
 fn effect_on(copies: &[u8], slot: usize, words: Words) -> Effect
     requires { (slot < slot_room) × (length copies.now ≡ slot_room * content_size) }
-    ensures { effect_in result ≡ calls.effect (words_in words) (table_at (was copies) slot) }
+    ensures { effect_in result ≡ calls.effect (words_in words) (table_at copies.now slot) }
 {
     let from = slot * CONTENT_SIZE;
     let end = from + BUCKET_SIZE;
@@ -167,7 +167,7 @@ fn effect_on(copies: &[u8], slot: usize, words: Words) -> Effect
 // The same in the array of the copies.
 pub fn effect_of(copies: &CopyBytes, slot: usize, words: Words) -> Effect
     requires { slot < slot_room }
-    ensures { effect_in result ≡ calls.effect (words_in words) (table_at (was copies) slot) }
+    ensures { effect_in result ≡ calls.effect (words_in words) (table_at copies.now slot) }
 {
     effect_on(copies, slot, words)
 }
@@ -190,7 +190,7 @@ fn call_effect(
     local: Local,
 ) -> Effect
     requires { slot < slot_room }
-    ensures { EffectNeeded cluster.servers local (words_in words) (table_at (was copies) slot) result }
+    ensures { EffectNeeded cluster.servers local (words_in words) (table_at copies.now slot) result }
 {
     if needs_effect(cluster.servers, words.kind, local) {
         return effect_of(copies, slot, words);
@@ -209,7 +209,7 @@ fn plan_at(
     words: Words,
 ) -> Plan
     requires { Measured cluster × ((server < server_room) × (bucket < bucket_room)) }
-    ensures { Called (was heads) (was slots) (was copies) cluster server bucket words result }
+    ensures { Called heads.now slots.now copies.now cluster server bucket words result }
 {
     let at = server as usize;
     let slot = slot_of(at, bucket as usize);
@@ -227,7 +227,7 @@ pub fn plan_call(
     words: Words,
 ) -> Plan
     requires { Measured cluster }
-    ensures { CallPlanned (was heads) (was slots) (was copies) cluster server words result }
+    ensures { CallPlanned heads.now slots.now copies.now cluster server words result }
 {
     let bucket = call_bucket(cluster, words);
     if inside(cluster, server, bucket) {

@@ -74,7 +74,7 @@ fn lost_plan(cluster: Counts, index: u32, removes: bool, effect: Effect) -> Plan
 // The receiver of a message that is handed over.
 pub fn receiver(heads: &HeadWords, slots: &SlotWords, step: Step) -> Local
     requires { (step.server < server_room) × (step.bucket < bucket_room) }
-    ensures { result ≡ local_at (memory [] (was heads) (was slots) [] [] [] [] []) step.server (slot_of step.server step.bucket) }
+    ensures { result ≡ local_at (memory [] heads.now slots.now [] [] [] [] []) step.server (slot_of step.server step.bucket) }
 {
     let server = step.server as usize;
     let slot = slot_of(server, step.bucket as usize);
@@ -93,7 +93,7 @@ pub fn is_gone(cluster: Counts, step: Step, local: Local) -> bool
 // What the call does that stands where a message is handed over.
 fn hand_effect(slots: &SlotWords, copies: &CopyBytes, texts: &TextBytes, step: Step) -> Effect
     requires { (step.server < server_room) × (step.bucket < bucket_room) }
-    ensures { effect_in result ≡ asked_at (memory [] [] (was slots) (was copies) [] (was texts) [] []) step }
+    ensures { effect_in result ≡ asked_at (memory [] [] slots.now copies.now [] texts.now [] []) step }
 {
     let slot = slot_of(step.server as usize, step.bucket as usize);
     let words = load_words(slots, texts, slot);
@@ -111,7 +111,7 @@ pub fn asked_effect(
     step: Step,
 ) -> Effect
     requires { (step.server < server_room) × (step.bucket < bucket_room) }
-    ensures { reads_table servers message local ≡ true → effect_in result ≡ asked_at (memory [] [] (was slots) (was copies) [] (was texts) [] []) step }
+    ensures { reads_table servers message local ≡ true → effect_in result ≡ asked_at (memory [] [] slots.now copies.now [] texts.now [] []) step }
 {
     if reads_table(servers, message, local) {
         return hand_effect(slots, copies, texts, step);

@@ -24,7 +24,7 @@ use server::votes::last_number;
 // The head of this server with this slot.
 pub fn load_local(heads: &HeadWords, slots: &SlotWords, server: usize, slot: usize) -> Local
     requires { (server < server_room) × (slot < slot_room) }
-    ensures { result ≡ local_of (head_at (was heads) server) (version_at (was slots) slot) (round_at (was slots) slot) (call_at (was slots) slot) }
+    ensures { result ≡ local_of (head_at heads.now server) (version_at slots.now slot) (round_at slots.now slot) (call_at slots.now slot) }
 {
     Local {
         head: load_head(heads, server),
@@ -59,7 +59,7 @@ fn elect_plan(cluster: Counts, server: u32, local: Local, effect: Effect) -> Pla
 
 pub fn plan_elect(heads: &HeadWords, slots: &SlotWords, cluster: Counts, server: u32) -> Plan
     requires { Measured cluster }
-    ensures { result ≡ elect_in (was heads) (was slots) cluster server result.effect }
+    ensures { result ≡ elect_in heads.now slots.now cluster server result.effect }
 {
     let effect = no_effect();
     if inside(cluster, server, 0) {
@@ -100,7 +100,7 @@ pub fn plan_timeout(
     bucket: u32,
 ) -> Plan
     requires { Measured cluster }
-    ensures { result ≡ timeout_in (was heads) (was slots) cluster server bucket result.effect }
+    ensures { result ≡ timeout_in heads.now slots.now cluster server bucket result.effect }
 {
     let effect = no_effect();
     if inside(cluster, server, bucket) {
@@ -129,7 +129,7 @@ fn stop_plan(cluster: Counts, server: u32, local: Local, effect: Effect) -> Plan
 
 pub fn plan_stop(heads: &HeadWords, slots: &SlotWords, cluster: Counts, server: u32) -> Plan
     requires { Measured cluster }
-    ensures { result ≡ stop_in (was heads) (was slots) cluster server result.effect }
+    ensures { result ≡ stop_in heads.now slots.now cluster server result.effect }
 {
     let effect = no_effect();
     if inside(cluster, server, 0) {
@@ -158,7 +158,7 @@ fn start_plan(cluster: Counts, server: u32, local: Local, effect: Effect) -> Pla
 
 pub fn plan_start(heads: &HeadWords, slots: &SlotWords, cluster: Counts, server: u32) -> Plan
     requires { Measured cluster }
-    ensures { result ≡ start_in (was heads) (was slots) cluster server result.effect }
+    ensures { result ≡ start_in heads.now slots.now cluster server result.effect }
 {
     let effect = no_effect();
     if inside(cluster, server, 0) {

@@ -72,6 +72,6 @@ is_quiet c p h =
       highest = λ q k up. let yes = every_at (votes_up_to (server_at c p).stored.number) c.servers q (fresh_server 0 0) b k in omega (arith, votes_up_to_lem (server_at c p).stored.number (server_at c q) yes up);
       majority_runs = omega (arith, leb-true (majority (servers_of c)) (running c.servers) d);
       none_in_flight = empty_list c.messages e;
-      none_open_lem = none_open_lem c.servers f;
+      none_open = none_open_lem c.servers f;
       lines_left = omega (arith, leb-true (c.accepted + (deliveries (servers_of c) + 1)) max_accepted g);
     }

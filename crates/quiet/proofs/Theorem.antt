@@ -159,11 +159,11 @@ quiet_call_in_any_order s c is h p needed l out x k more t d =
     let y = accepted_line s c l (call p x.words) out is x.reads x.accepted in
     let (no-server, no-bucket, runs) = taken_call c p x.words (none_applies (conditions c (call p x.words)) y.free) in
     let there = server_there c p no-server in
-    let bucket = bucket_less c x.words h.some_buckets_lem no-bucket in
+    let bucket = bucket_less c x.words h.some_buckets no-bucket in
     let rounds : bucket_for c.buckets x.words < length (server_at c p).volatile.rounds = omega (arith, bucket, h.rounds p there) in
     let calls : bucket_for c.buckets x.words < length (server_at c p).volatile.calls = omega (arith, bucket, h.calls p there) in
     subst (λ a. Underway (servers_of c) (c.calls + 1) k (a ++ more) t) y.answers
-    (call_underway c p x.words h.few_servers_lem needed there runs rounds calls (step s l).state y.cluster k more t d)
+    (call_underway c p x.words h.few_servers needed there runs rounds calls (step s l).state y.cluster k more t d)
 
 -- ---- the oldest message each time
 
@@ -250,8 +250,8 @@ pub stands_shaped : {c : Cluster} {t : Tally} → Stands c t → Shaped c
 stands_shaped h =
     let w = h.within in
     record {
-      few_servers_lem = omega (arith, w.size, h.few_servers);
-      some_buckets_lem = omega (arith, w.buckets, h.some_buckets);
+      few_servers = omega (arith, w.size, h.few_servers);
+      some_buckets = omega (arith, w.buckets, h.some_buckets);
       rounds = λ q k. (all_at q (fresh_server 0 0) k w.servers).frame.rounds ∙ sym w.buckets;
       calls = λ q k. (all_at q (fresh_server 0 0) k w.servers).frame.calls ∙ sym w.buckets;
     }

@@ -32,8 +32,8 @@ deliveries n = 8 * (n - 1)
 -- what the measures give every cluster: at most 7 servers, at least one bucket, and at each server a place for the
 -- round and for the call of each bucket
 pub record Shaped (c : Cluster) : Type 0 where
-  pub few_servers_lem : servers_of c ≤ max_servers
-  pub some_buckets_lem : 1 ≤ c.buckets
+  pub few_servers : servers_of c ≤ max_servers
+  pub some_buckets : 1 ≤ c.buckets
   pub rounds : (q : ℕ) → q < servers_of c → length (server_at c q).volatile.rounds ≡ c.buckets
   pub calls : (q : ℕ) → q < servers_of c → length (server_at c q).volatile.calls ≡ c.buckets
 

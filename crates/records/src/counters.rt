@@ -7,14 +7,14 @@ use memory::offsets::{COUNT_BUCKETS, COUNT_CALLS, COUNT_LINES, COUNT_MESSAGES, C
 use memory::{CountWords, Counts};
 
 pub fn load_counts(counts: &CountWords) -> Counts
-    ensures { result ≡ counts_at (was counts) }
+    ensures { result ≡ counts_at counts.now }
 {
     counts_fields(counts)
 }
 
 // The same, with the fields written out in the contract.
 fn counts_fields(counts: &CountWords) -> Counts
-    ensures { result ≡ counts_fields (was counts) }
+    ensures { result ≡ counts_fields counts.now }
 {
     Counts {
         servers: counts[COUNT_SERVERS],

@@ -15,7 +15,7 @@ use server::measures::SERVERS;
 // The head of this server.
 pub fn load_head(heads: &HeadWords, server: usize) -> Head
     requires { server < server_room }
-    ensures { result ≡ head_at (was heads) server }
+    ensures { result ≡ head_at heads.now server }
 {
     head_fields(heads, server)
 }
@@ -23,7 +23,7 @@ pub fn load_head(heads: &HeadWords, server: usize) -> Head
 // The same, with the fields written out in the contract.
 fn head_fields(heads: &HeadWords, server: usize) -> Head
     requires { server < server_room }
-    ensures { result ≡ head_fields (was heads) server }
+    ensures { result ≡ head_fields heads.now server }
 {
     let base = server * HEAD_SIZE;
     let votes = [

@@ -17,7 +17,7 @@ use server::{Call, Round, Version};
 // The version of the copy at this slot.
 pub fn load_version(slots: &SlotWords, slot: usize) -> Version
     requires { slot < slot_room }
-    ensures { result ≡ version_at (was slots) slot }
+    ensures { result ≡ version_at slots.now slot }
 {
     version_fields(slots, slot)
 }
@@ -25,7 +25,7 @@ pub fn load_version(slots: &SlotWords, slot: usize) -> Version
 // The same, with the fields written out in the contract: so are those of each load and store below.
 fn version_fields(slots: &SlotWords, slot: usize) -> Version
     requires { slot < slot_room }
-    ensures { result ≡ version_fields (was slots) slot }
+    ensures { result ≡ version_fields slots.now slot }
 {
     let base = slot * SLOT_SIZE;
     Version {
@@ -54,14 +54,14 @@ fn version_stores(slots: &mut SlotWords, slot: usize, version: Version)
 // The open round of this slot.
 pub fn load_round(slots: &SlotWords, slot: usize) -> Round
     requires { slot < slot_room }
-    ensures { result ≡ round_at (was slots) slot }
+    ensures { result ≡ round_at slots.now slot }
 {
     round_fields(slots, slot)
 }
 
 fn round_fields(slots: &SlotWords, slot: usize) -> Round
     requires { slot < slot_room }
-    ensures { result ≡ round_fields (was slots) slot }
+    ensures { result ≡ round_fields slots.now slot }
 {
     let base = slot * SLOT_SIZE;
     let best = Version {
@@ -126,14 +126,14 @@ fn round_marks(slots: &mut SlotWords, slot: usize, marks: [u32; SERVERS])
 // The open call of this slot, without its words.
 pub fn load_call(slots: &SlotWords, slot: usize) -> Call
     requires { slot < slot_room }
-    ensures { result ≡ call_at (was slots) slot }
+    ensures { result ≡ call_at slots.now slot }
 {
     call_fields(slots, slot)
 }
 
 fn call_fields(slots: &SlotWords, slot: usize) -> Call
     requires { slot < slot_room }
-    ensures { result ≡ call_fields (was slots) slot }
+    ensures { result ≡ call_fields slots.now slot }
 {
     let base = slot * SLOT_SIZE;
     Call {

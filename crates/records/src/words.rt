@@ -17,7 +17,7 @@ use server::Words;
 // The words of the call of this slot.
 pub fn load_words(slots: &SlotWords, texts: &TextBytes, slot: usize) -> Words
     requires { slot < slot_room }
-    ensures { result ≡ words_at (was slots) (was texts) slot }
+    ensures { result ≡ words_at slots.now texts.now slot }
 {
     let numbers = numbers_fields(slots, slot);
     let base = slot * TEXT_SIZE;
@@ -35,7 +35,7 @@ pub fn load_words(slots: &SlotWords, texts: &TextBytes, slot: usize) -> Words
 
 fn numbers_fields(slots: &SlotWords, slot: usize) -> Numbers
     requires { slot < slot_room }
-    ensures { result ≡ numbers_fields (was slots) slot }
+    ensures { result ≡ numbers_fields slots.now slot }
 {
     let base = slot * SLOT_SIZE;
     Numbers {
@@ -50,7 +50,7 @@ fn numbers_fields(slots: &SlotWords, slot: usize) -> Numbers
 // A key whose eight bytes begin at this place, and a value whose sixteen do.
 fn key_from(texts: &TextBytes, at: usize, len: usize) -> Key
     requires { at + key_room ≤ slot_room * text_size }
-    ensures { result ≡ key_from (was texts) at len }
+    ensures { result ≡ key_from texts.now at len }
 {
     let mut bytes = [0u8; KEY_ROOM];
     copy_part_bytes(&mut bytes, 0, texts, at, KEY_ROOM);
@@ -59,7 +59,7 @@ fn key_from(texts: &TextBytes, at: usize, len: usize) -> Key
 
 fn value_from(texts: &TextBytes, at: usize, len: usize) -> Value
     requires { at + value_room ≤ slot_room * text_size }
-    ensures { result ≡ value_from (was texts) at len }
+    ensures { result ≡ value_from texts.now at len }
 {
     let mut bytes = [0u8; VALUE_ROOM];
     copy_part_bytes(&mut bytes, 0, texts, at, VALUE_ROOM);
@@ -79,7 +79,7 @@ fn one_less(number: usize) -> usize
 // A value by its word: none for 0, else of a length one below it.
 fn item_from(texts: &TextBytes, at: usize, word: usize) -> Item
     requires { at + value_room ≤ slot_room * text_size }
-    ensures { result ≡ item_from (was texts) at word }
+    ensures { result ≡ item_from texts.now at word }
 {
     let value = value_from(texts, at, one_less(word));
     Item {
@@ -155,14 +155,14 @@ fn store_texts(texts: &mut TextBytes, slot: usize, words: Words)
 // The bytes of a key, or of a value, are stored from this place on.
 fn put_key(texts: &mut TextBytes, at: usize, bytes: &[u8; KEY_ROOM])
     requires { at + key_room ≤ slot_room * text_size }
-    ensures { is texts ≡ paste (was texts) at (was bytes) key_room }
+    ensures { is texts ≡ paste (was texts) at bytes.now key_room }
 {
     copy_part_bytes(texts, at, bytes, 0, KEY_ROOM);
 }
 
 fn put_value(texts: &mut TextBytes, at: usize, bytes: &[u8; VALUE_ROOM])
     requires { at + value_room ≤ slot_room * text_size }
-    ensures { is texts ≡ paste (was texts) at (was bytes) value_room }
+    ensures { is texts ≡ paste (was texts) at bytes.now value_room }
 {
     copy_part_bytes(texts, at, bytes, 0, VALUE_ROOM);
 }

@@ -2,6 +2,7 @@
 // script, and its end. What a call counts is added to the lent tally.
 #![tactic(auto)]
 
+ghost use Rattle.memory.specs.Lent.{read_only};
 ghost use Rattle.views.specs.Lent.{lent};
 ghost use Rattle.feed.specs.Lent.{FeedsScript, FinishesScript};
 
@@ -33,7 +34,7 @@ pub extern "C" fn script_feed(
     input: &[u8],
     out: &mut [u8],
 ) -> usize
-    ensures { FeedsScript (lent counts heads slots copies working texts queue payloads answers) reader line tally input out result }
+    ensures { FeedsScript (lent counts heads slots copies working texts queue payloads answers) reader line tally (read_only input) out result }
 {
     let fed = feed_value(
         counts, heads, slots, copies, working, texts, queue, payloads, answers, reader, line,

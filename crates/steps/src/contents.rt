@@ -32,7 +32,7 @@ pub fn fill_work(
     table: Decoded,
 )
     requires { (slot < slot_room) × (place < message_room) }
-    ensures { is working ≡ filled_from (was working) (was copies) (was payloads) slot place (table_in table) fills }
+    ensures { is working ≡ filled_from (was working) copies.now payloads.now slot place (table_in table) fills }
 {
     if fills == FILLS_COPY {
         copy_content(working, slot, copies, slot);
@@ -58,7 +58,7 @@ pub fn keep_copy(
     keeps: u32,
 )
     requires { (slot < slot_room) × (place < message_room) }
-    ensures { is copies ≡ kept_from (was copies) (was working) (was payloads) slot place keeps }
+    ensures { is copies ≡ kept_from (was copies) working.now payloads.now slot place keeps }
 {
     if keeps == KEEPS_WORK {
         copy_content(copies, slot, working, slot);

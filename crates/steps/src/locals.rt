@@ -1,7 +1,7 @@
 // A server's head and one of its slots: stored together, and cleared when leading ends.
 ghost use Rattle.std.specs.Prelude.{◌≡◌, ◌<◌, ◌≤◌};
 ghost use Rattle.memory.specs.Layout.{server_room, bucket_room, slot_room, message_room};
-ghost use Rattle.memory.specs.Lent.{was, is};
+ghost use Rattle.memory.specs.Lent.{was, is, read_only};
 ghost use Rattle.views.specs.Changes.{is_idle, cleared_slot, cleared_slots};
 ghost use Rattle.steps.specs.Stored.{Stored, put_slot, Settled, MovesServer};
 
@@ -107,7 +107,7 @@ pub fn move_server(
     next: Move,
 )
     requires { (server < server_room) × ((bucket < bucket_room) × ((buckets ≤ bucket_room) × (place < message_room))) }
-    ensures { MovesServer heads slots copies working payloads buckets server bucket place next }
+    ensures { MovesServer heads slots copies (read_only working) (read_only payloads) buckets server bucket place next }
 {
     let slot = slot_of(server, bucket);
     keep_copy(copies, working, payloads, slot, place, next.keeps);

@@ -15,7 +15,7 @@ returns-then-is_open_call c =
     let t = ap (λ x. among 5 x.kind) c.load_call-call.ensures in
     record {
       is =
-          ap (λ x. written x (c.args.count + 1)) (c.put_answer.ensures ∙ ap (put_answer c.args.answers.now c.args.count) (c.ended.ensures.0 ∙ ap ended_of c.load_call-call.ensures))
+          ap (λ x. written x (c.args.count + 1)) (c.put_answer.ensures ∙ ap (put_answer c.args.answers.now c.args.count) (c.ended.ensures.is ∙ ap ended_of c.load_call-call.ensures))
           ∙ ended_open c.args.slots.now c.args.answers.now c.args.slot c.args.count (sym t ∙ sym c.is_open_call.ensures ∙ c.if-is_open_call.true);
       few = omega arith;
     }

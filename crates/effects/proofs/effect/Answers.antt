@@ -35,5 +35,5 @@ returns-in-4 c =
 pub returns-in_default : goal.returns-in_default
 unfolding words_by
 returns-in_default c =
-    let e : words_in c.args.words ≡ calls.keys c.args.words.bucket = rw (words_of_kind, ne_eqb _ _ c.in_default.rest.0.0.0.1, ne_eqb _ _ c.in_default.rest.0.0.1, ne_eqb _ _ c.in_default.rest.0.1, ne_eqb _ _ c.in_default.rest.1) in
+    let e : words_in c.args.words ≡ calls.keys c.args.words.bucket = rw (words_of_kind, ne_eqb _ _ c.in_default.in_default-own.rest.0.0.0.1, ne_eqb _ _ c.in_default.in_default-own.rest.0.0.1, ne_eqb _ _ c.in_default.in_default-own.rest.0.1, ne_eqb _ _ c.in_default.in_default-own.rest.1) in
     c.listing.ensures c.args.words.bucket ∙ ap (λ x. effect x (table_in c.args.table)) (sym e)

@@ -7,7 +7,9 @@ use lib.ListN.{take}
 use Rattle.entries.specs.declared.Order.{Order}
 use Rattle.entries.specs.declared.Order.TheVariants.{Before, Same, After}
 use Rattle.entries.specs.Entries.{order}
-use Rattle.entries.specs.Decoded.{value_bytes}
+use Rattle.std.specs.Prelude.{ℕ}
+use Rattle.entries.specs.declared.Value.{Value}
+use Rattle.entries.specs.Decoded.{Cut, value_bytes}
 use Rattle.entries.proofs.Comparison.{Comparing, comparing_starts, comparing_less, comparing_more, comparing_goes_on, comparing_longer, comparing_shorter, comparing_ends}
 use Rattle.entries.proofs.Views.{value_whole, value_within}
 use Rattle.table.specs.Form.{same_bytes}
@@ -17,29 +19,24 @@ abbrev is_same : Order → Bool
 is_same o = elim o [ Before ↦ false | Same ↦ true | After ↦ false ]
 
 -- what the comparison finds is found of the values
-found : (c : tie.At-loop invariant-loop decreases-loop) (o : Order) → order (take c.before.before.before.before.value-length.result c.before.before.before.before.before.args.a.bytes) (take c.before.before.before.value-length2.result c.before.before.before.before.before.args.b.bytes) ≡ o → is_same o ≡ same_bytes (value_bytes c.before.before.before.before.before.args.a) (value_bytes c.before.before.before.before.before.args.b)
+found : (a b : Value) (m n : ℕ) → Cut 16 (value_bytes a) m → Cut 16 (value_bytes b) n → (o : Order) → order (take m a.bytes) (take n b.bytes) ≡ o → is_same o ≡ same_bytes (value_bytes a) (value_bytes b)
 unfolding same_bytes
-found c o e =
-    let a = c.before.before.before.before.before.args in
-    ap is_same
-    (sym e
-    ∙ ap₂ order (value_whole a.a c.before.before.before.before.value-length.ensures)
-    (value_whole a.b c.before.before.before.value-length2.ensures))
+found a b m n x y o e = ap is_same (sym e ∙ ap₂ order (value_whole a x) (value_whole b y))
 
 pub loop-i-init : goal.loop-i-init
 loop-i-init c = comparing_starts (value_within c.args.a c.value_length-a_len.ensures) (value_within c.args.b c.value_length-b_len.ensures)
 
 pub returns-then-b_len-i : goal.returns-then-b_len-i
-returns-then-b_len-i c = found c After (comparing_longer c.loop-i.invariant c.loop-i-test.true c.if-b_len-i.true)
+returns-then-b_len-i c = found _ _ _ _ c.value_length-a_len.ensures c.value_length-b_len.ensures After (comparing_longer c.loop-i.invariant c.loop-i-test.true c.if-b_len-i.true)
 
 pub returns-then-a_bytes-i : goal.returns-then-a_bytes-i
 returns-then-a_bytes-i c =
-    found c Before
+    found _ _ _ _ c.value_length-a_len.ensures c.value_length-b_len.ensures Before
     (comparing_less c.loop-i.invariant c.loop-i-test.true c.if-b_len-i.false c.if-a_bytes-i.true)
 
 pub returns-then-b_bytes-i : goal.returns-then-b_bytes-i
 returns-then-b_bytes-i c =
-    found c After
+    found _ _ _ _ c.value_length-a_len.ensures c.value_length-b_len.ensures After
     (comparing_more c.loop-i.invariant c.loop-i-test.true c.if-b_len-i.false c.if-b_bytes-i.true)
 
 pub loop-i-preserved : goal.loop-i-preserved
@@ -48,7 +45,7 @@ loop-i-preserved c =
     c.if-a_bytes-i.false
 
 pub returns-then-a_len-b_len : goal.returns-then-a_len-b_len
-returns-then-a_len-b_len c = found c Before (comparing_shorter c.loop-i.invariant c.loop-i-test.false (search rules))
+returns-then-a_len-b_len c = found _ _ _ _ c.value_length-a_len.ensures c.value_length-b_len.ensures Before (comparing_shorter c.loop-i.invariant c.loop-i-test.false (search rules))
 
 pub returns-else-a_len-b_len : goal.returns-else-a_len-b_len
-returns-else-a_len-b_len c = found c Same (comparing_ends c.loop-i.invariant c.loop-i-test.false (search rules))
+returns-else-a_len-b_len c = found _ _ _ _ c.value_length-a_len.ensures c.value_length-b_len.ensures Same (comparing_ends c.loop-i.invariant c.loop-i-test.false (search rules))

@@ -12,17 +12,13 @@ use Rattle.effects.proofs.setting_if.Goals as goal
 pub returns-then-same_item : goal.returns-then-same_item
 unfolding effect
 returns-then-same_item c =
-    let k = c in
-    let a = k.before.before.args in
-    let test : same_value (value_of (key_bytes a.key) (table_in a.table)) (item_in a.expected) ≡ true =
-    sym (ap (λ l. same_value l (item_in a.expected)) k.before.find.ensures) ∙ sym k.same_item.ensures ∙ c.if-same_item.true in
+    let test : same_value (value_of (key_bytes c.args.key) (table_in c.args.table)) (item_in c.args.expected) ≡ true =
+    sym (ap (λ l. same_value l (item_in c.args.expected)) c.find-present.ensures) ∙ sym c.same_item.ensures ∙ c.if-same_item.true in
     rw (effect, test) c.setting.ensures
 
 pub returns : goal.returns
 unfolding effect effect_in result_in
 returns c =
-    let k = c in
-    let a = k.before.before.args in
-    let test : same_value (value_of (key_bytes a.key) (table_in a.table)) (item_in a.expected) ≡ false =
-    sym (ap (λ l. same_value l (item_in a.expected)) k.before.find.ensures) ∙ sym k.same_item.ensures ∙ c.if-same_item.false in
+    let test : same_value (value_of (key_bytes c.args.key) (table_in c.args.table)) (item_in c.args.expected) ≡ false =
+    sym (ap (λ l. same_value l (item_in c.args.expected)) c.find-present.ensures) ∙ sym c.same_item.ensures ∙ c.if-same_item.false in
     rw (effect, test)

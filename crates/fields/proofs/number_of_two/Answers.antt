@@ -1,6 +1,7 @@
 -- `number_of_two` meets its contract.
-use Rattle.std.proofs.Common.{arith}
+use native.Mathlib.Omega.{arith}
 use Rattle.fields.specs.Form.{number}
+use borrow.Author.Rules.{rules}
 use Rattle.fields.proofs.number_of_two.Goals as goal
 
 pub returns : goal.returns

@@ -3,4 +3,4 @@ use Rattle.std.proofs.Common.{rules}
 use Rattle.machine_carrying.proofs.next_counts.Goals as goal
 
 pub returns : goal.returns
-returns c = rw c.wrapping_add_u32-lines.ensures
+returns c = rw c.wrapping_add_u32-lines.ensures.value

@@ -8,4 +8,4 @@ use Rattle.open_calls.proofs.ended.Goals as goal
 pub returns : goal.returns
 returns c =
     let is : answer_with c.args.call c.ended_as-result.result ≡ ended_of c.args.call = ap (answer_with c.args.call) c.ended_as-result.ensures in
-    (is, λ words v t. ap (λ r. answer_in r v t) is ∙ ended_means c.args.call words v t)
+    record { is = is; means = λ words v t. ap (λ r. answer_in r v t) is ∙ ended_means c.args.call words v t }

@@ -7,5 +7,5 @@ use Rattle.open_calls.proofs.next_version.Goals as goal
 
 pub returns : goal.returns
 returns c =
-    let is : version_of c.args.number c.wrapping_add_u32.result ≡ next_version_of c.args.number c.args.version = ap (version_of c.args.number) c.wrapping_add_u32.ensures in
-    (is, λ b s low e h. ap version_in is ∙ next_version_means c.args.number b c.args.version s low e h)
+    let is : version_of c.args.number c.wrapping_add_u32.result ≡ next_version_of c.args.number c.args.version = ap (version_of c.args.number) c.wrapping_add_u32.ensures.value in
+    record { is = is; means = λ b s low e h. ap version_in is ∙ next_version_means c.args.number b c.args.version s low e h }

@@ -3,4 +3,4 @@ use borrow.Author.Rules.{rules}
 use Rattle.moves.proofs.leading.after_broadcast.Goals as goal
 
 pub returns : goal.returns
-returns c = rw (c.one_more-call.ensures.0, c.new_round-round.ensures.0, c.opened-head.ensures.0)
+returns c = rw (c.one_more-call.ensures.is, c.new_round-round.ensures.is, c.opened-head.ensures.is)

@@ -7,8 +7,7 @@ use Rattle.moves.proofs.leading.alone_move.Goals as goal
 pub returns-then-res-eq-NO_RESULT : goal.returns-then-res-eq-NO_RESULT
 unfolding alone_move finished_move
 returns-then-res-eq-NO_RESULT c =
-    let k = c in
-    rw (alone_move, eq-eqb _ _ k.before.if1.true, c.finished_move-next.ensures, c.own_write_move-written.ensures, k.ready-alone.ensures)
+    rw (alone_move, eq-eqb _ _ c.if-res-eq-NO_RESULT.true, c.finished_move-next.ensures, c.own_write_move-written.ensures, c.ready_alone.ensures)
 
 pub returns : goal.returns
 unfolding alone_move

@@ -16,11 +16,9 @@ returns-then-round-eq-RECOVERY_WRITE c =
 pub returns-then-round-eq-CHECK : goal.returns-then-round-eq-CHECK
 unfolding closed_move
 returns-then-round-eq-CHECK c =
-    let k = c in
-    rw (closed_move, ne_eqb _ _ k.before.before.if1.false, ne_eqb _ _ k.if2.false, eq-eqb _ _ c.if-round-eq-CHECK.true) c.after_read_move.ensures
+    rw (closed_move, ne_eqb _ _ c.if-round-eq-RECOVERY_READ.false, ne_eqb _ _ c.if-round-eq-RECOVERY_WRITE.false, eq-eqb _ _ c.if-round-eq-CHECK.true) c.after_read_move.ensures
 
 pub returns : goal.returns
 unfolding closed_move
 returns c =
-    let k = c in
-    rw (closed_move, ne_eqb _ _ k.before.before.if1.false, ne_eqb _ _ k.if2.false, ne_eqb _ _ c.if-round-eq-CHECK.false) c.finished_move.ensures
+    rw (closed_move, ne_eqb _ _ c.if-round-eq-RECOVERY_READ.false, ne_eqb _ _ c.if-round-eq-RECOVERY_WRITE.false, ne_eqb _ _ c.if-round-eq-CHECK.false) c.finished_move.ensures

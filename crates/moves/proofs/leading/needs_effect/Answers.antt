@@ -11,9 +11,7 @@ returns-then-servers-le1 c = rw (needs_effect, le-leb _ _ c.if-servers-le1.true)
 
 pub returns-then-recovered : goal.returns-then-recovered
 unfolding needs_effect
-returns-then-recovered c =
-    let k = c in
-    rw (needs_effect, lt-leb _ _ k.before.if1.false, sym k.recovered.ensures ∙ c.if-recovered.true) c.may_write.ensures
+returns-then-recovered c = rw (needs_effect, lt-leb _ _ c.if-servers-le1.false, sym c.recovered.ensures ∙ c.if-recovered.true) c.may_write.ensures
 
 pub returns : goal.returns
 unfolding needs_effect

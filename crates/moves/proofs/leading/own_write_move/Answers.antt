@@ -3,4 +3,4 @@ use borrow.Author.Rules.{rules}
 use Rattle.moves.proofs.leading.own_write_move.Goals as goal
 
 pub returns : goal.returns
-returns c = rw (c.writing_move.ensures, c.next_version-next.ensures.0)
+returns c = rw (c.writing_move.ensures, c.next_version-next.ensures.is)

@@ -10,6 +10,4 @@ returns-then-recovered c = rw (recovered_alone, sym c.recovered.ensures ∙ c.if
 
 pub returns : goal.returns
 unfolding recovered_alone
-returns c =
-    let k = c in
-    rw (recovered_alone, sym k.before.recovered.ensures ∙ k.if1.false, c.recovery_move-written.ensures, c.reading_move-read.ensures)
+returns c = rw (recovered_alone, sym c.recovered.ensures ∙ c.if-recovered.false, c.recovery_move-written.ensures, c.reading_move-read.ensures)

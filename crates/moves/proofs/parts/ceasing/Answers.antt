@@ -3,4 +3,4 @@ use borrow.Author.Rules.{rules}
 use Rattle.moves.proofs.parts.ceasing.Goals as goal
 
 pub returns : goal.returns
-returns c = rw (c.with_head-follower.ensures, c.ceased.ensures.0)
+returns c = rw (c.with_head-follower.ensures, c.ceased.ensures.is)

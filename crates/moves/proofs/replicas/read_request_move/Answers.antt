@@ -3,4 +3,4 @@ use borrow.Author.Rules.{rules}
 use Rattle.moves.proofs.replicas.read_request_move.Goals as goal
 
 pub returns : goal.returns
-returns c = rw (c.sending.ensures, c.with_head.ensures, c.voting-voted.ensures.0)
+returns c = rw (c.sending.ensures, c.with_head.ensures, c.voting-voted.ensures.is)

@@ -6,12 +6,8 @@ use Rattle.moves.proofs.replicas.request_move.Goals as goal
 
 pub returns-then-may_accept : goal.returns-then-may_accept
 unfolding request_move
-returns-then-may_accept c =
-    let k = c in
-    rw (request_move, sym k.before.may-accept.ensures ∙ k.if1.true, c.stepped_down.ensures, c.accepted_move.ensures)
+returns-then-may_accept c = rw (request_move, sym c.may_accept.ensures ∙ c.if-may_accept.true, c.stepped_down.ensures, c.accepted_move.ensures)
 
 pub returns : goal.returns
 unfolding request_move
-returns c =
-    let k = c in
-    rw (request_move, sym k.before.may-accept.ensures ∙ k.if1.false, c.plain.ensures, c.chosen.ensures)
+returns c = rw (request_move, sym c.may_accept.ensures ∙ c.if-may_accept.false, c.plain.ensures, c.chosen.ensures)

@@ -7,14 +7,11 @@ use Rattle.moves.proofs.replicas.stepped_down.Goals as goal
 pub returns-then-must_step_down : goal.returns-then-must_step_down
 unfolding stepped_down
 returns-then-must_step_down c =
-    let k = c in
-    rw (stepped_down, sym k.before.role-acts.ensures ∙ k.if1.true, sym c.must_step_down.ensures ∙ c.if-must_step_down.true) c.ceasing.ensures
+    rw (stepped_down, sym c.role_acts.ensures ∙ c.if-role_acts.true, sym c.must_step_down.ensures ∙ c.if-must_step_down.true) c.ceasing.ensures
 
 pub returns-then-role_acts : goal.returns-then-role_acts
 unfolding stepped_down
-returns-then-role_acts c =
-    let k = c in
-    rw (stepped_down, sym k.before.role-acts.ensures ∙ k.if1.true, sym c.must_step_down.ensures ∙ c.if-must_step_down.false)
+returns-then-role_acts c = rw (stepped_down, sym c.role_acts.ensures ∙ c.if-role_acts.true, sym c.must_step_down.ensures ∙ c.if-must_step_down.false)
 
 pub returns : goal.returns
 unfolding stepped_down

@@ -5,6 +5,4 @@ use Rattle.moves.proofs.replicas.vote_move.Goals as goal
 
 pub returns : goal.returns
 unfolding vote_move
-returns c =
-    let k = c in
-    rw (c.stepped_down.ensures, c.headed.ensures, k.after-vote.ensures.0, k.before.chosen.ensures, k.before.before.grants.ensures)
+returns c = rw (c.stepped_down.ensures, c.headed.ensures, c.after_vote-voted.ensures.is, c.chosen-kind.ensures, c.grants.ensures)

@@ -11,8 +11,7 @@ returns-then-kind-eq-PLEASE_VOTE c = rw (voting_move, eq-eqb _ _ c.if-kind-eq-PL
 pub returns-then-kind-eq-ACK_VOTE : goal.returns-then-kind-eq-ACK_VOTE
 unfolding voting_move
 returns-then-kind-eq-ACK_VOTE c =
-    let k = c in
-    rw (voting_move, ne_eqb _ _ k.before.if1.false, eq-eqb _ _ k.if2.true, c.headed.ensures, c.on_ack_vote-head.ensures.0)
+    rw (voting_move, ne_eqb _ _ c.if-kind-eq-PLEASE_VOTE.false, eq-eqb _ _ c.if-kind-eq-ACK_VOTE.true, c.headed.ensures, c.on_ack_vote-head.ensures.is)
 
 pub returns : goal.returns
 unfolding voting_move

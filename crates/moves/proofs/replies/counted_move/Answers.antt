@@ -7,8 +7,7 @@ use Rattle.moves.proofs.replies.counted_move.Goals as goal
 pub returns-then-closes : goal.returns-then-closes
 unfolding counted_move
 returns-then-closes c =
-    let k = c in
-    rw (counted_move, sym k.before.closes.ensures ∙ k.if1.true, c.fetching.ensures, c.closed_move-next.ensures, c.with_round.ensures)
+    rw (counted_move, sym c.closes.ensures ∙ c.if-closes.true, c.fetching.ensures, c.closed_move-next.ensures, c.with_round.ensures)
 
 pub returns : goal.returns
 unfolding counted_move

@@ -8,12 +8,8 @@ use Rattle.moves.proofs.replies.reply_move.Goals as goal
 pub returns-then-matches : goal.returns-then-matches
 unfolding reply_move
 returns-then-matches c =
-    let k = c in
-    let a = k.before.args in
-    rw (reply_move, sym (k.matches.ensures a.servers []) ∙ c.if-matches.true, c.counted_move.ensures, c.counted-after.ensures.0)
+    rw (reply_move, sym (c.matches.ensures c.args.servers []) ∙ c.if-matches.true, c.counted_move.ensures, c.counted-after.ensures.is)
 
 pub returns : goal.returns
 unfolding reply_move
-returns c =
-    let k = c in
-    rw (reply_move, sym (k.matches.ensures k.before.args.servers []) ∙ c.if-matches.false) c.quiet.ensures
+returns c = rw (reply_move, sym (c.matches.ensures c.args.servers []) ∙ c.if-matches.false) c.quiet.ensures

@@ -7,6 +7,4 @@ pub returns-then-fails : goal.returns-then-fails
 returns-then-fails c = rw (sym c.fails.ensures ∙ c.if-fails.true) c.ceased_move.ensures
 
 pub returns : goal.returns
-returns c =
-    let k = c in
-    rw (sym k.before.fails.ensures ∙ k.if1.false, c.fetching.ensures, c.quiet.ensures, c.with_round.ensures)
+returns c = rw (sym c.fails.ensures ∙ c.if-fails.false, c.fetching.ensures, c.quiet.ensures, c.with_round.ensures)

@@ -5,4 +5,4 @@ use Rattle.moves.proofs.roles.elected_move.Goals as goal
 
 pub returns : goal.returns
 unfolding elected_move
-returns c = rw (c.headed-next.ensures, c.elected.ensures.0)
+returns c = rw (c.headed-next.ensures, c.elected.ensures.is)

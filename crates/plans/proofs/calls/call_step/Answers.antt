@@ -3,4 +3,4 @@ use Rattle.std.proofs.Common.{rules}
 use Rattle.plans.proofs.calls.call_step.Goals as goal
 
 pub returns : goal.returns
-returns c = rw (c.wrapping_add_u32.ensures, c.no_message.ensures)
+returns c = rw (c.wrapping_add_u32.ensures.value, c.no_message.ensures)

@@ -11,31 +11,25 @@ use Rattle.rounds.specs.Rounds.{is_silent, pick_version, pick_table, counted_wit
 use Rattle.rounds.proofs.RoundLaws.{counted_means}
 use Rattle.rounds.proofs.replies.counted.Goals as goal
 
-told : (n q mark : ℕ) (report : Version) (r : Round) (k : Counted) → k ≡ counted_of n q mark report r → (k ≡ counted_of n q mark report r) × ((t u : List Entry) → open_in n k.round (pick_table k.better u t) ≡ counted q (mark_in mark) (copy_in report u) (open_in n r t))
-told n q mark report r k is = (is, λ t u. ap (λ x. open_in n x.round (pick_table x.better u t)) is ∙ counted_means n q mark report r t u)
+told : (n q mark : ℕ) (report : Version) (r : Round) (k : Counted) → k ≡ counted_of n q mark report r → (t u : List Entry) → open_in n k.round (pick_table k.better u t) ≡ counted q (mark_in mark) (copy_in report u) (open_in n r t)
+told n q mark report r k is t u = ap (λ x. open_in n x.round (pick_table x.better u t)) is ∙ counted_means n q mark report r t u
 
 pub returns-then-is_silent : goal.returns-then-is_silent
 unfolding counted_of
 returns-then-is_silent c =
-    let k = c in
-    let a = k.before.before.before.before.args in
-    let r = a.round in
-    let test : is_silent (mark_in (get_or (take a.servers r.marks) a.sender 2)) ≡ true =
-    sym (ap (λ m. is_silent (mark_in m)) k.before.place_at.ensures) ∙ sym k.is-silent.ensures ∙ c.if-is_silent.true in
-    let is : counted_with r c.placed-next.result c.pick_version-best.result c.improves-better.result ≡ counted_of a.servers a.sender a.mark a.report r =
+    let test : is_silent (mark_in (get_or (take c.args.servers c.args.round.marks) c.args.sender 2)) ≡ true =
+    sym (ap (λ m. is_silent (mark_in m)) c.place_at.ensures) ∙ sym c.is_silent.ensures ∙ c.if-is_silent.true in
+    let is : counted_with c.args.round c.placed-next.result c.pick_version-best.result c.improves-better.result ≡ counted_of c.args.servers c.args.sender c.args.mark c.args.report c.args.round =
     rw (counted_of, test)
-    (ap₂ (λ l v. counted_with r l v c.improves-better.result) c.placed-next.ensures c.pick_version-best.ensures
-    ∙ ap (λ z. counted_with r (set r.marks a.sender a.mark) (pick_version z a.report r.best) z) c.improves-better.ensures) in
-    told a.servers a.sender a.mark a.report r _ is
+    (ap₂ (λ l v. counted_with c.args.round l v c.improves-better.result) c.placed-next.ensures c.pick_version-best.ensures
+    ∙ ap (λ z. counted_with c.args.round (set c.args.round.marks c.args.sender c.args.mark) (pick_version z c.args.report c.args.round.best) z) c.improves-better.ensures) in
+    record { is = is; means = told c.args.servers c.args.sender c.args.mark c.args.report c.args.round _ is }
 
 pub returns : goal.returns
 unfolding counted_of
 returns c =
-    let k = c in
-    let a = k.before.before.before.before.args in
-    let r = a.round in
-    let test : is_silent (mark_in (get_or (take a.servers r.marks) a.sender 2)) ≡ false =
-    sym (ap (λ m. is_silent (mark_in m)) k.before.place_at.ensures) ∙ sym k.is-silent.ensures ∙ c.if-is_silent.false in
-    let same : Counted = record { round = r; better = false } in
-    let is : same ≡ counted_of a.servers a.sender a.mark a.report r = rw (counted_of, test) in
-    told a.servers a.sender a.mark a.report r _ is
+    let test : is_silent (mark_in (get_or (take c.args.servers c.args.round.marks) c.args.sender 2)) ≡ false =
+    sym (ap (λ m. is_silent (mark_in m)) c.place_at.ensures) ∙ sym c.is_silent.ensures ∙ c.if-is_silent.false in
+    let same : Counted = record { round = c.args.round; better = false } in
+    let is : same ≡ counted_of c.args.servers c.args.sender c.args.mark c.args.report c.args.round = rw (counted_of, test) in
+    record { is = is; means = told c.args.servers c.args.sender c.args.mark c.args.report c.args.round _ is }

@@ -6,18 +6,15 @@ use Rattle.rounds.proofs.replies.matches.Goals as goal
 
 pub returns-then-election-current : goal.returns-then-election-current
 returns-then-election-current c n t =
-    let k = c in
-    let live : among 4 k.before.args.current.purpose ≡ true = sym k.is_open.ensures ∙ c.if-is_open.true in
-    rw (matching_open n k.before.args.current t k.before.args.election k.before.args.round live, eq-eqb _ _ c.if-election-current.true)
+    let live : among 4 c.args.current.purpose ≡ true = sym c.is_open.ensures ∙ c.if-is_open.true in
+    rw (matching_open n c.args.current t c.args.election c.args.round live, eq-eqb _ _ c.if-election-current.true)
 
 pub returns-else-election-current : goal.returns-else-election-current
 returns-else-election-current c n t =
-    let k = c in
-    let live : among 4 k.before.args.current.purpose ≡ true = sym k.is_open.ensures ∙ c.if-is_open.true in
-    rw (matching_open n k.before.args.current t k.before.args.election k.before.args.round live, ne_eqb _ _ c.if-election-current.false)
+    let live : among 4 c.args.current.purpose ≡ true = sym c.is_open.ensures ∙ c.if-is_open.true in
+    rw (matching_open n c.args.current t c.args.election c.args.round live, ne_eqb _ _ c.if-election-current.false)
 
 pub returns-else-is_open : goal.returns-else-is_open
 returns-else-is_open c n t =
-    let k = c in
-    let shut : among 4 k.before.args.current.purpose ≡ false = sym k.is_open.ensures ∙ c.if-is_open.false in
-    sym (matching_shut n k.before.args.current t k.before.args.election k.before.args.round shut)
+    let shut : among 4 c.args.current.purpose ≡ false = sym c.is_open.ensures ∙ c.if-is_open.false in
+    sym (matching_shut n c.args.current t c.args.election c.args.round shut)

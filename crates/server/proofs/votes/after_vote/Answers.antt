@@ -8,11 +8,11 @@ use Rattle.server.proofs.votes.after_vote.Goals as goal
 pub returns-then-head-election : goal.returns-then-head-election
 unfolding after_vote_head
 returns-then-head-election c =
-    let is : c.voting.result ≡ after_vote_head c.args.election c.args.leader c.args.head = rw (after_vote_head, lt-ltb _ _ c.if-head-election.true) c.voting.ensures.0 in
-    (is, λ n x. ap (λ h. server_in n x h) is ∙ after_vote_means c.args.election c.args.leader n x c.args.head)
+    let is : c.voting.result ≡ after_vote_head c.args.election c.args.leader c.args.head = rw (after_vote_head, lt-ltb _ _ c.if-head-election.true) c.voting.ensures.is in
+    record { is = is; means = λ n x. ap (λ h. server_in n x h) is ∙ after_vote_means c.args.election c.args.leader n x c.args.head }
 
 pub returns : goal.returns
 unfolding after_vote_head
 returns c =
     let is : c.args.head ≡ after_vote_head c.args.election c.args.leader c.args.head = rw (after_vote_head, le-ltb _ _ c.if-head-election.false) in
-    (is, λ n x. ap (λ h. server_in n x h) is ∙ after_vote_means c.args.election c.args.leader n x c.args.head)
+    record { is = is; means = λ n x. ap (λ h. server_in n x h) is ∙ after_vote_means c.args.election c.args.leader n x c.args.head }

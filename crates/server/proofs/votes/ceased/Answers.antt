@@ -5,4 +5,4 @@ use Rattle.server.proofs.HeadLaws.{ceased_means}
 use Rattle.server.proofs.votes.ceased.Goals as goal
 
 pub returns : goal.returns
-returns c = (refl, λ n x. ceased_means n x c.args.head c.well_formed.0.1.1.1.1.1.1.1.1.0.1.0.1)
+returns c = record { is = refl; means = λ n x. ceased_means n x c.args.head c.well_formed.0.1.1.1.1.1.1.1.1.0.1.0.1 }

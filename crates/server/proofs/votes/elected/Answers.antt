@@ -11,8 +11,8 @@ unfolding elected_head
 returns c =
     let s = c in
     let a = s.args in
-    let given = c.voting-after.ensures.0 ∙ ap₂ (λ k h. voting_head k a.me h) c.next_number-election.ensures c.ceased.ensures.0 in
+    let given = c.voting-after.ensures.is ∙ ap₂ (λ k h. voting_head k a.me h) c.next_number-election.ensures c.ceased.ensures.is in
     let voted = c.voted.ensures ∙ ap₂ (λ k h. voted_head a.me (with_number k h)) c.next_number-election.ensures given in
-    let is : c.standing.result ≡ elected_head a.servers a.me a.head = c.standing.ensures.0 ∙ ap (standing_head a.servers) voted in
-    let seven : length a.head.votes ≡ 7 = simp length-map at s.well_formed_lem.1.1.0.1.1.1.1.1.1.1.1.0.1.0.1 in
-    (is, λ x low. ap (λ h. server_in a.servers (idle x) h) is ∙ elected_means a.servers a.me x a.head seven low)
+    let is : c.standing.result ≡ elected_head a.servers a.me a.head = c.standing.ensures.is ∙ ap (standing_head a.servers) voted in
+    let seven : length a.head.votes ≡ 7 = s.well_formed.1.1.0.1.1.1.1.1.1.1.1.0.1.0.1 in
+    record { is = is; means = λ x low. ap (λ h. server_in a.servers (idle x) h) is ∙ elected_means a.servers a.me x a.head seven low }

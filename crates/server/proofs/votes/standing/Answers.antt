@@ -10,4 +10,4 @@ pub returns : goal.returns
 returns c =
     let role : c.role_by.result ≡ role_by c.args.servers (votes_for (votes_in c.args.servers c.args.head)) = c.role_by.ensures ∙ ap (role_by c.args.servers) c.votes_for.ensures in
     let is = ap (λ k. with_role k c.args.head) role in
-    (is, λ x. ap (λ h. volatile_in c.args.servers h x.rounds x.calls) is ∙ standing_means c.args.servers x c.args.head)
+    record { is = is; means = λ x. ap (λ h. volatile_in c.args.servers h x.rounds x.calls) is ∙ standing_means c.args.servers x c.args.head }

@@ -8,9 +8,7 @@ use Rattle.server_requests.proofs.replies.count_reply.Goals as goal
 pub returns-then-matches : goal.returns-then-matches
 unfolding count_reply
 returns-then-matches c =
-    let k = c in
-    let a = k.before.before.args in
-    rw (count_reply, sym (k.before.matches.ensures a.servers []) ∙ k.if1.true, c.replied_with.ensures, c.counted-after.ensures.0, c.pick_version-report.ensures, c.no_version.ensures)
+    rw (count_reply, sym (c.matches.ensures c.args.servers []) ∙ c.if-matches.true, c.replied_with.ensures, c.counted-after.ensures.is, c.pick_version-report.ensures, c.no_version.ensures)
 
 pub returns : goal.returns
 unfolding count_reply

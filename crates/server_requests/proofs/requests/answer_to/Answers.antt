@@ -16,4 +16,4 @@ returns-in-4 c = rw (answer_to, ap (λ k. eqb k 1) c.in-4.is, ap (λ k. eqb k 4)
 
 pub returns-in_default : goal.returns-in_default
 unfolding answer_to
-returns-in_default c = rw (answer_to, ne_eqb _ _ c.in_default.rest.0.1, ne_eqb _ _ c.in_default.rest.1) c.read_answer.ensures
+returns-in_default c = rw (answer_to, ne_eqb _ _ c.in_default.in_default-own.rest.0.1, ne_eqb _ _ c.in_default.in_default-own.rest.1) c.read_answer.ensures

@@ -11,5 +11,4 @@ returns-then-seat-message c = rw (vote_answer, lt-ltb _ _ c.if-seat-message.true
 pub returns : goal.returns
 unfolding vote_answer
 returns c =
-    let k = c in
-    rw (vote_answer, le-ltb _ _ k.before.if1.false, c.left_answer.ensures, c.steps_down.ensures, c.chosen-kind.ensures, k.has-vote.ensures)
+    rw (vote_answer, le-ltb _ _ c.if-seat-message.false, c.left_answer.ensures, c.steps_down.ensures, c.chosen-kind.ensures, c.has_vote.ensures)
