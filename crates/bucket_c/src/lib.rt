@@ -1,4 +1,4 @@
-// The calls on bucket bytes for programs in other languages: numbers and slices only.
+// The calls on bucket bytes for programs in other languages: numbers and slices only. Crate `bucket_c_c` exports them.
 #![tactic(auto)]
 
 ghost use Rattle.std.specs.Prelude.{◌≡◌, ◌≤◌, ◌<◌, ◌+◌, ◌*◌, length, get_or};
@@ -64,8 +64,7 @@ fn change_number(change: Change) -> u32
 }
 
 // 0 where the bytes are a bucket, 13 else.
-#[unsafe(no_mangle)]
-pub extern "C" fn bucket_read(bucket: &[u8]) -> u32
+pub fn bucket_read(bucket: &[u8]) -> u32
     ensures { result ≡ read_number 4 16 bucket.now }
 {
     let reading = read(bucket);
@@ -137,8 +136,7 @@ pub fn table_from(count: usize, lengths: &[u8], bytes: &[u8]) -> Decoded
 
 // The form of a table of `count` entries. Entry i has its key's length at 2i of `lengths` and its value's at 2i + 1, its key
 // at 24i of `bytes` and its value at 24i + 8; missing bytes are 0.
-#[unsafe(no_mangle)]
-pub extern "C" fn bucket_write(count: usize, lengths: &[u8], bytes: &[u8], out: &mut [u8]) -> u32
+pub fn bucket_write(count: usize, lengths: &[u8], bytes: &[u8], out: &mut [u8]) -> u32
     ensures { numbered result out.new ≡ write_of (table_from count lengths.now bytes.now) out.old }
 {
     let table = table_from(count, lengths, bytes);
@@ -160,8 +158,7 @@ fn put_found(value: Value, out: &mut [u8]) -> u32
 
 // The value of a key, written to `out`: its length, 254 where the key is absent, 113 where the bucket is refused, 115 where
 // `out` is too short.
-#[unsafe(no_mangle)]
-pub extern "C" fn bucket_get(bucket: &[u8], key: &[u8], out: &mut [u8]) -> u32
+pub fn bucket_get(bucket: &[u8], key: &[u8], out: &mut [u8]) -> u32
     ensures { numbered result out.new ≡ get_of bucket.now key.now out.old }
 {
     let found = look_up(bucket, key);
@@ -179,8 +176,7 @@ pub extern "C" fn bucket_get(bucket: &[u8], key: &[u8], out: &mut [u8]) -> u32
 }
 
 // A key's new value, which may have no bytes: 0, or 255 where there is no room, or 13.
-#[unsafe(no_mangle)]
-pub extern "C" fn bucket_put(bucket: &mut [u8], key: &[u8], value: &[u8]) -> u32
+pub fn bucket_put(bucket: &mut [u8], key: &[u8], value: &[u8]) -> u32
     ensures { numbered result bucket.new ≡ put_of bucket.old key.now value.now }
 {
     let change = put(bucket, key, value);
@@ -188,8 +184,7 @@ pub extern "C" fn bucket_put(bucket: &mut [u8], key: &[u8], value: &[u8]) -> u32
 }
 
 // The bucket without a key: 0 or 13.
-#[unsafe(no_mangle)]
-pub extern "C" fn bucket_remove(bucket: &mut [u8], key: &[u8]) -> u32
+pub fn bucket_remove(bucket: &mut [u8], key: &[u8]) -> u32
     ensures { numbered result bucket.new ≡ remove_of bucket.old key.now }
 {
     let outcome = remove(bucket, key);
@@ -236,8 +231,7 @@ fn put_keys(out: &mut [u8], listing: Listing) -> u32
 
 // All keys, rising, each behind its length, written to `out`: how many they are, 113 where the bucket is refused, 115 where
 // they do not fit. 36 bytes are room enough for any bucket's keys.
-#[unsafe(no_mangle)]
-pub extern "C" fn bucket_keys(bucket: &[u8], out: &mut [u8]) -> u32
+pub fn bucket_keys(bucket: &[u8], out: &mut [u8]) -> u32
     ensures { numbered result out.new ≡ keys_out bucket.now out.old }
 {
     let listing = list_keys(bucket);

@@ -1,4 +1,4 @@
-// The calls on datagrams for programs in other languages: numbers and slices only.
+// The calls on datagrams for programs in other languages: numbers and slices only. Crate `datagram_c_c` exports them.
 #![tactic(auto)]
 
 ghost use Rattle.std.specs.Prelude.{◌≡◌};
@@ -36,8 +36,7 @@ fn written_number(written: Written) -> u32
 }
 
 // 0 where the bytes are a datagram, else 13 or 14.
-#[unsafe(no_mangle)]
-pub extern "C" fn datagram_read(bytes: &[u8]) -> u32
+pub fn datagram_read(bytes: &[u8]) -> u32
     ensures { result ≡ parsed_number (read_datagram bytes.now) }
 {
     let reading = read(bytes);
@@ -46,8 +45,7 @@ pub extern "C" fn datagram_read(bytes: &[u8]) -> u32
 }
 
 // What is read is written to `out`: 0, else 13 or 14, else 15 where `out` is shorter than its 10 or 129 bytes.
-#[unsafe(no_mangle)]
-pub extern "C" fn datagram_rewrite(bytes: &[u8], out: &mut [u8]) -> u32
+pub fn datagram_rewrite(bytes: &[u8], out: &mut [u8]) -> u32
     ensures { numbered result out.new ≡ rewritten (read_datagram bytes.now) out.old }
 {
     let reading = read(bytes);
@@ -65,8 +63,7 @@ pub extern "C" fn datagram_rewrite(bytes: &[u8], out: &mut [u8]) -> u32
 
 // A datagram of numbers, with a table of `count` entries, whose lengths and bytes stand in two slices as for `bucket_write`:
 // 0, else 13 or 14, else 15 where `out` is shorter than its 10 or 129 bytes.
-#[unsafe(no_mangle)]
-pub extern "C" fn datagram_write(
+pub fn datagram_write(
     kind: u8,
     from: u8,
     to: u8,

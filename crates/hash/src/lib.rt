@@ -1,5 +1,5 @@
 // The FNV-1a hash of a key, 32 bits wide, and the bucket that it puts the key in.
-// The two public functions are exported for Rust and C: a slice is passed as pointer and length.
+// Crate `hash_c` exports the two public functions for C.
 #![tactic(auto)]
 
 ghost use Rattle.std.specs.Prelude.{◌≡◌, ◌*◌, ◌%◌, ◌^◌};
@@ -28,8 +28,7 @@ fn fnv_byte(hash: u32, byte: u8) -> u32
 }
 
 // The hash of a key.
-#[unsafe(no_mangle)]
-pub extern "C" fn fnv1a(key: &[u8]) -> u32
+pub fn fnv1a(key: &[u8]) -> u32
     ensures { result ≡ fnv key.now }
 {
     let mut hash = OFFSET_BASIS;
@@ -42,8 +41,7 @@ pub extern "C" fn fnv1a(key: &[u8]) -> u32
 }
 
 // The bucket of a key among this many, and 0 where there are none.
-#[unsafe(no_mangle)]
-pub extern "C" fn bucket_of(key: &[u8], buckets: u32) -> u32
+pub fn bucket_of(key: &[u8], buckets: u32) -> u32
     ensures { result ≡ bucket_of buckets key.now }
 {
     if buckets == 0 {

@@ -1,7 +1,7 @@
 -- `read` meets its contract: kind by kind.
 use native.Mathlib.Omega.{arith}
 use mathlib.Core.Path.{sym}
-use mathlib.Core.Logic.{inl, inr}
+use Rattle.datagram.proofs.read.Goals.{in_default-via-then-kind-lt1, in_default-via-else-kind-lt1+else-kind-lt4+else-kind-lt8}
 use lib.ListN.{get_or}
 use Rattle.fields.proofs.Parsing.{read_nothing, read_unknown}
 use Rattle.datagram.proofs.Answering.{stands_datagram, stands_too}
@@ -32,6 +32,6 @@ returns-in_default c =
     stands_too (stands_datagram _ c.refused-in_default.ensures)
     (sym (read_unknown c.args.bytes.now (carries_none (get_or c.args.bytes.now 0 0) (omega arith) (omega arith))
     (elim c.in_default.branch [
-      | inl low ↦ below_one 9 (get_or c.args.bytes.now 0 0) low.taken
-      | inr high ↦ above_top 9 (get_or c.args.bytes.now 0 0) (omega arith)
+      | in_default-via-then-kind-lt1 low ↦ below_one 9 (get_or c.args.bytes.now 0 0) (omega arith)
+      | in_default-via-else-kind-lt1+else-kind-lt4+else-kind-lt8 high ↦ above_top 9 (get_or c.args.bytes.now 0 0) (omega arith)
     ])))

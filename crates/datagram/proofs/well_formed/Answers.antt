@@ -29,7 +29,7 @@ returns-in-9 c =
 pub returns-in-1-to-3 : goal.returns-in-1-to-3
 unfolding meant
 returns-in-1-to-3 c =
-    c.has_no_round.ensures ∙ vote_rules (meant c.args.datagram) (sym c.addressed.ensures ∙ c.if-addressed.true) c.if-kind-lt1.false c.if-kind-lt4.true
+    c.has_no_round.ensures ∙ vote_rules (meant c.args.datagram) (sym c.addressed.ensures ∙ c.if-addressed.true) (omega arith) (omega arith)
 
 pub returns-in-5-to-7 : goal.returns-in-5-to-7
 unfolding meant
@@ -39,7 +39,7 @@ returns-in-5-to-7 c =
 pub returns-in_default : goal.returns-in_default
 unfolding meant
 returns-in_default c =
-    unknown_kind (meant c.args.datagram) (sym c.addressed.ensures ∙ c.if-addressed.true) (below_one 9 c.args.datagram.kind c.if-kind-lt1.true)
+    unknown_kind (meant c.args.datagram) (sym c.addressed.ensures ∙ c.if-addressed.true) (below_one 9 c.args.datagram.kind (omega arith))
 
 pub returns-in_default-2 : goal.returns-in_default-2
 unfolding meant
