@@ -8,7 +8,6 @@ ghost use Rattle.tally.specs.Sums.{tally_sum};
 use entries::keys::at_most;
 use feed::FedPart;
 use feed::entry::{feed_value, finish_value};
-use libc::{STDIN_FILENO, STDOUT_FILENO};
 use memory::{
     ANSWERS_LEN, AnswerWords, CONTENTS_LEN, COUNTS_LEN, CopyBytes, CountWords, HEADS_LEN,
     HeadWords, PAYLOADS_LEN, PayloadBytes, QUEUE_LEN, QueueWords, SLOTS_LEN, SlotWords, TEXTS_LEN,
@@ -16,9 +15,10 @@ use memory::{
 };
 use progress::{BYTES_WRITTEN, KEPT_LEN, KeptLine, READER_LEN, ReaderWords};
 use runs::Tally;
+use std::io::{Read, Write};
 use tally::sum;
 
-// The bytes of a block, which is `io`'s large buffer.
+// The bytes of a block.
 const BLOCK: usize = 65536;
 
 // Where the run stands: the tally, where the block ends and how many of its bytes are left, how many turns may follow (none where it
@@ -46,25 +46,23 @@ fn stop(tally: Tally) -> Place
 }
 
 // The next block is read: the input is at its end where there is nothing to read.
-fn read_block(input: &mut [u8], tally: Tally, turns: u64) -> Place
+fn read_block<R: Read>(reading: &mut R, input: &mut [u8], tally: Tally, turns: u64) -> Place
     ensures { result.turns ≤ turns }
 {
-    let got = libc::read(STDIN_FILENO, input);
-    if got < 0 {
-        return stop(tally);
-    }
-    let end = io::count(got, input);
-    Place {
-        tally,
-        end,
-        left: end,
-        turns,
-        ended: end == 0,
+    match reading.read(input) {
+        Ok(end) => Place {
+            tally,
+            end,
+            left: end,
+            turns,
+            ended: end == 0,
+        },
+        Err(_) => stop(tally),
     }
 }
 
 // A proved loop has to end, and nothing says that the input does: the turns are counted down, from a number that no run uses up.
-fn start(input: &mut [u8]) -> Place {
+fn start<R: Read>(reading: &mut R, input: &mut [u8]) -> Place {
     let tally = Tally {
         sent: 0,
         copied: 0,
@@ -72,7 +70,7 @@ fn start(input: &mut [u8]) -> Place {
         lost: 0,
         flight: 0,
     };
-    read_block(input, tally, u64::MAX)
+    read_block(reading, input, tally, u64::MAX)
 }
 
 // What is left of the block.
@@ -83,9 +81,9 @@ fn rest(input: &[u8], end: usize, left: usize) -> &[u8] {
 }
 
 // The first bytes of the output, so many as are named, are written out: false where that fails, as where nobody reads them any more.
-fn write_out(out: &[u8], count: usize) -> bool {
+fn write_out<W: Write>(writing: &mut W, out: &[u8], count: usize) -> bool {
     let written = at_most(count, out.len());
-    io::write_all(STDOUT_FILENO, &out[..written])
+    writing.write_all(&out[..written]).is_ok()
 }
 
 // The tally with what a part adds to it.
@@ -98,17 +96,25 @@ fn tally_with(run: Place, fed: FedPart) -> Tally
 }
 
 // After a part: what it printed is written out, then the rest of the block is next, or another block.
-fn next_part(run: Place, fed: FedPart, input: &mut [u8], out: &[u8], reader: &ReaderWords) -> Place
+fn next_part<R: Read, W: Write>(
+    reading: &mut R,
+    writing: &mut W,
+    run: Place,
+    fed: FedPart,
+    input: &mut [u8],
+    out: &[u8],
+    reader: &ReaderWords,
+) -> Place
     requires { 0 < run.turns }
     ensures { result.turns < run.turns }
 {
     let tally = tally_with(run, fed);
-    let is_written = write_out(out, reader[BYTES_WRITTEN]);
+    let is_written = write_out(writing, out, reader[BYTES_WRITTEN]);
     if !is_written {
         return stop(tally);
     }
     if run.left <= fed.taken {
-        return read_block(input, tally, run.turns - 1);
+        return read_block(reading, input, tally, run.turns - 1);
     }
     Place {
         tally,
@@ -121,7 +127,9 @@ fn next_part(run: Place, fed: FedPart, input: &mut [u8], out: &[u8], reader: &Re
 
 // A turn: what is left of the block is fed, as far as the output has room (it takes a byte: `takes_some` in crate `feed`); or at the
 // end of the input the last line and the tally are printed.
-fn turn(
+fn turn<R: Read, W: Write>(
+    reading: &mut R,
+    writing: &mut W,
     counts: &mut CountWords,
     heads: &mut HeadWords,
     slots: &mut SlotWords,
@@ -145,7 +153,7 @@ fn turn(
             counts, heads, slots, copies, working, texts, queue, payloads, answers, reader, line,
             run.tally, out,
         );
-        write_out(out, end.written);
+        write_out(writing, out, end.written);
         return stop(run.tally);
     }
     let fed = feed_value(
@@ -164,10 +172,12 @@ fn turn(
         rest(input, run.end, run.left),
         out,
     );
-    next_part(run, fed, input, out, reader)
+    next_part(reading, writing, run, fed, input, out, reader)
 }
 
-fn main() {
+fn main(rt: HostRuntime) {
+    let mut reading = rt.stdin();
+    let mut writing = rt.stdout();
     let mut counts = [0u32; COUNTS_LEN];
     let mut heads = [0u32; HEADS_LEN];
     let mut slots = [0u32; SLOTS_LEN];
@@ -179,11 +189,13 @@ fn main() {
     let mut answers = [0u32; ANSWERS_LEN];
     let mut reader = [0usize; READER_LEN];
     let mut line = [0u8; KEPT_LEN];
-    let mut input = io::large_buffer();
-    let mut out = io::large_buffer();
-    let mut run = start(&mut input);
+    let mut input = [0u8; BLOCK];
+    let mut out = [0u8; BLOCK];
+    let mut run = start(&mut reading, &mut input);
     while run.turns > 0 {
         run = turn(
+            &mut reading,
+            &mut writing,
             &mut counts,
             &mut heads,
             &mut slots,

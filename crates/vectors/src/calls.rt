@@ -6,6 +6,8 @@ use bucket_c::{
     bucket_get, bucket_keys, bucket_put, bucket_read, bucket_remove, bucket_write, byte_at,
 };
 use parse::words::same_word;
+use std::io;
+use std::io::Write;
 
 // The places of the calls among the names in `is_call`, and how many they are.
 const HASH: usize = 0;
@@ -46,16 +48,22 @@ fn place_of(name: &[u8]) -> usize {
     CALLS
 }
 
-pub fn run(line: &[u8], first: &[u8], second: &[u8], out: &mut [u8]) {
+pub fn run<W: Write>(
+    to: &mut W,
+    line: &[u8],
+    first: &[u8],
+    second: &[u8],
+    out: &mut [u8],
+) -> io::Result<()> {
     let call = place_of(word(line, 0));
     let name = past(line, 4);
     match call {
-        HASH => return showing::hashed(name, hash::fnv1a(first)),
-        DATAGRAM_READ => return datagrams::read(name, first),
-        CALLS => return showing::unknown(),
+        HASH => return showing::hashed(to, name, hash::fnv1a(first)),
+        DATAGRAM_READ => return datagrams::read(to, name, first),
+        CALLS => return showing::unknown(to),
         _ => {
             let answer = number(call, first, second, out);
-            return showing::answered(name, answer, out);
+            return showing::answered(to, name, answer, out);
         }
     }
 }

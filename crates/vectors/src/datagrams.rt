@@ -11,6 +11,8 @@ use fields::{
     BUCKET_AT, BUCKET_NUMBER_AT, ELECTION_AT, FROM_AT, KIND_AT, ROUND_AT, TO_AT,
     VERSION_COUNTER_AT, VERSION_ELECTION_AT, number_of_four, number_of_two,
 };
+use std::io;
+use std::io::Write;
 
 // Where the table's count and its lengths stand in what `write` takes, behind the header and the version.
 const COUNT_AT: usize = BUCKET_AT;
@@ -18,42 +20,42 @@ const COUNT_AT: usize = BUCKET_AT;
 const LENGTHS_AT: usize = COUNT_AT + 1;
 
 // A number behind its name.
-fn field(i: usize, number: u32) {
+fn field<W: Write>(to: &mut W, i: usize, number: u32) -> io::Result<()> {
     let names = b"kind from to bucket election round version entries";
-    showing::text(b" ");
-    showing::text(word(names, i));
-    showing::number(number);
+    showing::text(to, b" ")?;
+    showing::text(to, word(names, i))?;
+    showing::number(to, number)
 }
 
 // The version of a datagram, and how many entries its table has.
-fn content(datagram: Datagram) {
+fn content<W: Write>(to: &mut W, datagram: Datagram) -> io::Result<()> {
     let table = datagram.table;
-    field(6, datagram.version_election as u32);
-    showing::number(datagram.version_counter);
-    field(7, count_of(table) as u32);
+    field(to, 6, datagram.version_election as u32)?;
+    showing::number(to, datagram.version_counter)?;
+    field(to, 7, count_of(table) as u32)
 }
 
-fn header(datagram: Datagram) {
-    field(0, datagram.kind as u32);
-    field(1, datagram.from as u32);
-    field(2, datagram.to as u32);
-    field(3, datagram.bucket as u32);
-    field(4, datagram.election as u32);
-    field(5, datagram.round);
+fn header<W: Write>(to: &mut W, datagram: Datagram) -> io::Result<()> {
+    field(to, 0, datagram.kind as u32)?;
+    field(to, 1, datagram.from as u32)?;
+    field(to, 2, datagram.to as u32)?;
+    field(to, 3, datagram.bucket as u32)?;
+    field(to, 4, datagram.election as u32)?;
+    field(to, 5, datagram.round)
 }
 
 // The number, and the fields where the datagram is taken.
-pub fn read(name: &[u8], bytes: &[u8]) {
+pub fn read<W: Write>(to: &mut W, name: &[u8], bytes: &[u8]) -> io::Result<()> {
     let reading = datagram::read(bytes);
     let datagram = reading.datagram;
     let number = datagram_read(bytes);
-    showing::name(name);
-    showing::number(number);
+    showing::name(to, name)?;
+    showing::number(to, number)?;
     if number == 0 {
-        header(datagram);
-        content(datagram);
+        header(to, datagram)?;
+        content(to, datagram)?;
     }
-    showing::text(b"\n");
+    showing::text(to, b"\n")
 }
 
 fn two_at(bytes: &[u8], at: usize) -> u16

@@ -1,34 +1,33 @@
-// Lines of output. What is written nobody reads back, so a failed write is left alone.
+// Lines of output.
 ghost use Rattle.std.specs.Prelude.{◌≤◌, ◌<◌, ◌+◌, length};
 
-use libc::STDOUT_FILENO;
+use std::io;
+use std::io::Write;
 
-pub fn text(shown: &[u8]) {
-    io::write_all(STDOUT_FILENO, shown);
+pub fn text<W: Write>(to: &mut W, shown: &[u8]) -> io::Result<()> {
+    to.write_all(shown)
 }
 
 // The name of a case.
-pub fn name(case: &[u8]) {
-    text(case);
-    text(b":");
+pub fn name<W: Write>(to: &mut W, case: &[u8]) -> io::Result<()> {
+    text(to, case)?;
+    text(to, b":")
 }
 
-pub fn number(shown: u32) {
-    text(b" ");
-    io::print_decimal(STDOUT_FILENO, shown as u64);
+pub fn number<W: Write>(to: &mut W, shown: u32) -> io::Result<()> {
+    write!(to, " {shown}")
 }
 
 // A line that is no case.
-pub fn unknown() {
-    text(b"?\n");
+pub fn unknown<W: Write>(to: &mut W) -> io::Result<()> {
+    text(to, b"?\n")
 }
 
 // A line with one hash.
-pub fn hashed(case: &[u8], hash: u32) {
-    name(case);
-    text(b" ");
-    io::print_hex(STDOUT_FILENO, hash as u64, 8);
-    text(b"\n");
+pub fn hashed<W: Write>(to: &mut W, case: &[u8], hash: u32) -> io::Result<()> {
+    name(to, case)?;
+    write!(to, " {hash:08x}")?;
+    text(to, b"\n")
 }
 
 // How many bytes from `at` on are the same.
@@ -63,29 +62,29 @@ fn long_run(bytes: &[u8], at: usize) -> usize
 }
 
 // A byte in hexadecimal, and how often it stands there.
-fn repeated(byte: u8, times: usize) {
-    text(b" ");
-    io::print_hex(STDOUT_FILENO, byte as u64, 2);
+fn repeated<W: Write>(to: &mut W, byte: u8, times: usize) -> io::Result<()> {
+    write!(to, " {byte:02x}")?;
     if 1 < times {
-        text(b"*");
-        io::print_decimal(STDOUT_FILENO, times as u64);
+        write!(to, "*{times}")?;
     }
+    Ok(())
 }
 
 // Bytes in hexadecimal, `00*105` for 105 zeros.
-pub fn bytes(lent: &[u8]) {
+pub fn bytes<W: Write>(to: &mut W, lent: &[u8]) -> io::Result<()> {
     let mut at = 0;
     while at < lent.len() {
         let len = long_run(lent, at);
-        repeated(lent[at], len);
+        repeated(to, lent[at], len)?;
         at += len;
     }
+    Ok(())
 }
 
 // A line with one number and the lent bytes.
-pub fn answered(case: &[u8], answer: u32, lent: &[u8]) {
-    name(case);
-    number(answer);
-    bytes(lent);
-    text(b"\n");
+pub fn answered<W: Write>(to: &mut W, case: &[u8], answer: u32, lent: &[u8]) -> io::Result<()> {
+    name(to, case)?;
+    number(to, answer)?;
+    bytes(to, lent)?;
+    text(to, b"\n")
 }

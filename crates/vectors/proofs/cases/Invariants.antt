@@ -5,7 +5,7 @@ use borrow.Author.Rules.{rules}
 use Rattle.vectors.proofs.cases.Given as goal
 
 abbrev pub invariant-loop-at : goal.invariant-loop-at
-invariant-loop-at l = l.at ≤ length l.input + 1
+invariant-loop-at g l = l.at ≤ length l.input + 1
 
 abbrev pub decreases-loop-at : goal.decreases-loop-at
-decreases-loop-at l = length l.input + 1 - l.at
+decreases-loop-at g l = length l.input + 1 - l.at

@@ -6,7 +6,7 @@ use lib.ListN.{length}
 use Rattle.vectors.proofs.showing.bytes.Given as goal
 
 abbrev pub invariant-loop-at : goal.invariant-loop-at
-invariant-loop-at l = l.at ≤ length l.lent
+invariant-loop-at g l = l.at ≤ length l.lent
 
 abbrev pub decreases-loop-at : goal.decreases-loop-at
-decreases-loop-at l = length l.lent - l.at
+decreases-loop-at g l = length l.lent - l.at
