@@ -38,7 +38,7 @@ same_fed : (w : Session) (room : ℕ) {a b x y : List ℕ} {u : Session} → a �
 same_fed w room {a} {b} {x} {y} {u} e d f = subst (λ (i : List ℕ). LinesFed w room i y u) e (subst (λ (t : List ℕ). LinesFed w room a t u) d f)
 
 -- some lines after the others, in the room that the first leave
-pub fed_on : (w : Session) (room : ℕ) {a x b y : List ℕ} {v u : Session} → LinesFed w room a x v → LinesFed v (room - length x) b y u → LinesFed w room (a ++ b) (x ++ y) u
+pub fed_on : (w : Session) (room : ℕ) {a x : List ℕ} {v : Session} {b y : List ℕ} {u : Session} → LinesFed w room a x v → LinesFed v (room - length x) b y u → LinesFed w room (a ++ b) (x ++ y) u
 fed_on w room {a} {x} f nothing = same_fed w room (sym (append-nil a)) (sym (append-nil x)) f
 fed_on w room {a} {x} f (line {input = b} {text = y} g h r l n u more e) =
     same_fed w room (append_assoc a b (l ++ (10 ∷ []))) (append_assoc x y more) (line (fed_on w room f g) h (omega (arith, r, length-append x y)) l n u more e)

@@ -36,12 +36,12 @@ module _ (m : List ℕ) (i : ℕ) (w : Words) (fits : (i + 1) * text_size ≤ le
 
   length_one : length one ≡ length m
   unfolding one
-  length_one = let h = whole.key_room_lem in length-paste m (i * text_size + key_place) w.key.bytes key_room (omega arith) (omega arith)
+  length_one = let h = whole.key_length in length-paste m (i * text_size + key_place) w.key.bytes key_room (omega arith) (omega arith)
 
   length_two : length two ≡ length m
   unfolding two
   length_two =
-      let h = whole.expected_room in
+      let h = whole.expected_length in
       let l = length_one in
       length-paste one (i * text_size + expected_place) w.expected.value.bytes value_room (omega arith) (omega arith) ∙ length_one
 
@@ -58,8 +58,8 @@ module _ (m : List ℕ) (i : ℕ) (w : Words) (fits : (i + 1) * text_size ≤ le
       let l = length_one in
       let k = length_two in
       part_before two (i * text_size + value_place) w.value.value.bytes value_room (omega arith) whole.value_length (i * text_size + key_place) key_room (omega arith)
-      ∙ part_before one (i * text_size + expected_place) w.expected.value.bytes value_room (omega arith) whole.expected_room (i * text_size + key_place) key_room (omega arith)
-      ∙ part_pasted m (i * text_size + key_place) w.key.bytes key_room (omega arith) whole.key_room_lem
+      ∙ part_before one (i * text_size + expected_place) w.expected.value.bytes value_room (omega arith) whole.expected_length (i * text_size + key_place) key_room (omega arith)
+      ∙ part_pasted m (i * text_size + key_place) w.key.bytes key_room (omega arith) whole.key_length
 
   expected_bytes : take value_room (drop (i * text_size + expected_place) (put_texts m i w)) ≡ w.expected.value.bytes
   unfolding put_texts one two
@@ -67,7 +67,7 @@ module _ (m : List ℕ) (i : ℕ) (w : Words) (fits : (i + 1) * text_size ≤ le
       let l = length_one in
       let k = length_two in
       part_before two (i * text_size + value_place) w.value.value.bytes value_room (omega arith) whole.value_length (i * text_size + expected_place) value_room (omega arith)
-      ∙ part_pasted one (i * text_size + expected_place) w.expected.value.bytes value_room (omega arith) whole.expected_room
+      ∙ part_pasted one (i * text_size + expected_place) w.expected.value.bytes value_room (omega arith) whole.expected_length
 
   value_bytes_lem : take value_room (drop (i * text_size + value_place) (put_texts m i w)) ≡ w.value.value.bytes
   unfolding put_texts one two
@@ -80,8 +80,8 @@ module _ (m : List ℕ) (i : ℕ) (w : Words) (fits : (i + 1) * text_size ≤ le
       let l = length_one in
       let l2 = length_two in
       part_elsewhere text_size k i r n value_place two w.value.value.bytes value_room inside (omega arith) (omega arith) whole.value_length different
-      ∙ part_elsewhere text_size k i r n expected_place one w.expected.value.bytes value_room inside (omega arith) (omega arith) whole.expected_room different
-      ∙ part_elsewhere text_size k i r n key_place m w.key.bytes key_room inside (omega arith) fits whole.key_room_lem different
+      ∙ part_elsewhere text_size k i r n expected_place one w.expected.value.bytes value_room inside (omega arith) (omega arith) whole.expected_length different
+      ∙ part_elsewhere text_size k i r n key_place m w.key.bytes key_room inside (omega arith) fits whole.key_length different
 
 -- ---- the words
 

@@ -279,8 +279,8 @@ put_texts m k w =
 
 -- words whose arrays have eight, sixteen and sixteen bytes
 pub record Whole (w : Words) : Type 0 where
-  pub key_room_lem : length w.key.bytes ≡ key_room
-  pub expected_room : length w.expected.value.bytes ≡ value_room
+  pub key_length : length w.key.bytes ≡ key_room
+  pub expected_length : length w.expected.value.bytes ≡ value_room
   pub value_length : length w.value.value.bytes ≡ value_room
 
 -- ---- contents: those of the copies and the working contents, at the slot; those of the messages, at their places

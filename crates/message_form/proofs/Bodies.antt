@@ -59,21 +59,21 @@ module _ {n b : ℕ} {l : Limits} (small : Small n b l) where
     plain_form body k j p q r =
         sym (plain_rules (datagram_of (with_body m body)) address k j (omega (arith, r.1, small.rounds)) p q) ∙ le-leb 1 m.round r.0
 
-    pub well_formed_lem : (body : Body) → BodyWithin l m body → well_formed (datagram_of (with_body m body)) ≡ true
+    pub is_well_formed : (body : Body) → BodyWithin l m body → well_formed (datagram_of (with_body m body)) ≡ true
     unfolding kind_number copy_in datagram_of
-    well_formed_lem please_vote v = vote_form please_vote (omega arith) (omega arith) v
-    well_formed_lem ack_vote v = vote_form ack_vote (omega arith) (omega arith) v
-    well_formed_lem nack_vote v = vote_form nack_vote (omega arith) (omega arith) v
-    well_formed_lem (replica_write c) r =
+    is_well_formed please_vote v = vote_form please_vote (omega arith) (omega arith) v
+    is_well_formed ack_vote v = vote_form ack_vote (omega arith) (omega arith) v
+    is_well_formed nack_vote v = vote_form nack_vote (omega arith) (omega arith) v
+    is_well_formed (replica_write c) r =
         sym (write_rules (datagram_of (with_body m (replica_write c))) address (omega arith) (omega arith) (omega (arith, r.0.1, small.rounds)) refl r.1)
         ∙ rw (le-leb 1 m.round r.0.0) (settled_copy c r.2)
-    well_formed_lem ack_write r = plain_form ack_write (omega arith) (omega arith) (omega arith) (omega arith) r
-    well_formed_lem nack_write r = plain_form nack_write (omega arith) (omega arith) (omega arith) (omega arith) r
-    well_formed_lem replica_read r = plain_form replica_read (omega arith) (omega arith) (omega arith) (omega arith) r
-    well_formed_lem (ack_read c) r =
+    is_well_formed ack_write r = plain_form ack_write (omega arith) (omega arith) (omega arith) (omega arith) r
+    is_well_formed nack_write r = plain_form nack_write (omega arith) (omega arith) (omega arith) (omega arith) r
+    is_well_formed replica_read r = plain_form replica_read (omega arith) (omega arith) (omega arith) (omega arith) r
+    is_well_formed (ack_read c) r =
         sym (read_rules (datagram_of (with_body m (ack_read c))) address (omega arith) (omega arith) (omega (arith, r.0.1, small.rounds)) refl)
         ∙ rw (le-leb 1 m.round r.0.0) (settled_copy c r.1)
-    well_formed_lem nack_read r = plain_form nack_read (omega arith) (omega arith) (omega arith) (omega arith) r
+    is_well_formed nack_read r = plain_form nack_read (omega arith) (omega arith) (omega arith) (omega arith) r
 
     pub table_is_fit : (body : Body) → BodyWithin l m body → table_fits (datagram_of (with_body m body)) ≡ true
     unfolding kind_number copy_in datagram_of carries table_fits

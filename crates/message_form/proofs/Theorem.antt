@@ -19,7 +19,7 @@ use Rattle.limits.specs.Measures.{Limits, limits_after, MessageWithin}
 use Rattle.limits.specs.Stands.{Stands, Measured}
 use Rattle.limits.proofs.Always.{within_always}
 use Rattle.message_form.specs.Statement.{copy_in, datagram_of, message_bytes, body_of, message_of, HasForm, InFlightHaveForm, MessageBack, OneMessage}
-use Rattle.message_form.proofs.Bodies.{Small, with_body, well_formed_lem, table_is_fit, all_carried}
+use Rattle.message_form.proofs.Bodies.{Small, with_body, is_well_formed, table_is_fit, all_carried}
 
 -- ---- a message within the measures
 
@@ -29,10 +29,10 @@ form_written m w f out h = rw (write_datagram, f, w, le-leb _ _ h)
 
 pub within_has_form : {n b : ℕ} {l : Limits} → Small n b l → (m : Message) → MessageWithin n b l m → HasForm m
 within_has_form small m h =
-    let w : well_formed (datagram_of m) ≡ true = well_formed_lem small m h m.body h.body in
+    let w : well_formed (datagram_of m) ≡ true = is_well_formed small m h m.body h.body in
     let f : table_fits (datagram_of m) ≡ true = table_is_fit small m h m.body h.body in
     record {
-      well_formed_lem = w;
+      is_well_formed = w;
       table_is_fit = f;
       written = form_written m w f;
       read_back = reads_back (datagram_of m) w f ∙ ap taken (all_carried m m.body);

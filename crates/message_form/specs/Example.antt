@@ -28,7 +28,7 @@ unfolding computing carries big header_bytes version_bytes full_bytes datagram_b
 unwritten = refl
 
 -- the call's own write, in round 4: REPLICAWRITE from 0 to 1 with version (1, 2) and one key
-own_write_lem : count_in_flight (bytes "cluster 2 1\nelect 0\ndeliver 0\ndeliver 0\nset 0 61 6869\ndeliver 0\ndeliver 0\ndeliver 0\ndeliver 0\ndeliver 0\ndeliver 0\n")
+own_write_in_flight : count_in_flight (bytes "cluster 2 1\nelect 0\ndeliver 0\ndeliver 0\nset 0 61 6869\ndeliver 0\ndeliver 0\ndeliver 0\ndeliver 0\ndeliver 0\ndeliver 0\n")
     ≡ ((4 ∷ 0 ∷ 1 ∷ 0 ∷ 0 ∷ 1 ∷ 0 ∷ 0 ∷ 0 ∷ 4 ∷ []) ++ (0 ∷ 1 ∷ 0 ∷ 0 ∷ 0 ∷ 2 ∷ []) ++ (1 ∷ 5 ∷ 1 ∷ 6 ∷ 2 ∷ 0x61 ∷ 0x68 ∷ 0x69 ∷ []) ++ replicate 105 0) ∷ []
 unfolding computing carries big header_bytes version_bytes full_bytes datagram_bytes copy_in datagram_of
-own_write_lem = refl
+own_write_in_flight = refl

@@ -62,7 +62,7 @@ message_of d =
 
 -- a message whose datagram is well formed: it is written where there is room, and read back
 pub record HasForm (m : Message) : Type 0 where
-  pub well_formed_lem : well_formed (datagram_of m) ≡ true
+  pub is_well_formed : well_formed (datagram_of m) ≡ true
   pub table_is_fit : table_fits (datagram_of m) ≡ true
   pub written : (out : List ℕ) → length_of (kind_number m.body) ≤ length out → write_datagram (datagram_of m) out ≡ numbered 0 (message_bytes m ++ drop (length_of (kind_number m.body)) out)
   pub read_back : read_datagram (message_bytes m) ≡ taken (datagram_of m)

@@ -159,7 +159,7 @@ module _ (k : Key) (room : length k.bytes ≡ 8) (e v : Item) (roomE : length e.
             let s = short k.len e v (sym lengths ∙ h) in
             record {
               same = same s;
-              whole = record { key_room_lem = room; expected_room = roomE; value_room = roomV };
+              whole = record { key_length = room; expected_length = roomE; value_length = roomV };
               sized = sized s;
               bucket = λ c. bucket c.buckets ∙ (ap (bucket_of c.buckets) (same_key s) ∙ sym (bucketed c));
             };
@@ -215,7 +215,7 @@ said_keys b =
       fine = λ h.
           record {
             same = refl;
-            whole = record { key_room_lem = refl; expected_room = refl; value_room = refl };
+            whole = record { key_length = refl; expected_length = refl; value_length = refl };
             sized = tt;
             bucket = λ c. refl;
           };

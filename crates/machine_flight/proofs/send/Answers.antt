@@ -32,7 +32,7 @@ pub returns-then-is_broadcast : goal.returns-then-is_broadcast
 returns-then-is_broadcast c =
     let m = memory_of (regions c.args.words.now) (contents c.args.bytes.now) in
     let x = flight_of m c.args.count in
-    let k = c.slot_of-slot c.args.step.server c.args.step.bucket in
+    let k = slot_of c.args.step.server c.args.step.bucket in
     let all = sym c.is_broadcast.ensures ∙ c.if-is_broadcast.true in
     let from = ap (λ j. block content_size (first_working + j) c.args.bytes.now) c.slot_of-slot.ensures ∙ sym (working_read k c.args.bytes.now (omega (arith, c.requires.servers, c.requires.server, c.requires.bucket))) in
     flown_as
@@ -51,7 +51,7 @@ unfolding appended
 returns c =
     let m = memory_of (regions c.args.words.now) (contents c.args.bytes.now) in
     let x = flight_of m c.args.count in
-    let k = c.slot_of-slot c.args.step.server c.args.step.bucket in
+    let k = slot_of c.args.step.server c.args.step.bucket in
     let one = sym c.is_broadcast.ensures ∙ c.if-is_broadcast.false in
     let n = count_reply_lem c.args.cluster.servers c.args.next.sends c.if-next-eq-NO_MESSAGE.false one in
     let from = ap (λ j. block content_size (first_copy + j) c.args.bytes.now) c.slot_of-slot.ensures ∙ sym (copy_read k c.args.bytes.now (omega (arith, c.requires.servers, c.requires.server, c.requires.bucket))) in

@@ -17,7 +17,7 @@ put_outcome-written-requires c = (c.requires.1, few_answers c.step-stepped.ensur
 pub returns : goal.returns
 returns c =
     record {
-      c.step-stepped = c.step-stepped.result;
+      step = c.step-stepped.result;
       performs = c.step-stepped.ensures;
       counted = refl;
       told = c.put_outcome-written.ensures;
