@@ -32,7 +32,7 @@ pub struct Repository {
     parts: HashSet<String>,
 }
 
-/// All files below a folder.
+/// All files below a folder; those that `rt` makes, in the folders `out` of the crates, are left out.
 fn files(folder: &Path) -> Vec<PathBuf> {
     let mut found = Vec::new();
     let Ok(entries) = fs::read_dir(folder) else {
@@ -40,6 +40,9 @@ fn files(folder: &Path) -> Vec<PathBuf> {
     };
     for entry in entries {
         let path = entry.expect("it can be read").path();
+        if path.ends_with("out") {
+            continue;
+        }
         if path.is_dir() {
             found.extend(files(&path));
         } else {
