@@ -171,15 +171,12 @@ impl Repository {
         }
     }
 
-    /// Whether some name ends in this, written `..In` or `-means`, or begins with
-    /// it, written `max..`.
+    /// Whether some name ends in this, written `.._in`, or begins with it, written
+    /// `max_..`.
     fn has_part(&self, word: &str) -> Option<bool> {
         let mut names = self.defined.values().flatten();
         if let Some(end) = word.strip_prefix("..") {
             return Some(names.any(|name| name != end && name.ends_with(end)));
-        }
-        if word.starts_with('-') {
-            return Some(names.any(|name| name.ends_with(word)));
         }
         let start = word.strip_suffix("..")?;
         Some(names.any(|name| name != start && name.starts_with(start)))
@@ -202,7 +199,7 @@ impl Repository {
         if self.parts.contains(word) || self.find(word, folder).is_some() {
             return true;
         }
-        // A name in a file of that name: `Leader.beginCall`.
+        // A name in a file of that name: `Leader.begin_call`.
         if let Some((file, name)) = word.split_once('.') {
             return self
                 .find(file, folder)
