@@ -1,5 +1,4 @@
 -- `read` meets its contract: the decoded table is encoded again, and the two forms are compared.
-use borrow.Author.Rules.{rules}
 use Rattle.bucket.proofs.Answering.{reading_refused, reading_unfit, reading_same, reading_other}
 use Rattle.table.proofs.Reading.{other_length}
 use Rattle.table.specs.Form.{bucket_size}

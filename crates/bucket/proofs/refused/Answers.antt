@@ -1,6 +1,5 @@
 -- `refused` meets its contract: its table has no entry, and is sound.
 use mathlib.Core.Path.{refl}
-use borrow.Author.Rules.{rules}
 use Rattle.bucket.proofs.Answering.{empty_sound}
 use Rattle.bucket.proofs.refused.Goals as goal
 

@@ -1,7 +1,5 @@
 -- `same_bytes` meets its contract: byte by byte.
-use Rattle.bucket.proofs.Matching.{Matching, matching_starts, matching_goes_on, matching_fails, matching_ends}
-use Prim.Native.Nat.{◌-◌}
-use borrow.Author.Rules.{rules}
+use Rattle.bucket.proofs.Matching.{matching_starts, matching_goes_on, matching_fails, matching_ends}
 use mathlib.Core.Path.{sym}
 use Rattle.bucket.proofs.same_bytes.Goals as goal
 

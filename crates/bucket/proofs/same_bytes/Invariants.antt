@@ -1,8 +1,6 @@
 -- `same_bytes` meets its contract: byte by byte.
-use Rattle.bucket.proofs.Matching.{Matching, matching_starts, matching_goes_on, matching_fails, matching_ends}
+use Rattle.bucket.proofs.Matching.{Matching}
 use Prim.Native.Nat.{◌-◌}
-use borrow.Author.Rules.{rules}
-use mathlib.Core.Path.{sym}
 use Rattle.bucket.proofs.same_bytes.Given as goal
 
 abbrev pub invariant-loop-i : goal.invariant-loop-i

@@ -1,5 +1,4 @@
 -- `write` meets its contract: 13 is looked at before 15.
-use borrow.Author.Rules.{rules}
 use Rattle.bucket.specs.Answers.{written_number}
 use Rattle.bucket.proofs.Answering.{write_unsound, write_unfit, write_short, write_done}
 use mathlib.Core.Path.{sym, ◌∙◌}

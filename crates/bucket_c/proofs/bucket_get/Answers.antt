@@ -1,5 +1,4 @@
 -- `bucket_get` meets its contract: a value of no bytes is told from none.
-use borrow.Author.Rules.{rules}
 use Rattle.entries.specs.Decoded.{value_bytes, item_in}
 use Rattle.bucket.specs.Answers.{outcome_number}
 use Rattle.bucket_c.proofs.Exporting.{get_refused, get_absent, get_found}

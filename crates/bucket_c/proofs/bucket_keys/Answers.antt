@@ -1,5 +1,4 @@
 -- `bucket_keys` meets its contract.
-use borrow.Author.Rules.{rules}
 use Rattle.bucket_c.proofs.Exporting.{out_short, keys_refused, keys_listed}
 use Rattle.bucket.specs.Answers.{outcome_number}
 use Rattle.bucket_calls.specs.Answers.{keys_in}

@@ -1,5 +1,4 @@
 -- `bucket_put` meets its contract: the answer's number.
-use borrow.Author.Rules.{rules}
 use Rattle.bucket_c.proofs.bucket_put.Goals as goal
 
 pub returns : goal.returns

@@ -1,6 +1,5 @@
 -- `change_number` meets its contract: case by case.
 use Rattle.bucket_calls.specs.Answers.{change_number}
-use borrow.Author.Rules.{rules}
 use Rattle.bucket_c.proofs.change_number.Goals as goal
 
 pub returns-in-Done : goal.returns-in-Done

@@ -1,9 +1,6 @@
 -- `keys_room` meets its contract: key by key.
-use Prim.Native.Nat.{◌-◌}
-use borrow.Author.Rules.{rules}
-use lib.ListN.{length-map}
 use Rattle.bucket_calls.specs.Answers.{keys_in}
-use Rattle.bucket_c.proofs.Exporting.{KeysPassing, passing_starts, passing_goes_on, passing_ends}
+use Rattle.bucket_c.proofs.Exporting.{passing_starts, passing_goes_on, passing_ends}
 use Rattle.bucket_c.proofs.keys_room.Goals as goal
 
 pub loop-i-init : goal.loop-i-init

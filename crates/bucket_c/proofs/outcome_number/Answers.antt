@@ -1,5 +1,4 @@
 -- `outcome_number` meets its contract: case by case.
-use borrow.Author.Rules.{rules}
 use Rattle.bucket.specs.Answers.{outcome_number}
 use Rattle.bucket_c.proofs.outcome_number.Goals as goal
 

@@ -1,5 +1,4 @@
 -- `put_found` meets its contract: the value, where there is room for it.
-use borrow.Author.Rules.{rules}
 use Rattle.bucket_c.proofs.Exporting.{out_short, out_done}
 use Rattle.bucket_c.proofs.put_found.Goals as goal
 

@@ -1,5 +1,4 @@
 -- `slot_from` meets its contract: the callees' equations.
-use borrow.Author.Rules.{rules}
 use Rattle.bucket_c.proofs.slot_from.Goals as goal
 
 pub returns : goal.returns

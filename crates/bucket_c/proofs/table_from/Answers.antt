@@ -1,6 +1,5 @@
 -- `table_from` meets its contract: the callees' equations.
 use Rattle.bucket_c.specs.Exports.{table_from}
-use borrow.Author.Rules.{rules}
 use Rattle.bucket_c.proofs.table_from.Goals as goal
 
 pub returns : goal.returns

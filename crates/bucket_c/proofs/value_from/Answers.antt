@@ -1,8 +1,6 @@
 -- `value_from` meets its contract: byte by byte.
 use mathlib.Core.Path.{refl}
-use borrow.Author.Rules.{rules}
-use Prim.Native.Nat.{◌-◌}
-use Rattle.bucket_c.proofs.Windows.{Windowing, windowing_starts, windowing_goes_on, windowing_ends}
+use Rattle.bucket_c.proofs.Windows.{windowing_starts, windowing_goes_on, windowing_ends}
 use Rattle.bucket_c.proofs.value_from.Goals as goal
 
 pub loop-i-init : goal.loop-i-init

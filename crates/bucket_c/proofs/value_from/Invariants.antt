@@ -1,8 +1,6 @@
 -- `value_from` meets its contract: byte by byte.
-use mathlib.Core.Path.{refl}
-use borrow.Author.Rules.{rules}
 use Prim.Native.Nat.{◌-◌}
-use Rattle.bucket_c.proofs.Windows.{Windowing, windowing_starts, windowing_goes_on, windowing_ends}
+use Rattle.bucket_c.proofs.Windows.{Windowing}
 use Rattle.bucket_c.proofs.value_from.Given as goal
 
 abbrev pub invariant-loop-i : goal.invariant-loop-i

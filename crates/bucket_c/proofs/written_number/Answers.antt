@@ -1,6 +1,5 @@
 -- `written_number` meets its contract: case by case.
 use Rattle.bucket.specs.Answers.{written_number}
-use borrow.Author.Rules.{rules}
 use Rattle.bucket_c.proofs.written_number.Goals as goal
 
 pub returns-in-Accepted : goal.returns-in-Accepted

@@ -1,6 +1,4 @@
 -- `keys_of` meets its contract: there are four slots.
-use borrow.Author.Rules.{rules}
-use lib.ListN.{length-map}
 use Rattle.bucket_calls.proofs.Answering.{keys_taken}
 use Rattle.bucket_calls.proofs.keys_of.Goals as goal
 

@@ -1,6 +1,5 @@
 -- `list_keys` meets its contract: the keys of the slots in use.
 use mathlib.Core.Path.{ap, ◌∙◌}
-use borrow.Author.Rules.{rules}
 use Rattle.entries.specs.Entries.{keys_of}
 use Rattle.bucket_calls.specs.Answers.{keys_in}
 use Rattle.bucket_calls.proofs.Answering.{list_done, keys_in_use}

@@ -2,7 +2,6 @@
 use mathlib.Core.Path.{ap, ap₂, ◌∙◌}
 use native.Mathlib.Omega.{arith}
 use lib.Seq.{take_all}
-use borrow.Author.Rules.{rules}
 use Rattle.entries.specs.Entries.{value_of}
 use Rattle.entries.specs.Decoded.{item_in}
 use Rattle.entries.proofs.Views.{absent_none}

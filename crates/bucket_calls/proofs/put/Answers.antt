@@ -2,7 +2,6 @@
 use Rattle.bucket_calls.specs.Answers.{change_number}
 use Rattle.bucket_calls.proofs.Answering.{put_storable, put_unstorable}
 use mathlib.Core.Path.{sym, ◌∙◌}
-use borrow.Author.Rules.{rules}
 use Rattle.bucket_calls.proofs.put.Goals as goal
 
 pub returns-then-storable : goal.returns-then-storable

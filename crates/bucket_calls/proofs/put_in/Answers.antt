@@ -1,5 +1,4 @@
 -- `put_in` meets its contract: the bucket is read, changed and written.
-use borrow.Author.Rules.{rules}
 use Rattle.entries.specs.Decoded.{item_in}
 use Rattle.bucket_calls.specs.Answers.{change_number}
 use Rattle.bucket.proofs.Answering.{was_read, was_refused}

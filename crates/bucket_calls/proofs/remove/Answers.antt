@@ -1,7 +1,6 @@
 -- `remove` meets its contract: the bucket is read, changed and written; a key that is too long is absent.
 use lib.Seq.{take_all}
 use native.Mathlib.Omega.{arith}
-use borrow.Author.Rules.{rules}
 use Rattle.entries.specs.Entries.{remove}
 use Rattle.bucket.specs.Answers.{outcome_number}
 use Rattle.entries.specs.Decoded.{table_in}

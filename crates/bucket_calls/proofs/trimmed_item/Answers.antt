@@ -2,7 +2,6 @@
 use mathlib.Core.Path.{ap}
 use mathlib.Core.Bool.{true, false}
 use mathlib.Core.Option.{none, some}
-use borrow.Author.Rules.{rules}
 use Rattle.entries.specs.Decoded.{item_in, value_bytes}
 use Rattle.entries.proofs.Views.{value_whole}
 use Rattle.bucket_calls.proofs.trimmed_item.Goals as goal

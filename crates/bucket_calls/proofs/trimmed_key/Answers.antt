@@ -1,5 +1,4 @@
 -- `trimmed_key` meets its contract: as many bytes as count are the key.
-use borrow.Author.Rules.{rules}
 use Rattle.entries.specs.Decoded.{key_bytes}
 use Rattle.entries.proofs.Views.{key_whole}
 use Rattle.bucket_calls.proofs.trimmed_key.Goals as goal

@@ -2,7 +2,6 @@
 use mathlib.Core.Path.{sym, ◌∙◌}
 use Rattle.fields.proofs.Parsing.{checked_right, checked_wrong}
 use Rattle.datagram.proofs.Answering.{stands_datagram, stands_taken, stands_too}
-use borrow.Author.Rules.{rules}
 use Rattle.datagram.proofs.checked.Goals as goal
 
 pub returns-then-well_formed : goal.returns-then-well_formed

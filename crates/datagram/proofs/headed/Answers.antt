@@ -4,7 +4,6 @@ use native.Mathlib.Omega.{arith}
 use Rattle.fields.specs.Form.{field, headed}
 use Rattle.datagram.specs.Answers.{meant}
 use Rattle.fields.proofs.Parsing.{take_cells}
-use borrow.Author.Rules.{rules}
 use Rattle.datagram.proofs.headed.Goals as goal
 
 pub returns : goal.returns

@@ -2,7 +2,6 @@
 use Rattle.fields.specs.Form.{header_bytes}
 use Rattle.datagram.specs.Answers.{meant}
 use Rattle.datagram.proofs.Answering.{full_stored}
-use borrow.Author.Rules.{rules}
 use Rattle.datagram.proofs.put_full.Goals as goal
 
 pub returns : goal.returns

@@ -6,7 +6,6 @@ use lib.ListN.{get_or}
 use Rattle.fields.proofs.Parsing.{read_nothing, read_unknown}
 use Rattle.datagram.proofs.Answering.{stands_datagram, stands_too}
 use Rattle.fields.proofs.Rules.{below_one, above_top, carries_write, carries_read, carries_none}
-use borrow.Author.Rules.{rules}
 use Rattle.datagram.proofs.read.Goals as goal
 
 pub returns-then-bytes-eq0 : goal.returns-then-bytes-eq0

@@ -4,7 +4,6 @@ use Rattle.table.specs.Form.{read_bucket}
 use Rattle.bucket.proofs.Answering.{was_read, was_refused}
 use Rattle.fields.proofs.Parsing.{tail_part, read_full, read_full_refused, read_full_other}
 use Rattle.datagram.proofs.Answering.{stands_bucket, stands_datagram, stands_too}
-use borrow.Author.Rules.{rules}
 use Rattle.datagram.proofs.read_full.Goals as goal
 
 pub returns-in-Accepted : goal.returns-in-Accepted

@@ -5,7 +5,6 @@ use Rattle.bucket.proofs.Answering.{empty_sound}
 use Rattle.fields.specs.Form.{version, headed, checked}
 use Rattle.fields.proofs.Parsing.{read_plain, read_plain_other}
 use Rattle.datagram.proofs.Answering.{stands_datagram, stands_too}
-use borrow.Author.Rules.{rules}
 use Rattle.datagram.proofs.read_plain.Goals as goal
 
 pub checked-requires : goal.checked-requires

@@ -5,7 +5,6 @@ use Rattle.checks.specs.Tests.{sound}
 use Rattle.fields.specs.Form.{number, field, version_in, checked}
 use Rattle.fields.proofs.Parsing.{take_cells}
 use Rattle.datagram.proofs.Answering.{stands_too}
-use borrow.Author.Rules.{rules}
 use Rattle.datagram.proofs.read_version.Goals as goal
 
 pub checked-requires : goal.checked-requires

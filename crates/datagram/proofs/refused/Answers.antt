@@ -2,7 +2,6 @@
 use mathlib.Core.Path.{refl}
 use Rattle.bucket.proofs.Answering.{empty_sound}
 use Rattle.datagram.specs.Answers.{meant, datagram_in}
-use borrow.Author.Rules.{rules}
 use Rattle.datagram.proofs.refused.Goals as goal
 
 pub returns : goal.returns

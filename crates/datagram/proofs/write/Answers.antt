@@ -1,7 +1,6 @@
 -- `write` meets its contract: kind by kind.
 use native.Mathlib.Omega.{arith}
 use Rattle.fields.proofs.Rules.{carries_write, carries_read, carries_none}
-use borrow.Author.Rules.{rules}
 use Rattle.datagram.proofs.write.Goals as goal
 
 pub write_full-requires : goal.write_full-requires

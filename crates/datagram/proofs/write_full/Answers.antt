@@ -2,7 +2,6 @@
 use mathlib.Core.Path.{sym, ◌∙◌}
 use Rattle.datagram.specs.Answers.{written_number}
 use Rattle.datagram.proofs.Answering.{write_unfit, write_full_wrong, write_full_short, write_full_done}
-use borrow.Author.Rules.{rules}
 use Rattle.datagram.proofs.write_full.Goals as goal
 
 pub returns-then-out-lt-FULL_SIZE : goal.returns-then-out-lt-FULL_SIZE

@@ -3,7 +3,6 @@ use mathlib.Core.Path.{sym, ◌∙◌}
 use Rattle.fields.specs.Form.{header_bytes}
 use Rattle.datagram.specs.Answers.{written_number, meant}
 use Rattle.datagram.proofs.Answering.{write_plain_wrong, write_plain_short, write_plain_done}
-use borrow.Author.Rules.{rules}
 use Rattle.datagram.proofs.write_plain.Goals as goal
 
 pub returns-then-out-lt-PLAIN_SIZE : goal.returns-then-out-lt-PLAIN_SIZE

@@ -1,7 +1,6 @@
 -- `datagram_read` meets its contract.
 use mathlib.Core.Path.{◌∙◌}
 use Rattle.datagram_c.proofs.Exporting.{number_told}
-use borrow.Author.Rules.{rules}
 use Rattle.datagram_c.proofs.datagram_read.Goals as goal
 
 pub returns : goal.returns

@@ -1,6 +1,5 @@
 -- `datagram_rewrite` meets its contract.
 use Rattle.datagram_c.proofs.Exporting.{rewrites, refuses_bucket, refuses_datagram}
-use borrow.Author.Rules.{rules}
 use Rattle.datagram_c.proofs.datagram_rewrite.Goals as goal
 
 pub returns-in-Accepted : goal.returns-in-Accepted

@@ -1,5 +1,4 @@
 -- `datagram_write` meets its contract: the answer's number.
-use borrow.Author.Rules.{rules}
 use Rattle.datagram_c.proofs.datagram_write.Goals as goal
 
 pub returns : goal.returns

@@ -1,6 +1,5 @@
 -- `outcome_number` meets its contract: case by case.
 use Rattle.datagram.specs.Answers.{outcome_number}
-use borrow.Author.Rules.{rules}
 use Rattle.datagram_c.proofs.outcome_number.Goals as goal
 
 pub returns-in-Accepted : goal.returns-in-Accepted

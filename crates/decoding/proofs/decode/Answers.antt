@@ -1,8 +1,6 @@
 -- `decode` meets its contract: entry by entry.
-use Rattle.table.proofs.Parsing.{Decoding, decoding_starts, decoding_goes_on, decoding_ends}
+use Rattle.table.proofs.Parsing.{decoding_starts, decoding_goes_on, decoding_ends}
 use mathlib.Core.Path.{refl}
-use Prim.Native.Nat.{◌-◌}
-use borrow.Author.Rules.{rules}
 use Rattle.decoding.proofs.decode.Goals as goal
 
 pub loop-i-init : goal.loop-i-init

@@ -1,8 +1,6 @@
 -- `decode` meets its contract: entry by entry.
-use Rattle.table.proofs.Parsing.{Decoding, decoding_starts, decoding_goes_on, decoding_ends}
-use mathlib.Core.Path.{refl}
+use Rattle.table.proofs.Parsing.{Decoding}
 use Prim.Native.Nat.{◌-◌}
-use borrow.Author.Rules.{rules}
 use Rattle.decoding.proofs.decode.Given as goal
 
 abbrev pub invariant-loop-i : goal.invariant-loop-i

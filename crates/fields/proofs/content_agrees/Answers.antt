@@ -1,6 +1,5 @@
 -- `content_agrees` meets its contract.
 use borrow.Author.Tests.{le-leb, lt-leb}
-use borrow.Author.Rules.{rules}
 use Rattle.fields.proofs.content_agrees.Goals as goal
 
 pub returns-then-round-ge1 : goal.returns-then-round-ge1

@@ -1,5 +1,4 @@
 -- `has_form` meets its contract.
-use borrow.Author.Rules.{rules}
 use Rattle.fields.proofs.has_form.Goals as goal
 
 pub returns-then-sound : goal.returns-then-sound

@@ -1,7 +1,6 @@
 -- `number_of_two` meets its contract.
 use native.Mathlib.Omega.{arith}
 use Rattle.fields.specs.Form.{number}
-use borrow.Author.Rules.{rules}
 use Rattle.fields.proofs.number_of_two.Goals as goal
 
 pub returns : goal.returns

@@ -4,7 +4,6 @@ use native.Mathlib.Numerals.{towards_suc}
 use native.Mathlib.Omega.{arith}
 use lib.ListN.{length-set}
 use Rattle.fields.specs.Form.{big}
-use borrow.Author.Rules.{rules}
 use Rattle.fields.proofs.put_four.Goals as goal
 
 pub bounds-out-at-2 : goal.bounds-out-at-2

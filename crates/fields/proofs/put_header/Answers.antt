@@ -1,6 +1,5 @@
 -- `put_header` meets its contract: the callees' stores, one behind the other.
 use Rattle.fields.specs.Form.{big}
-use borrow.Author.Rules.{rules}
 use Rattle.fields.proofs.put_header.Goals as goal
 
 pub returns : goal.returns

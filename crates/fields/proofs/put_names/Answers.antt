@@ -1,7 +1,6 @@
 -- `put_names` meets its contract: four stores.
 use native.Mathlib.Omega.{arith}
 use lib.ListN.{length-set}
-use borrow.Author.Rules.{rules}
 use Rattle.fields.proofs.put_names.Goals as goal
 
 pub bounds-out-1 : goal.bounds-out-1

@@ -1,6 +1,5 @@
 -- `put_version` meets its contract: the callees' stores, one behind the other.
 use Rattle.fields.specs.Form.{big, version_bytes}
-use borrow.Author.Rules.{rules}
 use Rattle.fields.proofs.put_version.Goals as goal
 
 pub returns : goal.returns

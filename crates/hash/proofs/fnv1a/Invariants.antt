@@ -1,14 +1,9 @@
 -- `hash::fnv1a` meets its contract. The loop's invariant: h is the hash of the bytes passed.
 -- a byte at the end is hashed last
-use mathlib.Core.Path.{◌≡◌, refl, sym, ◌∙◌, ap}
-use mathlib.Core.List.{List, [], ◌∷◌, ◌++◌}
-use Prim.Native.Nat.{ℕ, ◌+◌, ◌-◌, ◌≤◌, ◌<◌}
-use native.Mathlib.Numerals.{add-one}
-use native.Mathlib.Omega.{arith}
-use borrow.Author.Rules.{rules}
-use lib.ListN.{length, get_or, take}
-use lib.Seq.{take-suc, take_all}
-use Rattle.hash.specs.Fnv.{fnv_byte, fnv_from, fnv}
+use mathlib.Core.Path.{◌≡◌}
+use Prim.Native.Nat.{◌-◌, ◌≤◌}
+use lib.ListN.{length, take}
+use Rattle.hash.specs.Fnv.{fnv}
 use Rattle.hash.proofs.fnv1a.Given as goal
 
 abbrev pub invariant-loop-i : goal.invariant-loop-i

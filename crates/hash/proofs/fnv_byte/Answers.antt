@@ -1,6 +1,5 @@
 -- `hash::fnv_byte` meets its contract: what it returns is what the definition says of one byte.
 use Rattle.hash.specs.Fnv.{fnv_byte}
-use borrow.Author.Rules.{rules}
 use Rattle.hash.proofs.fnv_byte.Goals as goal
 
 pub returns : goal.returns

@@ -1,7 +1,6 @@
 -- `vectors::cases` is safe and ends: a line lies within the input. The measure is what is left of it.
 use Prim.Native.Nat.{◌≤◌, ◌+◌, ◌-◌}
 use lib.ListN.{length}
-use borrow.Author.Rules.{rules}
 use Rattle.vectors.proofs.cases.Given as goal
 
 abbrev pub invariant-loop-at : goal.invariant-loop-at

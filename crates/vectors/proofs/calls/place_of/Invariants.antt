@@ -1,6 +1,5 @@
 -- `vectors::calls::place_of` is safe and ends. The measure is the number of names that are left.
 use Prim.Native.Nat.{◌≤◌, ◌-◌}
-use borrow.Author.Rules.{rules}
 use Rattle.vectors.proofs.calls.place_of.Given as goal
 
 abbrev pub invariant-loop-i : goal.invariant-loop-i

@@ -1,7 +1,6 @@
 -- `vectors::showing::bytes` is safe and ends: each run is of one byte or more, and lies within the slice. The measure is what
 -- is left of it.
 use Prim.Native.Nat.{◌≤◌, ◌-◌}
-use native.Mathlib.Omega.{arith}
 use lib.ListN.{length}
 use Rattle.vectors.proofs.showing.bytes.Given as goal
 

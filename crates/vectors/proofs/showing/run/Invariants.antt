@@ -1,6 +1,5 @@
 -- `vectors::showing::run` meets its contract: the bytes seen lie within the slice. The measure is what is left of it.
 use Prim.Native.Nat.{◌≤◌, ◌+◌, ◌-◌}
-use native.Mathlib.Omega.{arith}
 use lib.ListN.{length}
 use Rattle.vectors.proofs.showing.run.Given as goal
 

@@ -1,6 +1,5 @@
 -- `vectors::words::next` meets its contract. The measure is what is left of the slice.
 use Prim.Native.Nat.{◌≤◌, ◌-◌}
-use native.Mathlib.Omega.{arith}
 use lib.ListN.{length}
 use Rattle.vectors.proofs.words.next.Given as goal
 

@@ -1,6 +1,5 @@
 -- `vectors::words::start` meets its contract. The measure is the number of words that are still to be passed.
 use Prim.Native.Nat.{◌≤◌, ◌-◌}
-use native.Mathlib.Omega.{arith}
 use lib.ListN.{length}
 use Rattle.vectors.proofs.words.start.Given as goal
 
