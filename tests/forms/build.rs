@@ -1,5 +1,6 @@
-//! Says where the static libraries of the proved crates are: `rt staticlib`
-//! writes them to target/staticlib of the repository.
+//! Says where the static libraries of the proved crates are: tests/run builds
+//! them by `rt lib` and copies them to target/staticlib of the repository, each
+//! under the name of the crate whose calls it exports.
 
 use std::path::Path;
 

@@ -1,5 +1,5 @@
-//! Links the static library of the exported calls: `rt staticlib` with the name
-//! of the crate writes it to target/staticlib of the repository.
+//! Links the static library of the exported calls: tests/run builds it by
+//! `rt lib` and copies it to target/staticlib of the repository.
 
 use std::path::Path;
 

@@ -82,6 +82,7 @@ pub fn read(bucket: &[u8]) -> Reading
 }
 
 // The bucket form of a table, written over the first 113 bytes; 13 where it has none, else 15 where there is no room.
+#[tactic(auto, using(crate::proofs::Answering::write_short), unfolding(crate::specs::Answers::written_number))]
 pub fn write(table: Decoded, out: &mut [u8]) -> Written
     ensures { numbered (written_number result) out.new ≡ write_of table out.old }
 {

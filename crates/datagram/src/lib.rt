@@ -257,6 +257,7 @@ fn write_plain(datagram: Datagram, out: &mut [u8]) -> Written
 }
 
 // A kind that carries a bucket: 13, else 14, else 15, else the whole.
+#[tactic(auto, using(crate::proofs::Answering::write_full_short), unfolding(crate::specs::Answers::written_number))]
 fn write_full(datagram: Datagram, out: &mut [u8]) -> Written
     requires { carries datagram.kind ≡ true }
     ensures { numbered (written_number result) out.new ≡ write_of datagram out.old }

@@ -36,11 +36,9 @@ const STORED: [(&[u8], &[u8]); 4] = [
 ];
 
 const HEADER: &str = "\
-use mathlib.Core.Path.{_≡_, refl}
-use mathlib.Core.List.{List, [], _∷_}
-use Prim.Native.Nat.{ℕ}
-use Rattle·model.specs.Compute.{computing}
-use Rattle·model.specs.Run.{run}
+use Rattle.std.specs.Prelude.{◌≡◌, refl, List, [], ◌∷◌}
+use Rattle.model.specs.Compute.{computing}
+use Rattle.model.specs.Run.{run}
 ";
 
 /// Bytes as a list of numbers, which any byte can be written in.

@@ -32,7 +32,7 @@ pub struct Repository {
     parts: HashSet<String>,
 }
 
-/// All files below a folder.
+/// All files below a folder; those that `rt` makes, in the folders `out` of the crates, are left out.
 fn files(folder: &Path) -> Vec<PathBuf> {
     let mut found = Vec::new();
     let Ok(entries) = fs::read_dir(folder) else {
@@ -40,6 +40,9 @@ fn files(folder: &Path) -> Vec<PathBuf> {
     };
     for entry in entries {
         let path = entry.expect("it can be read").path();
+        if path.ends_with("out") {
+            continue;
+        }
         if path.is_dir() {
             found.extend(files(&path));
         } else {
@@ -168,15 +171,12 @@ impl Repository {
         }
     }
 
-    /// Whether some name ends in this, written `..In` or `-means`, or begins with
-    /// it, written `max..`.
+    /// Whether some name ends in this, written `.._in`, or begins with it, written
+    /// `max_..`.
     fn has_part(&self, word: &str) -> Option<bool> {
         let mut names = self.defined.values().flatten();
         if let Some(end) = word.strip_prefix("..") {
             return Some(names.any(|name| name != end && name.ends_with(end)));
-        }
-        if word.starts_with('-') {
-            return Some(names.any(|name| name.ends_with(word)));
         }
         let start = word.strip_suffix("..")?;
         Some(names.any(|name| name != start && name.starts_with(start)))
@@ -199,7 +199,7 @@ impl Repository {
         if self.parts.contains(word) || self.find(word, folder).is_some() {
             return true;
         }
-        // A name in a file of that name: `Leader.beginCall`.
+        // A name in a file of that name: `Leader.begin_call`.
         if let Some((file, name)) = word.split_once('.') {
             return self
                 .find(file, folder)

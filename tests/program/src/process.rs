@@ -17,12 +17,12 @@ const LIMIT: Duration = Duration::from_secs(120);
 const PATIENCE: Duration = Duration::from_millis(20);
 
 /// The program to test: the path in the variable BENCH, otherwise what
-/// `rt check bench` linked.
+/// `rt run` built in crates/bench.
 pub fn bench() -> PathBuf {
-    let linked = Path::new(env!("CARGO_MANIFEST_DIR")).join("../../target/bin/bench");
+    let linked = Path::new(env!("CARGO_MANIFEST_DIR")).join("../../crates/bench/out/bench");
     let path = std::env::var_os("BENCH").map_or(linked, PathBuf::from);
     let there = path.is_file();
-    assert!(there, "no program {path:?}: run `rt check bench` first");
+    assert!(there, "no program {path:?}: run `rt run` in crates/bench first");
     path
 }
 

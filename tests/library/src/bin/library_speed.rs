@@ -1,6 +1,6 @@
 //! How fast the proved library runs a script of 1,000,000 accepted lines for
 //! five servers, beside the independent bench. Not part of the gate. From the
-//! top of the repository, after `rt staticlib` of the crate that build.rs names:
+//! top of the repository, after tests/run, which builds the library:
 //!
 //! ```text
 //! cargo run --offline --release --manifest-path tests/Cargo.toml --bin library_speed

@@ -5,7 +5,7 @@
 //! of the repository:
 //!
 //! ```text
-//! rt check bench
+//! (cd crates/bench && rt run < stdin)
 //! cargo build --offline --release --manifest-path tests/Cargo.toml -p reference -p program
 //! tests/target/release/program_instructions
 //! ```

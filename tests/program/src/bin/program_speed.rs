@@ -3,7 +3,7 @@
 //! the gate. From the top of the repository:
 //!
 //! ```text
-//! rt check bench
+//! (cd crates/bench && rt run < stdin)
 //! cargo build --offline --release --manifest-path tests/Cargo.toml -p reference -p program
 //! tests/target/release/program_speed
 //! ```
