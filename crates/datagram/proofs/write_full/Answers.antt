@@ -3,7 +3,6 @@ use mathlib.Core.Path.{sym, ◌∙◌}
 use native.Mathlib.Omega.{arith}
 use Rattle.datagram.specs.Answers.{written_number}
 use Rattle.datagram.proofs.Answering.{write_unfit, write_full_wrong, write_full_done}
-use borrow.Author.Rules.{rules}
 use Rattle.datagram.proofs.write_full.Goals as goal
 
 pub put_full-requires : goal.put_full-requires
