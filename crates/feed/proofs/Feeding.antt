@@ -14,7 +14,7 @@ use Rattle.runs.specs.Meaning.{tally_in, outcome_in}
 use Rattle.input.specs.Reading.{Reading, reading, kept_all, NoFeed, ended, ended_text, fed, fed_text}
 use Rattle.input.proofs.Parts.{fed_append, fed_text_append, line_kept, line_silent, line_feed, past_kept, past_silent}
 use Rattle.input.proofs.Whole.{step_kept}
-use Rattle.lines.specs.Sessions.{Held, held, Session, present_line, ended_line, held_after, reading_in}
+use Rattle.lines.specs.Sessions.{Held, Session, present_line, ended_line, held_after, reading_in}
 use Rattle.lines.specs.Lines.{LineEnded}
 use Rattle.lines.proofs.Holding.{put_all_means, put_all_size, ended_whole, ended_rest, after_whole, after_rest}
 use Rattle.print.specs.Room.{line_room}

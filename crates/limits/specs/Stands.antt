@@ -1,10 +1,9 @@
 -- A cluster that stands within the measures, and its tally: what every line keeps (`within_always` in proofs/Always.antt).
 use Rattle.std.specs.Prelude.{◌≡◌, List, [], ℕ, ◌*◌, ◌≤◌}
 use Rattle.std.proofs.Math.Option.{Option, none, some}
-use Rattle.table.specs.Form.{within}
 use Rattle.model.specs.Measures.{max_servers, max_buckets, max_messages, max_accepted, max_election}
 use Rattle.model.specs.Cluster.{Message, Cluster}
-use Rattle.model.specs.Lines.{initial_state, Tally, tallied}
+use Rattle.model.specs.Lines.{initial_state, Tally}
 use Rattle.limits.specs.Tally.{Tallied}
 use Rattle.limits.specs.Measures.{ClusterWithin}
 

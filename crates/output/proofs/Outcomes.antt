@@ -6,7 +6,7 @@ use native.Mathlib.Omega.{arith}
 use borrow.Author.Tests.{ne_eqb}
 use lib.ListN.{length}
 use Rattle.entries.specs.Decoded.{table_in, value_bytes}
-use Rattle.model.specs.Lines.{refusal, printed}
+use Rattle.model.specs.Lines.{refusal}
 use Rattle.model.specs.Print.{answer_texts, outcome_text}
 use Rattle.views.specs.Changes.{answers_at}
 use Rattle.runs.specs.declared.Report.{Report}

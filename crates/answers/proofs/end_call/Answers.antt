@@ -7,7 +7,6 @@ use Rattle.open_calls.specs.Calls.{ended_of}
 use Rattle.views.specs.Changes.{put_answer}
 use Rattle.answers.specs.Answers.{written}
 use Rattle.answers.proofs.Ended.{ended_open, ended_none}
-use borrow.Author.Rules.{rules}
 use Rattle.answers.proofs.end_call.Goals as goal
 
 pub returns-then-is_open_call : goal.returns-then-is_open_call

@@ -1,6 +1,5 @@
 -- `answers::end_calls` meets its contract: slot by slot.
 use mathlib.Core.Path.{◌≡◌, refl, sym, ap, ◌∙◌}
-use Prim.Native.Nat.{◌≤◌, ◌-◌}
 use native.Mathlib.Omega.{arith}
 use Rattle.memory.specs.Layout.{slot_of}
 use Rattle.views.specs.Changes.{ended_call, ended_calls}

@@ -1,7 +1,6 @@
 -- `answers::put_answer` meets its contract: word by word.
 use mathlib.Core.Path.{refl}
 use Rattle.views.specs.Changes.{put_answer}
-use borrow.Author.Rules.{rules}
 use Rattle.answers.proofs.put_answer.Goals as goal
 
 pub returns : goal.returns

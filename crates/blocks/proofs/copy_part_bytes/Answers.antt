@@ -1,8 +1,6 @@
 -- `blocks::copy_part_bytes` meets its contract. The invariant: the first j bytes are copied.
-use Prim.Native.Nat.{◌-◌}
 use native.Mathlib.Omega.{arith}
-use lib.ListN.{drop}
-use Rattle.blocks.proofs.Copies.{Copied, starts, turns_part, ends}
+use Rattle.blocks.proofs.Copies.{starts, turns_part, ends}
 use Rattle.blocks.proofs.copy_part_bytes.Goals as goal
 
 pub loop-j-init : goal.loop-j-init

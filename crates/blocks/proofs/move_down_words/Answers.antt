@@ -1,8 +1,6 @@
 -- `blocks::move_down_words` meets its contract. The invariant: the first j words are moved.
-use Prim.Native.Nat.{◌-◌}
 use native.Mathlib.Omega.{arith}
-use lib.ListN.{drop}
-use Rattle.blocks.proofs.Copies.{Copied, starts, turns_down, ends}
+use Rattle.blocks.proofs.Copies.{starts, turns_down, ends}
 use Rattle.blocks.proofs.move_down_words.Goals as goal
 
 pub loop-j-init : goal.loop-j-init

@@ -1,8 +1,7 @@
 -- `blocks::move_down_words` meets its contract. The invariant: the first j words are moved.
 use Prim.Native.Nat.{◌-◌}
-use native.Mathlib.Omega.{arith}
 use lib.ListN.{drop}
-use Rattle.blocks.proofs.Copies.{Copied, starts, turns_down, ends}
+use Rattle.blocks.proofs.Copies.{Copied}
 use Rattle.blocks.proofs.move_down_words.Given as goal
 
 abbrev pub invariant-loop-j : goal.invariant-loop-j

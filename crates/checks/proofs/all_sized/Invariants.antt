@@ -1,11 +1,7 @@
 -- `all_sized` meets its contract: entry by entry.
 use Rattle.table.specs.Form.{sized}
-use borrow.Author.Rules.{rules}
 use Prim.Native.Nat.{◌-◌}
-use native.Mathlib.Omega.{arith}
-use mathlib.Core.Path.{sym, ◌∙◌}
-use Rattle.checks.proofs.Testing.{Testing, testing_starts, sized_goes_on, sized_fails, sized_ends}
-use Rattle.entries.proofs.Views.{table_whole}
+use Rattle.checks.proofs.Testing.{Testing}
 use Rattle.checks.proofs.all_sized.Given as goal
 
 abbrev pub invariant-loop-i : goal.invariant-loop-i

@@ -1,6 +1,5 @@
 -- `fits` meets its contract: sizes first, then the order.
 use Rattle.table.proofs.Fitting.{fits_sized, fits_unsized}
-use borrow.Author.Rules.{rules}
 use mathlib.Core.Path.{sym, ◌∙◌}
 use Rattle.checks.proofs.fits.Goals as goal
 

@@ -1,8 +1,5 @@
 -- `sound` meets its contract: the count first, then slot by slot.
-use lib.ListN.{length-map}
-use Rattle.checks.proofs.Sounding.{Sounding, sounding_starts, sounding_goes_on, sounding_fails, sounding_ends, sound_count, sound_by_slots}
-use Prim.Native.Nat.{◌-◌}
-use borrow.Author.Rules.{rules}
+use Rattle.checks.proofs.Sounding.{sounding_starts, sounding_goes_on, sounding_fails, sounding_ends, sound_count, sound_by_slots}
 use mathlib.Core.Path.{sym, ◌∙◌}
 use Rattle.checks.proofs.sound.Goals as goal
 

@@ -1,9 +1,6 @@
 -- `sound` meets its contract: the count first, then slot by slot.
-use lib.ListN.{length-map}
-use Rattle.checks.proofs.Sounding.{Sounding, sounding_starts, sounding_goes_on, sounding_fails, sounding_ends, sound_count, sound_by_slots}
+use Rattle.checks.proofs.Sounding.{Sounding}
 use Prim.Native.Nat.{◌-◌}
-use borrow.Author.Rules.{rules}
-use mathlib.Core.Path.{sym, ◌∙◌}
 use Rattle.checks.proofs.sound.Given as goal
 
 abbrev pub invariant-loop-i : goal.invariant-loop-i

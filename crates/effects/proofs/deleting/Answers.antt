@@ -1,6 +1,5 @@
 -- `deleting` meets its contract: an absent value takes the key away.
 use mathlib.Core.Path.{ap, ◌∙◌}
-use borrow.Author.Rules.{rules}
 use Rattle.entries.specs.Decoded.{key_bytes, item_in, table_in}
 use Rattle.entries.proofs.Views.{absent_none}
 use Rattle.model.specs.Calls.{setting, effect}

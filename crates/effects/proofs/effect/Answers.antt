@@ -1,6 +1,5 @@
 -- `effect` meets its contract: each arm is the definition's at that kind.
 use mathlib.Core.Path.{◌≡◌, sym, ap, ◌∙◌}
-use borrow.Author.Rules.{rules}
 use borrow.Author.Tests.{ne_eqb}
 use Rattle.entries.specs.Decoded.{key_bytes, item_in, table_in}
 use Rattle.model.specs.Calls as calls

@@ -1,5 +1,4 @@
 -- `getting` meets its contract: a value that is there is told from none.
-use borrow.Author.Rules.{rules}
 use Rattle.entries.specs.Decoded.{item_in}
 use Rattle.model.specs.Calls.{effect}
 use Rattle.server.specs.Views.{result_in, effect_in}

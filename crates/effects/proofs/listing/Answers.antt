@@ -1,6 +1,5 @@
 -- `listing` meets its contract.
 use mathlib.Core.Path.{refl}
-use borrow.Author.Rules.{rules}
 use Rattle.model.specs.Calls.{effect}
 use Rattle.server.specs.Views.{result_in, effect_in}
 use Rattle.effects.proofs.listing.Goals as goal

@@ -1,5 +1,4 @@
 -- `same_item` meets its contract: an absent value is the same as an absent one alone.
-use borrow.Author.Rules.{rules}
 use Rattle.entries.specs.Decoded.{item_in}
 use Rattle.table.specs.Form.{same_value}
 use Rattle.effects.proofs.same_item.Goals as goal

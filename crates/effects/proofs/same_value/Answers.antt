@@ -1,5 +1,4 @@
 -- `same_value` meets its contract: the values are compared byte by byte.
-use Prim.Native.Nat.{◌-◌}
 use mathlib.Core.Bool.{Bool, true, false}
 use mathlib.Core.Path.{◌≡◌, sym, ap, ap₂, ◌∙◌}
 use borrow.Author.Rules.{rules}
@@ -10,7 +9,7 @@ use Rattle.entries.specs.Entries.{order}
 use Rattle.std.specs.Prelude.{ℕ}
 use Rattle.entries.specs.declared.Value.{Value}
 use Rattle.entries.specs.Decoded.{Cut, value_bytes}
-use Rattle.entries.proofs.Comparison.{Comparing, comparing_starts, comparing_less, comparing_more, comparing_goes_on, comparing_longer, comparing_shorter, comparing_ends}
+use Rattle.entries.proofs.Comparison.{comparing_starts, comparing_less, comparing_more, comparing_goes_on, comparing_longer, comparing_shorter, comparing_ends}
 use Rattle.entries.proofs.Views.{value_whole, value_within}
 use Rattle.table.specs.Form.{same_bytes}
 use Rattle.effects.proofs.same_value.Goals as goal

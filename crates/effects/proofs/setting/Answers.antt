@@ -1,5 +1,4 @@
 -- `setting` meets its contract: both ask whether there was room.
-use borrow.Author.Rules.{rules}
 use Rattle.server.specs.Views.{result_in, effect_in}
 use Rattle.effects.proofs.EffectLaws.{setting_of}
 use Rattle.effects.proofs.setting.Goals as goal

@@ -1,7 +1,6 @@
 -- `setting_if` meets its contract: the present value is compared first.
 use mathlib.Core.Path.{◌≡◌, sym, ap, ◌∙◌}
 use mathlib.Core.Bool.{true, false}
-use borrow.Author.Rules.{rules}
 use Rattle.entries.specs.Entries.{value_of}
 use Rattle.entries.specs.Decoded.{key_bytes, item_in, table_in}
 use Rattle.table.specs.Form.{same_value}

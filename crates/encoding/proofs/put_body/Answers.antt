@@ -1,9 +1,6 @@
 -- `put_body` meets its contract: entry by entry.
-use borrow.Author.Rules.{rules}
-use Prim.Native.Nat.{◌-◌}
-use Rattle.table.proofs.Filling.{Bodying, bodying_starts, bodying_goes_on, bodying_ends}
+use Rattle.table.proofs.Filling.{bodying_starts, bodying_goes_on, bodying_ends}
 use Rattle.entries.proofs.Views.{table_whole}
-use native.Mathlib.Omega.{arith}
 use Rattle.encoding.proofs.put_body.Goals as goal
 
 pub loop-i-init : goal.loop-i-init

@@ -1,9 +1,6 @@
 -- `put_body` meets its contract: entry by entry.
-use borrow.Author.Rules.{rules}
 use Prim.Native.Nat.{◌-◌}
-use Rattle.table.proofs.Filling.{Bodying, bodying_starts, bodying_goes_on, bodying_ends}
-use Rattle.entries.proofs.Views.{table_whole}
-use native.Mathlib.Omega.{arith}
+use Rattle.table.proofs.Filling.{Bodying}
 use Rattle.encoding.proofs.put_body.Given as goal
 
 abbrev pub invariant-loop-i : goal.invariant-loop-i

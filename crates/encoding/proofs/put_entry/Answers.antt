@@ -1,5 +1,4 @@
 -- `put_entry` meets its contract: the value behind the key.
-use borrow.Author.Rules.{rules}
 use Rattle.entries.specs.Decoded.{key_bytes, value_bytes}
 use Rattle.table.proofs.Filling.{sets_both}
 use native.Mathlib.Omega.{arith}

@@ -1,6 +1,5 @@
 -- `put_four` meets its contract: four stores.
 use native.Mathlib.Numerals.{towards_suc}
-use borrow.Author.Rules.{rules}
 use native.Mathlib.Omega.{arith}
 use lib.ListN.{length-set}
 use Rattle.encoding.proofs.put_four.Goals as goal

@@ -1,9 +1,6 @@
 -- `put_header` meets its contract: entry by entry.
-use borrow.Author.Rules.{rules}
-use Prim.Native.Nat.{◌-◌}
 use Rattle.entries.proofs.Views.{table_whole}
-use Rattle.table.proofs.Filling.{Heading, heading_starts, heading_goes_on, heading_ends}
-use native.Mathlib.Omega.{arith}
+use Rattle.table.proofs.Filling.{heading_starts, heading_goes_on, heading_ends}
 use Rattle.encoding.proofs.put_header.Goals as goal
 
 pub loop-i-init : goal.loop-i-init

@@ -1,10 +1,9 @@
 -- `put_key` meets its contract: byte by byte.
-use Prim.Native.Nat.{◌-◌}
 use lib.Seq.{length-take-le, get_or-take}
 use lib.ListN.{take}
 use Rattle.entries.proofs.Views.{key_whole, key_within}
 use borrow.Author.Rules.{rules}
-use Rattle.table.proofs.Filling.{Putting, putting_starts, putting_goes_on, putting_ends}
+use Rattle.table.proofs.Filling.{putting_starts, putting_goes_on, putting_ends}
 use Rattle.encoding.proofs.put_key.Goals as goal
 
 pub loop-i-init : goal.loop-i-init

@@ -1,5 +1,4 @@
 -- `put_offsets` meets its contract: the lengths are those of the key and the value.
-use borrow.Author.Rules.{rules}
 use native.Mathlib.Omega.{arith}
 use Rattle.encoding.proofs.put_offsets.Goals as goal
 

@@ -1,10 +1,9 @@
 -- `put_value` meets its contract: byte by byte.
-use Prim.Native.Nat.{◌-◌}
 use lib.Seq.{length-take-le, get_or-take}
 use Rattle.entries.proofs.Views.{value_whole, value_within}
 use lib.ListN.{take}
 use borrow.Author.Rules.{rules}
-use Rattle.table.proofs.Filling.{Putting, putting_starts, putting_goes_on, putting_ends}
+use Rattle.table.proofs.Filling.{putting_starts, putting_goes_on, putting_ends}
 use Rattle.encoding.proofs.put_value.Goals as goal
 
 pub loop-i-init : goal.loop-i-init

@@ -1,8 +1,7 @@
 -- `put_zeros` meets its contract: byte by byte.
-use Prim.Native.Nat.{◌-◌}
 use borrow.Author.Rules.{rules}
-use Rattle.table.proofs.Filling.{Putting, putting_starts, putting_goes_on, putting_ends}
-use lib.ListN.{replicate, length-replicate, get_or-replicate}
+use Rattle.table.proofs.Filling.{putting_starts, putting_goes_on, putting_ends}
+use lib.ListN.{length-replicate, get_or-replicate}
 use Rattle.encoding.proofs.put_zeros.Goals as goal
 
 pub loop-i-init : goal.loop-i-init

@@ -1,5 +1,4 @@
 -- `flight::broadcast_of` meets its contract: field by field.
-use borrow.Author.Rules.{rules}
 use Rattle.flight.proofs.broadcast_of.Goals as goal
 
 pub returns : goal.returns

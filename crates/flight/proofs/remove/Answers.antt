@@ -1,7 +1,6 @@
 -- `flight::remove` meets its contract: what its callee leaves, by its name.
 use native.Mathlib.Omega.{arith}
 use Rattle.views.specs.Queue.{without_message}
-use borrow.Author.Rules.{rules}
 use Rattle.flight.proofs.remove.Goals as goal
 
 pub returns : goal.returns

@@ -1,6 +1,5 @@
 -- `flight::send_all` meets its contract: server by server, and the count of those sent so far leaves room.
 use mathlib.Core.Path.{◌≡◌, refl, sym, ap, ◌∙◌}
-use Prim.Native.Nat.{◌≤◌, ◌-◌}
 use native.Mathlib.Omega.{arith}
 use Rattle.blocks.specs.Blocks.{block}
 use Rattle.memory.specs.Layout.{content_size}
@@ -20,8 +19,7 @@ send_to-sent-requires c =
 
 pub loop-receiver-preserved : goal.loop-receiver-preserved
 loop-receiver-preserved c =
-    let v = block content_size c.args.slot c.args.working.now in
-    (
+    let v = block content_size c.args.slot c.args.working.now in (
       omega arith,
       (
         c.send_to-sent.ensures.is ∙ ap (sent_to v c.args.message c.loop-receiver.receiver) c.loop-receiver.invariant.1.0 ∙ sym (spread_next v c.args.message (flight c.args.queue.now c.args.payloads.now c.args.count) c.loop-receiver.receiver),

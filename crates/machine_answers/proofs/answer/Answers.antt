@@ -2,7 +2,6 @@
 use native.Mathlib.Omega.{arith}
 use borrow.Author.Tests.{eq-eqb, ne_eqb}
 use Rattle.views.specs.Changes.{answered}
-use borrow.Author.Rules.{rules}
 use Rattle.machine_answers.proofs.answer.Goals as goal
 
 pub returns-then-next-2 : goal.returns-then-next-2

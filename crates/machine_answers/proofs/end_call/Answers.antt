@@ -8,7 +8,6 @@ use Rattle.memory_regions.specs.Regions.{regions}
 use Rattle.views.specs.Changes.{put_answer}
 use Rattle.machine_answers.specs.Answers.{written}
 use Rattle.machine_answers.proofs.Ended.{ended_open, ended_none}
-use borrow.Author.Rules.{rules}
 use Rattle.machine_answers.proofs.end_call.Goals as goal
 
 pub returns-then-is_open_call : goal.returns-then-is_open_call

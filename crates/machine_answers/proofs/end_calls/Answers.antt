@@ -1,10 +1,8 @@
 -- `machine_answers::end_calls` meets its contract: slot by slot.
 use mathlib.Core.Path.{◌≡◌, refl, ap, ◌∙◌}
-use Prim.Native.Nat.{◌≤◌, ◌-◌}
 use native.Mathlib.Omega.{arith}
 use Rattle.memory_regions.specs.Regions.{regions}
 use Rattle.views.specs.Changes.{ended_calls}
-use Rattle.machine_answers.specs.Answers.{written}
 use Rattle.machine_answers.proofs.Ended.{ended_next}
 use Rattle.machine_answers.proofs.end_calls.Goals as goal
 

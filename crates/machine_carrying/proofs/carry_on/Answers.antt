@@ -3,7 +3,6 @@ use Rattle.memory_regions.specs.Regions.{regions}
 use Rattle.memory_regions.specs.Contents.{contents}
 use Rattle.views.specs.Arrays.{memory_of}
 use Rattle.machine_carrying.proofs.Parts.{carried_on}
-use Rattle.std.proofs.Common.{rules}
 use Rattle.machine_carrying.proofs.carry_on.Goals as goal
 
 pub next_counts-requires : goal.next_counts-requires

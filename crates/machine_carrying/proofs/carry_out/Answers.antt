@@ -1,6 +1,5 @@
 -- `machine_carrying::carry_out` meets its contract: the place of the message, the working content, then the rest.
 use Rattle.machine_carrying.proofs.Parts.{carried_out}
-use Rattle.std.proofs.Common.{rules}
 use Rattle.machine_carrying.proofs.carry_out.Goals as goal
 
 pub returns : goal.returns

@@ -1,5 +1,4 @@
 -- `machine_carrying::change_server` meets its contract: the answers, then the server.
-use Rattle.std.proofs.Common.{rules}
 use Rattle.machine_carrying.proofs.change_server.Goals as goal
 
 pub returns : goal.returns

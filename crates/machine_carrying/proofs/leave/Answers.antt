@@ -1,5 +1,5 @@
 -- `machine_carrying::leave` meets its contract: a copy leaves the message in the list.
-use Rattle.std.proofs.Common.{refl, rules}
+use Rattle.std.proofs.Common.{refl}
 use Rattle.views.specs.Queue.{without_message}
 use Rattle.machine_carrying.proofs.leave.Goals as goal
 

@@ -1,5 +1,5 @@
 -- `machine_carrying::lose` meets its contract: the list, then the counts.
-use Rattle.std.proofs.Common.{refl, rules}
+use Rattle.std.proofs.Common.{refl}
 use Rattle.memory_regions.specs.Regions.{regions}
 use Rattle.memory_regions.specs.Contents.{contents}
 use Rattle.views.specs.Arrays.{memory_of}

@@ -1,5 +1,4 @@
 -- `machine_carrying::next_counts` meets its contract: one more line.
-use Rattle.std.proofs.Common.{rules}
 use Rattle.machine_carrying.proofs.next_counts.Goals as goal
 
 pub returns : goal.returns

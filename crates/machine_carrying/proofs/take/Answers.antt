@@ -1,6 +1,5 @@
 -- `machine_carrying::take` meets its contract: by whether a call is taken.
 use Rattle.runs.specs.Runs.{taken}
-use Rattle.std.proofs.Common.{rules}
 use Rattle.machine_carrying.proofs.take.Goals as goal
 
 pub returns-then-plan : goal.returns-then-plan

@@ -1,5 +1,4 @@
 -- `machine_flight::broadcast_of` meets its contract: field by field.
-use borrow.Author.Rules.{rules}
 use Rattle.machine_flight.proofs.broadcast_of.Goals as goal
 
 pub returns : goal.returns

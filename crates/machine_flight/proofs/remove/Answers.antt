@@ -2,7 +2,6 @@
 use mathlib.Core.Path.{refl}
 use native.Mathlib.Omega.{arith}
 use Rattle.views.specs.Queue.{without_message}
-use borrow.Author.Rules.{rules}
 use Rattle.machine_flight.proofs.remove.Goals as goal
 
 pub returns : goal.returns

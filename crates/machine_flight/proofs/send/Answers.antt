@@ -11,7 +11,6 @@ use Rattle.views.specs.Arrays.{memory_of}
 use Rattle.views.specs.Queue.{appended, spread}
 use Rattle.machine_flight.specs.Flown.{flight_of, with_flight}
 use Rattle.machine_flight.proofs.Sends.{appended_is, flown_as, sends_nothing, sends_all, sends_reply, count_all, count_reply_lem}
-use borrow.Author.Rules.{rules}
 use Rattle.machine_flight.proofs.send.Goals as goal
 
 pub returns-then-next-eq-NO_MESSAGE : goal.returns-then-next-eq-NO_MESSAGE

@@ -1,6 +1,5 @@
 -- `machine_flight::send_all` meets its contract: server by server, and the count of those sent so far leaves room.
 use mathlib.Core.Path.{◌≡◌, refl, ap}
-use Prim.Native.Nat.{◌≤◌, ◌-◌}
 use native.Mathlib.Omega.{arith}
 use Rattle.blocks.specs.Blocks.{block}
 use Rattle.memory.specs.Layout.{content_size}
@@ -8,7 +7,7 @@ use Rattle.memory_regions.specs.Regions.{regions}
 use Rattle.memory_regions.specs.Contents.{contents}
 use Rattle.views.specs.Arrays.{memory_of}
 use Rattle.views.specs.Queue.{sent_to, spread}
-use Rattle.machine_flight.specs.Flown.{flight_of, Flown}
+use Rattle.machine_flight.specs.Flown.{flight_of}
 use Rattle.machine_flight.proofs.Sends.{flown_next, content_kept, spread_next, spread_room}
 use Rattle.machine_flight.proofs.send_all.Goals as goal
 

@@ -1,8 +1,7 @@
 -- `memory_contents::copy_within` meets its contract. The invariant: the first j bytes are copied.
 use Prim.Native.Nat.{◌-◌}
-use native.Mathlib.Omega.{arith}
 use lib.ListN.{drop}
-use Rattle.blocks.proofs.Copies.{Copied, starts, turns_within, ends}
+use Rattle.blocks.proofs.Copies.{Copied}
 use Rattle.memory_contents.proofs.copy_within.Given as goal
 
 abbrev pub invariant-loop-j : goal.invariant-loop-j

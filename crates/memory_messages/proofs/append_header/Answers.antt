@@ -1,5 +1,4 @@
 -- `memory_messages::append_header` meets its contract: the first free place, then the header there.
-use borrow.Author.Rules.{rules}
 use Rattle.memory_messages.proofs.append_header.Goals as goal
 
 pub returns : goal.returns

@@ -1,5 +1,4 @@
 -- `memory_messages::append_message` meets its contract: the header, then the content at the same place.
-use borrow.Author.Rules.{rules}
 use Rattle.memory_messages.proofs.append_message.Goals as goal
 
 pub returns : goal.returns

@@ -1,5 +1,4 @@
 -- `memory_messages::load_message` meets its contract: the header at its place.
-use borrow.Author.Rules.{rules}
 use Rattle.memory_messages.proofs.load_message.Goals as goal
 
 pub returns : goal.returns

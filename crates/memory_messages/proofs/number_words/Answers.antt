@@ -1,8 +1,6 @@
 -- `memory_messages::number_words` meets its contract: number by number.
-use Prim.Native.Nat.{◌-◌}
 use native.Mathlib.Omega.{arith}
-use borrow.Author.Rules.{rules}
-use Rattle.memory_messages.proofs.Numbers.{Numbered, numbers_start, numbers_go_on, numbers_end}
+use Rattle.memory_messages.proofs.Numbers.{numbers_start, numbers_go_on, numbers_end}
 use Rattle.memory_messages.proofs.number_words.Goals as goal
 
 pub loop-i-init : goal.loop-i-init

@@ -1,8 +1,6 @@
 -- `memory_messages::number_words` meets its contract: number by number.
 use Prim.Native.Nat.{◌-◌}
-use native.Mathlib.Omega.{arith}
-use borrow.Author.Rules.{rules}
-use Rattle.memory_messages.proofs.Numbers.{Numbered, numbers_start, numbers_go_on, numbers_end}
+use Rattle.memory_messages.proofs.Numbers.{Numbered}
 use Rattle.memory_messages.proofs.number_words.Given as goal
 
 abbrev pub invariant-loop-i : goal.invariant-loop-i

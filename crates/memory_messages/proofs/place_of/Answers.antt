@@ -10,8 +10,7 @@ use Rattle.memory_messages.proofs.place_of.Goals as goal
 
 pub returns : goal.returns
 unfolding place_at
-returns c =
-    (
-      c.place_field.ensures ∙ ap (λ x. x % message_room) (sym (queue_at c.args.words.now (order_place + c.args.index) (search rules))),
-      rw c.place_field.ensures (mod-lt _ (omega arith)),
-    )
+returns c = (
+  c.place_field.ensures ∙ ap (λ x. x % message_room) (sym (queue_at c.args.words.now (order_place + c.args.index) (search rules))),
+  rw c.place_field.ensures (mod-lt _ (omega arith)),
+)

@@ -1,6 +1,5 @@
 -- `messages::append_message` meets its contract: the first free place, then the header and the content there.
 use Rattle.memory.specs.Layout.{put_content}
-use borrow.Author.Rules.{rules}
 use Rattle.messages.proofs.append_message.Goals as goal
 
 pub returns : goal.returns

@@ -1,6 +1,5 @@
 -- `messages::load_header` meets its contract: what its callee reads, by its name.
 use Rattle.memory.specs.Layout.{header_at}
-use borrow.Author.Rules.{rules}
 use Rattle.messages.proofs.load_header.Goals as goal
 
 pub returns : goal.returns

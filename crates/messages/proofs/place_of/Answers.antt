@@ -2,7 +2,6 @@
 use native.Mathlib.Nat.{mod-lt}
 use native.Mathlib.Omega.{arith}
 use Rattle.memory.specs.Layout.{place_at}
-use borrow.Author.Rules.{rules}
 use Rattle.messages.proofs.place_of.Goals as goal
 
 pub returns : goal.returns

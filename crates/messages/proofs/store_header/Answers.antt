@@ -1,6 +1,5 @@
 -- `messages::store_header` meets its contract: what its callee stores, by its name.
 use Rattle.memory.specs.Layout.{put_header}
-use borrow.Author.Rules.{rules}
 use Rattle.messages.proofs.store_header.Goals as goal
 
 pub returns : goal.returns

@@ -1,5 +1,5 @@
 -- `ended` meets its contract.
-use Rattle.std.proofs.Common.{◌≡◌, ap, ◌∙◌, rules}
+use Rattle.std.proofs.Common.{◌≡◌, ap, ◌∙◌}
 use Rattle.server.specs.Views.{answer_in}
 use Rattle.open_calls.specs.Calls.{ended_of, answer_with}
 use Rattle.open_calls.proofs.CallLaws.{ended_means}

@@ -1,5 +1,5 @@
 -- `next_version` meets its contract.
-use Rattle.std.proofs.Common.{◌≡◌, ap, ◌∙◌, rules}
+use Rattle.std.proofs.Common.{◌≡◌, ap, ◌∙◌}
 use Rattle.server.specs.Views.{version_in}
 use Rattle.open_calls.specs.Calls.{version_of, next_version_of}
 use Rattle.open_calls.proofs.CallLaws.{next_version_means}

@@ -1,5 +1,5 @@
 -- `one_more` meets its contract.
-use Rattle.std.proofs.Common.{◌≡◌, ap, ◌∙◌, ap₂, rules}
+use Rattle.std.proofs.Common.{◌≡◌, ap, ◌∙◌, ap₂}
 use Rattle.server.specs.Views.{call_in}
 use Rattle.open_calls.specs.Calls.{call_with, one_more_of}
 use Rattle.open_calls.proofs.CallLaws.{one_more_means}

@@ -8,7 +8,6 @@ use Rattle.memory_found.specs.Found.{found_in}
 use Rattle.print.proofs.Printing.{fits_second, both}
 use Rattle.output_found.specs.Answers.{result_of}
 use Rattle.output_found.proofs.Texts.{head_of, line_text}
-use borrow.Author.Rules.{rules}
 use Rattle.output_found.proofs.put_line.Goals as goal
 
 pub put_head-after_head-requires : goal.put_head-after_head-requires

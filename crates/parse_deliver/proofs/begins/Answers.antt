@@ -1,6 +1,5 @@
 -- `begins` meets its contract.
 use mathlib.Core.Path.{refl}
-use borrow.Author.Rules.{rules}
 use native.Mathlib.Omega.{arith}
 use Rattle.model.specs.Text.{bytes}
 use Rattle.parse_deliver.proofs.Delivering.{absurd_read, begun_same}

@@ -1,5 +1,4 @@
 -- `deliver_line` meets its contract.
-use borrow.Author.Rules.{rules}
 use Rattle.parse.specs.Kept.{padded, key_for, item_for}
 use Rattle.parse.specs.Meaning.{parsed_line, parsed}
 use Rattle.parse_deliver.proofs.deliver_line.Goals as goal

@@ -1,8 +1,6 @@
 -- `digits_from` meets its contract: digit by digit.
-use borrow.Author.Rules.{rules}
-use Prim.Native.Nat.{◌-◌}
 use native.Mathlib.Omega.{arith}
-use Rattle.parse_deliver.proofs.Delivering.{Figuring, figuring_starts, figuring_small, figuring_goes_on}
+use Rattle.parse_deliver.proofs.Delivering.{figuring_starts, figuring_small, figuring_goes_on}
 use Rattle.parse_deliver.proofs.digits_from.Goals as goal
 
 pub loop-i-init : goal.loop-i-init

@@ -1,6 +1,5 @@
 -- `needless_zero` meets its contract.
 use mathlib.Core.Path.{refl}
-use borrow.Author.Rules.{rules}
 use Rattle.parse_deliver.proofs.Delivering.{absurd_read}
 use Rattle.parse_deliver.proofs.needless_zero.Goals as goal
 

@@ -1,7 +1,6 @@
 -- `number_and_feed` meets its contract.
 use mathlib.Core.Path.{refl}
 use native.Mathlib.Omega.{arith}
-use borrow.Author.Rules.{rules}
 use Rattle.parse_deliver.specs.Deliver.{other, numbered}
 use Rattle.parse_deliver.proofs.Delivering.{number_at}
 use Rattle.parse_deliver.proofs.number_and_feed.Goals as goal

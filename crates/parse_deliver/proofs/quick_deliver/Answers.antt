@@ -1,5 +1,4 @@
 -- `quick_deliver` meets its contract.
-use borrow.Author.Rules.{rules}
 use Rattle.parse_deliver.specs.Deliver.{unread}
 use Rattle.parse_deliver.proofs.Delivering.{deliver_read}
 use Rattle.parse_deliver.proofs.quick_deliver.Goals as goal

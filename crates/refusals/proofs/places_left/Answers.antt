@@ -3,7 +3,6 @@ use Prim.Native.Nat.{◌+◌, ◌-◌, ◌≤◌}
 use native.Mathlib.Omega.{arith}
 use mathlib.Core.Path.{◌≡◌}
 use Rattle.refusals.proofs.Sending.{few_sent}
-use borrow.Author.Rules.{rules}
 use Rattle.refusals.proofs.places_left.Goals as goal
 
 pub returns-then-cluster-gone : goal.returns-then-cluster-gone

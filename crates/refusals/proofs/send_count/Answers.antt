@@ -1,6 +1,5 @@
 -- `send_count` meets its contract: none, all others or one.
 use borrow.Author.Tests.{eq-eqb, ne_eqb}
-use borrow.Author.Rules.{rules}
 use Rattle.refusals.specs.Refusals.{send_count}
 use Rattle.refusals.proofs.send_count.Goals as goal
 

@@ -1,5 +1,5 @@
 -- `tally_after` meets its contract: count by count.
-use Rattle.std.proofs.Common.{rules, eq-eqb, ne_eqb}
+use Rattle.std.proofs.Common.{eq-eqb, ne_eqb}
 use Rattle.runs.specs.Meaning.{tally_after}
 use Rattle.runs.proofs.tally_after.Goals as goal
 

@@ -1,8 +1,7 @@
 -- `keys::compare` meets its contract: the keys are compared byte by byte.
 use Rattle.entries.specs.Entries.{order}
-use Prim.Native.Nat.{◌-◌}
 use borrow.Author.Rules.{rules}
-use Rattle.entries.proofs.Comparison.{Comparing, comparing_starts, comparing_less, comparing_more, comparing_goes_on, comparing_longer, comparing_shorter, comparing_ends}
+use Rattle.entries.proofs.Comparison.{comparing_starts, comparing_less, comparing_more, comparing_goes_on, comparing_longer, comparing_shorter, comparing_ends}
 use Rattle.entries.proofs.Views.{key_whole, key_within}
 use Rattle.std.specs.Prelude.{ℕ}
 use Rattle.entries.specs.Decoded.{Cut, key_bytes}

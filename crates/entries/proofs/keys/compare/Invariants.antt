@@ -1,12 +1,6 @@
 -- `keys::compare` meets its contract: the keys are compared byte by byte.
-use Rattle.entries.specs.Entries.{order}
 use Prim.Native.Nat.{◌-◌}
-use borrow.Author.Rules.{rules}
-use Rattle.entries.proofs.Comparison.{Comparing, comparing_starts, comparing_less, comparing_more, comparing_goes_on, comparing_longer, comparing_shorter, comparing_ends}
-use Rattle.entries.proofs.Views.{key_whole, key_within}
-use Rattle.entries.specs.Decoded.{key_bytes}
-use lib.ListN.{take}
-use mathlib.Core.Path.{◌≡◌, sym, ◌∙◌, ap₂}
+use Rattle.entries.proofs.Comparison.{Comparing}
 use Rattle.entries.proofs.keys.compare.Given as goal
 
 abbrev pub invariant-loop-i : goal.invariant-loop-i

@@ -1,8 +1,7 @@
 -- `keys::key_of` meets its contract: a copy of at most eight bytes.
 use Rattle.entries.specs.Decoded.{key_bytes}
 use borrow.Author.Rules.{rules}
-use Prim.Native.Nat.{◌-◌}
-use Rattle.entries.proofs.Lists.{Copying, copying_starts, copying_goes_on, copying_ends}
+use Rattle.entries.proofs.Lists.{copying_starts, copying_goes_on, copying_ends}
 use Rattle.entries.proofs.keys.key_of.Goals as goal
 
 pub loop-i-init : goal.loop-i-init

@@ -1,8 +1,6 @@
 -- `keys::key_of` meets its contract: a copy of at most eight bytes.
-use Rattle.entries.specs.Decoded.{key_bytes}
-use borrow.Author.Rules.{rules}
 use Prim.Native.Nat.{◌-◌}
-use Rattle.entries.proofs.Lists.{Copying, copying_starts, copying_goes_on, copying_ends}
+use Rattle.entries.proofs.Lists.{Copying}
 use Rattle.entries.proofs.keys.key_of.Given as goal
 
 abbrev pub invariant-loop-i : goal.invariant-loop-i

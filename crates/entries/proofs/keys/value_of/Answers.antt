@@ -1,8 +1,7 @@
 -- `keys::value_of` meets its contract: a copy of at most sixteen bytes.
 use borrow.Author.Rules.{rules}
-use Prim.Native.Nat.{◌-◌}
 use Rattle.entries.specs.Decoded.{value_bytes}
-use Rattle.entries.proofs.Lists.{Copying, copying_starts, copying_goes_on, copying_ends}
+use Rattle.entries.proofs.Lists.{copying_starts, copying_goes_on, copying_ends}
 use Rattle.entries.proofs.keys.value_of.Goals as goal
 
 pub loop-i-init : goal.loop-i-init

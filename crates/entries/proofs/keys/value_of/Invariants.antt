@@ -1,8 +1,6 @@
 -- `keys::value_of` meets its contract: a copy of at most sixteen bytes.
-use borrow.Author.Rules.{rules}
 use Prim.Native.Nat.{◌-◌}
-use Rattle.entries.specs.Decoded.{value_bytes}
-use Rattle.entries.proofs.Lists.{Copying, copying_starts, copying_goes_on, copying_ends}
+use Rattle.entries.proofs.Lists.{Copying}
 use Rattle.entries.proofs.keys.value_of.Given as goal
 
 abbrev pub invariant-loop-i : goal.invariant-loop-i

@@ -1,5 +1,4 @@
 -- `slots::absent` meets its contract.
-use borrow.Author.Rules.{rules}
 use Rattle.entries.proofs.slots.absent.Goals as goal
 
 pub returns : goal.returns

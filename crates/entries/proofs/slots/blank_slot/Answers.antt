@@ -1,5 +1,4 @@
 -- `slots::blank_slot` meets its contract.
-use borrow.Author.Rules.{rules}
 use Rattle.entries.proofs.slots.blank_slot.Goals as goal
 
 pub returns : goal.returns

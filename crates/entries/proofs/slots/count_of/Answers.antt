@@ -1,6 +1,5 @@
 -- `slots::count_of` meets its contract: there are four slots.
 use lib.ListN.{length, length-map}
-use borrow.Author.Rules.{rules}
 use mathlib.Core.Path.{◌≡◌, ◌∙◌}
 use Rattle.entries.proofs.Lists.{cut_length}
 use mathlib.Core.List.{map}

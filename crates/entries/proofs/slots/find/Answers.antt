@@ -1,7 +1,6 @@
 -- `slots::find` meets its contract: the value stands at the key's place.
 use Rattle.entries.proofs.Edits.{held_below, found}
 use mathlib.Core.Path.{sym, ap, ◌∙◌}
-use borrow.Author.Rules.{rules}
 use Rattle.entries.proofs.Changes.{absent_value}
 use native.Mathlib.Omega.{arith}
 use Rattle.entries.specs.Decoded.{item_in}

@@ -1,9 +1,6 @@
 -- `slots::inserted` meets its contract: each slot takes the one before it.
 use Prim.Native.Nat.{◌-◌}
-use native.Mathlib.Omega.{arith}
-use borrow.Author.Rules.{rules}
-use Rattle.entries.specs.Decoded.{blank}
-use Rattle.entries.proofs.Shifts.{Inserting, inserting_starts, inserting_goes_on, inserting_ends}
+use Rattle.entries.proofs.Shifts.{Inserting}
 use Rattle.entries.proofs.slots.inserted.Given as goal
 
 abbrev pub invariant-loop-i : goal.invariant-loop-i

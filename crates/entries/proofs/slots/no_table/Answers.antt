@@ -1,6 +1,5 @@
 -- `slots::no_table` meets its contract: none of its slots count.
 use mathlib.Core.Path.{refl}
-use borrow.Author.Rules.{rules}
 use Rattle.entries.specs.Decoded.{table_in}
 use Rattle.entries.proofs.slots.no_table.Goals as goal
 

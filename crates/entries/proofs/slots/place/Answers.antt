@@ -1,9 +1,6 @@
 -- `slots::place` meets its contract: the keys passed stand before k.
-use Prim.Native.Nat.{◌-◌}
-use Rattle.entries.specs.Decoded.{key_bytes}
 use mathlib.Core.Path.{sym, ◌∙◌}
-use Rattle.entries.proofs.Placing.{Placing, placing_starts, placing_before, placing_same, placing_goes_on, placing_ends}
-use borrow.Author.Rules.{rules}
+use Rattle.entries.proofs.Placing.{placing_starts, placing_before, placing_same, placing_goes_on, placing_ends}
 use Rattle.entries.proofs.Views.{table_whole}
 use Rattle.entries.proofs.slots.place.Goals as goal
 

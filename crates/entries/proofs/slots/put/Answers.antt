@@ -3,7 +3,6 @@ use Rattle.entries.specs.Decoded.{value_bytes, entry_in}
 use mathlib.Core.Path.{refl}
 use native.Mathlib.Omega.{arith}
 use Rattle.entries.proofs.Edits.{held_below, place_within, storing_replaced, storing_inserted, storing_full}
-use borrow.Author.Rules.{rules}
 use Rattle.entries.proofs.slots.put.Goals as goal
 
 pub replaced-same-requires : goal.replaced-same-requires

@@ -2,7 +2,6 @@
 use Rattle.entries.proofs.Edits.{held_below, table_removed}
 use Rattle.entries.proofs.Changes.{absent_remove}
 use mathlib.Core.Path.{sym, ◌∙◌}
-use borrow.Author.Rules.{rules}
 use native.Mathlib.Omega.{arith}
 use Rattle.entries.proofs.slots.remove.Goals as goal
 

@@ -1,9 +1,8 @@
 -- `slots::removed` meets its contract: each slot takes the one behind it.
-use Prim.Native.Nat.{◌-◌}
 use native.Mathlib.Omega.{arith}
 use borrow.Author.Rules.{rules}
 use Rattle.entries.specs.Decoded.{blank}
-use Rattle.entries.proofs.Shifts.{Removing, removing_starts, removing_goes_on, removing_ends}
+use Rattle.entries.proofs.Shifts.{removing_starts, removing_goes_on, removing_ends}
 use Rattle.entries.proofs.slots.removed.Goals as goal
 
 pub loop-i-init : goal.loop-i-init

@@ -1,9 +1,6 @@
 -- `slots::removed` meets its contract: each slot takes the one behind it.
 use Prim.Native.Nat.{◌-◌}
-use native.Mathlib.Omega.{arith}
-use borrow.Author.Rules.{rules}
-use Rattle.entries.specs.Decoded.{blank}
-use Rattle.entries.proofs.Shifts.{Removing, removing_starts, removing_goes_on, removing_ends}
+use Rattle.entries.proofs.Shifts.{Removing}
 use Rattle.entries.proofs.slots.removed.Given as goal
 
 abbrev pub invariant-loop-i : goal.invariant-loop-i

@@ -1,6 +1,5 @@
 -- `slots::store` meets its contract: an absent value takes the key away.
 use Rattle.entries.proofs.Edits.{storing_removed}
-use borrow.Author.Rules.{rules}
 use Rattle.entries.specs.Decoded.{item_in}
 use Rattle.entries.proofs.slots.store.Goals as goal
 

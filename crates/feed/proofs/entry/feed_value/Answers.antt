@@ -1,6 +1,5 @@
 -- `entry::feed_value` meets its contract.
 use Rattle.feed.proofs.Entering.{part_fed}
-use borrow.Author.Rules.{rules}
 use Rattle.feed.proofs.entry.feed_value.Goals as goal
 
 pub returns : goal.returns

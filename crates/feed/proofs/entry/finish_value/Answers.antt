@@ -4,7 +4,6 @@ use native.Mathlib.Omega.{arith}
 use lib.Seq.{length-take-le}
 use Rattle.print.specs.Room.{line_room}
 use Rattle.feed.proofs.Entering.{end_waits, end_finished, tally_fits}
-use borrow.Author.Rules.{rules}
 use Rattle.feed.proofs.entry.finish_value.Goals as goal
 
 pub returns-then-out-lt-FINISH_ROOM : goal.returns-then-out-lt-FINISH_ROOM

@@ -1,5 +1,4 @@
 -- `feeding::advance` meets its contract.
-use borrow.Author.Rules.{rules}
 use Rattle.lines.proofs.Advancing.{line_allowed, advanced_line, advanced_stopped}
 use Rattle.lines.proofs.feeding.advance.Goals as goal
 

@@ -1,11 +1,7 @@
 -- `feeding::feed_part` meets its contract: the steps, one after the other, then the rest.
 use mathlib.Core.Path.{ap}
 use native.Mathlib.Omega.{arith}
-use lib.ListN.{length}
-use borrow.Author.Rules.{rules}
-use Rattle.views.specs.Memory.{memory}
-use Rattle.lines.specs.Sessions.{held, session}
-use Rattle.lines.proofs.Advancing.{Going, going_starts, going_on, going_ends, steps_left, steps_fall}
+use Rattle.lines.proofs.Advancing.{going_starts, going_on, going_ends, steps_fall}
 use Rattle.lines.proofs.feeding.feed_part.Goals as goal
 
 pub loop-progress-init : goal.loop-progress-init

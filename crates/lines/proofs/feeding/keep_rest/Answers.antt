@@ -1,6 +1,5 @@
 -- `feeding::keep_rest` meets its contract.
 use mathlib.Core.Path.{refl}
-use borrow.Author.Rules.{rules}
 use Rattle.lines.specs.Feeding.{waits, passes}
 use Rattle.lines.proofs.feeding.keep_rest.Goals as goal
 

@@ -1,10 +1,7 @@
 -- `keeping::keep` meets its contract.
-use Prim.Native.Nat.{◌-◌, ◌≤◌}
-use mathlib.Core.Path.{◌≡◌, refl, ap, ◌∙◌}
+use mathlib.Core.Path.{refl, ap, ◌∙◌}
 use native.Mathlib.Omega.{arith}
-use lib.ListN.{length, take}
 use lib.Seq.{take_all}
-use borrow.Author.Rules.{rules}
 use Rattle.lines.specs.Sessions.{held, put_all}
 use Rattle.lines.proofs.Holding.{put_next}
 use Rattle.lines.proofs.keeping.keep.Goals as goal

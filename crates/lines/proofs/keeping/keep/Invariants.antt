@@ -1,12 +1,8 @@
 -- `keeping::keep` meets its contract.
 use Prim.Native.Nat.{◌-◌, ◌≤◌}
-use mathlib.Core.Path.{◌≡◌, refl, ap, ◌∙◌}
-use native.Mathlib.Omega.{arith}
+use mathlib.Core.Path.{◌≡◌}
 use lib.ListN.{length, take}
-use lib.Seq.{take_all}
-use borrow.Author.Rules.{rules}
 use Rattle.lines.specs.Sessions.{held, put_all}
-use Rattle.lines.proofs.Holding.{put_next}
 use Rattle.lines.proofs.keeping.keep.Given as goal
 
 abbrev pub invariant-loop-i : goal.invariant-loop-i

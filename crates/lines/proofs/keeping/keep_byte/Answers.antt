@@ -1,6 +1,5 @@
 -- `keeping::keep_byte` meets its contract.
 use borrow.Author.Tests.{lt-ltb, le-ltb}
-use borrow.Author.Rules.{rules}
 use Rattle.lines.specs.Sessions.{put}
 use Rattle.lines.proofs.keeping.keep_byte.Goals as goal
 

@@ -2,7 +2,6 @@
 use mathlib.Core.Path.{sym}
 use lib.Seq.{length-take-le}
 use Rattle.lines.proofs.Holding.{present_cut, cut_within}
-use borrow.Author.Rules.{rules}
 use Rattle.lines.proofs.keeping.kept_bytes.Goals as goal
 
 pub slice_bounds-result-end : goal.slice_bounds-result-end

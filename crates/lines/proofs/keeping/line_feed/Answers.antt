@@ -1,10 +1,6 @@
 -- `keeping::line_feed` meets its contract.
-use Prim.Native.Nat.{◌-◌}
 use native.Mathlib.Omega.{arith}
-use lib.ListN.{length}
 use borrow.Author.Tests.{ne_eqb}
-use borrow.Author.Rules.{rules}
-use Rattle.lines.specs.Lines.{Plain}
 use Rattle.lines.proofs.Finding.{plain_none, plain_more}
 use Rattle.lines.proofs.keeping.line_feed.Goals as goal
 

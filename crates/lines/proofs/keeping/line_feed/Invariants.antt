@@ -1,11 +1,7 @@
 -- `keeping::line_feed` meets its contract.
 use Prim.Native.Nat.{◌-◌}
-use native.Mathlib.Omega.{arith}
 use lib.ListN.{length}
-use borrow.Author.Tests.{ne_eqb}
-use borrow.Author.Rules.{rules}
 use Rattle.lines.specs.Lines.{Plain}
-use Rattle.lines.proofs.Finding.{plain_none, plain_more}
 use Rattle.lines.proofs.keeping.line_feed.Given as goal
 
 abbrev pub invariant-loop-i : goal.invariant-loop-i

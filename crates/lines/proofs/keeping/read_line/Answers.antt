@@ -1,5 +1,4 @@
 -- `keeping::read_line` meets its contract: where the line lies, or from the bytes kept of it.
-use borrow.Author.Rules.{rules}
 use Rattle.lines.specs.Sessions.{held}
 use Rattle.lines.proofs.Holding.{ended_whole, ended_rest, after_whole, after_rest}
 use Rattle.lines.proofs.keeping.read_line.Goals as goal

@@ -2,7 +2,6 @@
 use mathlib.Core.Path.{refl}
 use Rattle.lines.specs.Feeding.{whole, unended}
 use Rattle.lines.proofs.WholeLines.{feed_none}
-use borrow.Author.Rules.{rules}
 use Rattle.lines.proofs.reading.any_line.Goals as goal
 
 pub slice_bounds-read_line-count : goal.slice_bounds-read_line-count

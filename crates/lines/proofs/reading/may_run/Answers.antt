@@ -3,7 +3,6 @@ use mathlib.Core.Path.{refl, sym, ◌∙◌}
 use native.Mathlib.Omega.{arith}
 use borrow.Author.Tests.{leb-true, leb-false}
 use Rattle.lines.proofs.Advancing.{absurd_more}
-use borrow.Author.Rules.{rules}
 use Rattle.lines.proofs.reading.may_run.Goals as goal
 
 pub returns-then-progress-lt-MAX_LINES : goal.returns-then-progress-lt-MAX_LINES

@@ -1,7 +1,6 @@
 -- `reading::next_line` meets its contract.
 use mathlib.Core.Path.{refl}
 use Rattle.lines.specs.Feeding.{found, full}
-use borrow.Author.Rules.{rules}
 use Rattle.lines.proofs.reading.next_line.Goals as goal
 
 pub returns-then-may_run : goal.returns-then-may_run

@@ -1,7 +1,6 @@
 -- `reading::whole_line` meets its contract: in one pass, or in two.
 use mathlib.Core.Path.{refl}
 use Rattle.lines.proofs.WholeLines.{deliver_whole}
-use borrow.Author.Rules.{rules}
 use Rattle.lines.proofs.reading.whole_line.Goals as goal
 
 pub returns-then-next-ne0 : goal.returns-then-next-ne0

@@ -2,7 +2,6 @@
 use mathlib.Core.Path.{refl}
 use native.Mathlib.Omega.{arith}
 use Rattle.lines.proofs.Told.{few_answers}
-use borrow.Author.Rules.{rules}
 use Rattle.lines.proofs.running.end_line.Goals as goal
 
 pub overflow_add-number : goal.overflow_add-number

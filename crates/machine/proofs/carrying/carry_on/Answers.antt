@@ -1,5 +1,4 @@
 -- `carrying::carry_on` meets its contract: the server, the messages, then the counts.
-use Rattle.std.proofs.Common.{rules}
 use Rattle.machine.proofs.carrying.carry_on.Goals as goal
 
 pub returns : goal.returns

@@ -1,6 +1,5 @@
 -- `carrying::carry_out` meets its contract: the place of the message, the working content, then the rest.
 use Rattle.machine.proofs.Assembling.{carried_out}
-use Rattle.std.proofs.Common.{rules}
 use Rattle.machine.proofs.carrying.carry_out.Goals as goal
 
 pub returns : goal.returns

@@ -1,5 +1,5 @@
 -- `carrying::change_flight` meets its contract: first the message leaves, then the others are appended.
-use Rattle.std.proofs.Common.{arith, rules}
+use Rattle.std.proofs.Common.{arith}
 use Rattle.machine.proofs.Assembling.{room_left}
 use Rattle.machine.proofs.carrying.change_flight.Goals as goal
 

@@ -1,7 +1,6 @@
 -- `carrying::execute` meets its contract: refused, lost or carried out.
 use Rattle.machine.proofs.Assembling.{reported}
 use Rattle.machine.proofs.Executing.{slot_within, executes_lost, executes_move, executes_refusal}
-use Rattle.std.proofs.Common.{rules}
 use Rattle.machine.proofs.carrying.execute.Goals as goal
 
 pub lose-requires : goal.lose-requires

@@ -1,5 +1,5 @@
 -- `carrying::lose` meets its contract: the list, then the counts.
-use Rattle.std.proofs.Common.{refl, rules}
+use Rattle.std.proofs.Common.{refl}
 use Rattle.machine.proofs.carrying.lose.Goals as goal
 
 pub returns : goal.returns

@@ -1,5 +1,4 @@
 -- `carrying::next_counts` meets its contract: one more line.
-use Rattle.std.proofs.Common.{rules}
 use Rattle.machine.proofs.carrying.next_counts.Goals as goal
 
 pub returns : goal.returns

@@ -1,5 +1,4 @@
 -- `carrying::take` meets its contract: by whether a call is taken.
-use Rattle.std.proofs.Common.{rules}
 use Rattle.machine.proofs.carrying.take.Goals as goal
 
 pub returns-then-plan : goal.returns-then-plan

@@ -1,5 +1,5 @@
 -- `cutting::plan_cut` meets its contract: refused with 5 or 7, or judged further.
-use Rattle.std.proofs.Common.{[], sym, ◌∙◌, arith, rules}
+use Rattle.std.proofs.Common.{[], sym, ◌∙◌, arith}
 use Rattle.views.specs.Memory.{memory}
 use Rattle.plans.specs.Plans.{cut_at}
 use Rattle.plans.proofs.Judging.{told, in_list, cut_slot, cut_at_keeps, unless_none, unless_some}

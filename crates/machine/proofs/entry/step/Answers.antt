@@ -1,6 +1,5 @@
 -- `entry::step` meets its contract: the line's run, then the tally.
 use Rattle.machine.proofs.Performing.{steps}
-use Rattle.std.proofs.Common.{rules}
 use Rattle.machine.proofs.entry.step.Goals as goal
 
 pub returns : goal.returns

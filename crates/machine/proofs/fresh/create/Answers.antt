@@ -1,5 +1,4 @@
 -- `fresh::create` meets its contract: array by array.
-use Rattle.std.proofs.Common.{rules}
 use Rattle.machine.proofs.fresh.create.Goals as goal
 
 pub returns : goal.returns

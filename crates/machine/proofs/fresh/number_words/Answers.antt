@@ -1,6 +1,6 @@
 -- `fresh::number_words` meets its contract: number by number.
-use Rattle.std.proofs.Common.{◌-◌, arith, rules}
-use Rattle.machine.proofs.Zeros.{Numbered, numbers_start, numbers_go_on, numbers_end}
+use Rattle.std.proofs.Common.{arith}
+use Rattle.machine.proofs.Zeros.{numbers_start, numbers_go_on, numbers_end}
 use Rattle.machine.proofs.fresh.number_words.Goals as goal
 
 pub loop-i-init : goal.loop-i-init

@@ -1,6 +1,6 @@
 -- `fresh::number_words` meets its contract: number by number.
-use Rattle.std.proofs.Common.{◌-◌, arith, rules}
-use Rattle.machine.proofs.Zeros.{Numbered, numbers_start, numbers_go_on, numbers_end}
+use Rattle.std.proofs.Common.{◌-◌}
+use Rattle.machine.proofs.Zeros.{Numbered}
 use Rattle.machine.proofs.fresh.number_words.Given as goal
 
 abbrev pub invariant-loop-i : goal.invariant-loop-i

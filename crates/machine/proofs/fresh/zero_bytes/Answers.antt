@@ -1,6 +1,6 @@
 -- `fresh::zero_bytes` meets its contract: zero by zero.
-use Rattle.std.proofs.Common.{◌-◌, arith, rules}
-use Rattle.machine.proofs.Zeros.{Zeroed, zeros_start, zeros_go_on, zeros_end}
+use Rattle.std.proofs.Common.{arith}
+use Rattle.machine.proofs.Zeros.{zeros_start, zeros_go_on, zeros_end}
 use Rattle.machine.proofs.fresh.zero_bytes.Goals as goal
 
 pub loop-i-init : goal.loop-i-init

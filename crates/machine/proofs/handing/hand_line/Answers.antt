@@ -1,5 +1,5 @@
 -- `handing::hand_line` meets its contract: refused with 2, 5 or 7, or handed over.
-use Rattle.std.proofs.Common.{sym, ◌∙◌, rules}
+use Rattle.std.proofs.Common.{sym, ◌∙◌}
 use Rattle.plans.proofs.Judging.{in_list}
 use Rattle.runs.proofs.Standing.{standing_measured}
 use Rattle.machine.proofs.Messages.{hands_listed, hands_refused, hands_nowhere}

@@ -1,5 +1,5 @@
 -- `handing::hand_listed` meets its contract: lost, or handed over to a server that is there.
-use Rattle.std.proofs.Common.{sym, ap, ◌∙◌, rules}
+use Rattle.std.proofs.Common.{sym, ap, ◌∙◌}
 use Rattle.plans.proofs.Judging.{step_slot}
 use Rattle.machine.proofs.Assembling.{reported}
 use Rattle.machine.proofs.Messages.{losable, handable, carries, handled, no_places_left, listed_lost, listed_handed}

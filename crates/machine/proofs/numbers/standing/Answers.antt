@@ -1,6 +1,5 @@
 -- `numbers::standing` meets its contract: servers, buckets and messages.
 use Rattle.views.specs.Memory.{standing}
-use Rattle.std.proofs.Common.{rules}
 use Rattle.machine.proofs.numbers.standing.Goals as goal
 
 pub returns-then-within-2 : goal.returns-then-within-2

@@ -1,5 +1,5 @@
 -- `one_line::cluster_line` meets its contract: 2, or the new cluster.
-use Rattle.std.proofs.Common.{sym, ap, ◌∙◌, rules}
+use Rattle.std.proofs.Common.{sym, ap, ◌∙◌}
 use Rattle.views.specs.Memory.{standing}
 use Rattle.machine.proofs.Clusters.{stands_already, made, out_of_range, too_many_servers}
 use Rattle.machine.proofs.one_line.cluster_line.Goals as goal

@@ -1,6 +1,5 @@
 -- `one_line::plan_line` meets its contract: kind by kind.
 use Rattle.machine.proofs.Planning.{malformed_planned, cluster_planned, elect_planned, timeout_planned, stop_planned, cut_planned, start_planned, lose_planned, get_planned, set_planned, setif_planned, del_planned, keys_planned, deliver_unplanned, copy_unplanned}
-use Rattle.std.proofs.Common.{rules}
 use Rattle.machine.proofs.one_line.plan_line.Goals as goal
 
 pub returns-in-Malformed : goal.returns-in-Malformed

@@ -1,5 +1,5 @@
 -- `one_line::planned_line` meets its contract: planned, then carried out.
-use Rattle.std.proofs.Common.{sym, ◌∙◌, subst, rules}
+use Rattle.std.proofs.Common.{sym, ◌∙◌, subst}
 use Rattle.runs.proofs.Standing.{standing_measured}
 use Rattle.machine.specs.Steps.{Executable}
 use Rattle.machine.proofs.Executables.{executable}

@@ -1,5 +1,5 @@
 -- `one_line::route_of` meets its contract: kind by kind.
-use Rattle.std.proofs.Common.{sym, ap, rules}
+use Rattle.std.proofs.Common.{sym, ap}
 use Rattle.machine.specs.Steps.{route_of}
 use Rattle.machine.proofs.one_line.route_of.Goals as goal
 

@@ -1,5 +1,5 @@
 -- `one_line::run_line` meets its contract: by the route of the line.
-use Rattle.std.proofs.Common.{sym, refl, ◌∙◌, rules}
+use Rattle.std.proofs.Common.{sym, refl, ◌∙◌}
 use Rattle.machine.proofs.Planning.{malformed_run, cluster_run_lem, other_run, hand_run}
 use Rattle.machine.proofs.one_line.run_line.Goals as goal
 

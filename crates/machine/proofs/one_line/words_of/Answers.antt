@@ -1,5 +1,5 @@
 -- `one_line::words_of` meets its contract: kind by kind.
-use Rattle.std.proofs.Common.{sym, ap, ◌∙◌, rules}
+use Rattle.std.proofs.Common.{sym, ap, ◌∙◌}
 use Rattle.runs.specs.Runs.{words_of}
 use Rattle.machine.proofs.one_line.words_of.Goals as goal
 

@@ -1,6 +1,5 @@
 -- `fresh::create` meets its contract: region by region.
 use Rattle.runs.specs.Runs.{fresh_memory}
-use Rattle.std.proofs.Common.{rules}
 use Rattle.machine_carrying.proofs.fresh.create.Goals as goal
 
 pub returns : goal.returns

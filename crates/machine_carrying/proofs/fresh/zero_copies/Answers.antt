@@ -1,6 +1,5 @@
 -- `fresh::zero_copies` meets its contract: the region is lent as a part.
 use Rattle.machine_carrying.proofs.Zeros.{copies_zeroed}
-use Rattle.std.proofs.Common.{rules}
 use Rattle.machine_carrying.proofs.fresh.zero_copies.Goals as goal
 
 pub returns : goal.returns

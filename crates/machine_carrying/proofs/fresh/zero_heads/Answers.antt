@@ -1,6 +1,5 @@
 -- `fresh::zero_heads` meets its contract: the region is lent as a part.
 use Rattle.machine_carrying.proofs.Zeros.{heads_zeroed}
-use Rattle.std.proofs.Common.{rules}
 use Rattle.machine_carrying.proofs.fresh.zero_heads.Goals as goal
 
 pub returns : goal.returns

@@ -1,6 +1,6 @@
 -- `fresh::zero_words` meets its contract: zero by zero.
-use Rattle.std.proofs.Common.{◌-◌, arith, rules}
-use Rattle.machine_carrying.proofs.Zeros.{Zeroed, zeros_start, zeros_go_on, zeros_end}
+use Rattle.std.proofs.Common.{arith}
+use Rattle.machine_carrying.proofs.Zeros.{zeros_start, zeros_go_on, zeros_end}
 use Rattle.machine_carrying.proofs.fresh.zero_words.Goals as goal
 
 pub loop-i-init : goal.loop-i-init

@@ -1,9 +1,8 @@
 -- `locals::clear_slots` meets its contract: slot by slot.
 use mathlib.Core.Path.{◌≡◌, refl}
 use Rattle.machine_steps.proofs.Loops.{cleared_next}
-use Prim.Native.Nat.{◌≤◌, ◌-◌}
 use native.Mathlib.Omega.{arith}
-use Rattle.memory_regions.specs.Regions.{regions, with_slots}
+use Rattle.memory_regions.specs.Regions.{regions}
 use Rattle.views.specs.Changes.{cleared_slots}
 use Rattle.machine_steps.proofs.locals.clear_slots.Goals as goal
 

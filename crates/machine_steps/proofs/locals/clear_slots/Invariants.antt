@@ -1,8 +1,6 @@
 -- `locals::clear_slots` meets its contract: slot by slot.
-use mathlib.Core.Path.{◌≡◌, refl}
-use Rattle.machine_steps.proofs.Loops.{cleared_next}
+use mathlib.Core.Path.{◌≡◌}
 use Prim.Native.Nat.{◌≤◌, ◌-◌}
-use native.Mathlib.Omega.{arith}
 use Rattle.memory_regions.specs.Regions.{regions, with_slots}
 use Rattle.views.specs.Changes.{cleared_slots}
 use Rattle.machine_steps.proofs.locals.clear_slots.Given as goal

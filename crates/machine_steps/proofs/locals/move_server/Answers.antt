@@ -1,5 +1,4 @@
 -- `locals::move_server` meets its contract: the slot is that of the server and the bucket.
-use borrow.Author.Rules.{rules}
 use Rattle.machine_steps.proofs.locals.move_server.Goals as goal
 
 pub returns : goal.returns

@@ -1,5 +1,4 @@
 -- `locals::store_local` meets its contract: the head, then the slot.
-use borrow.Author.Rules.{rules}
 use Rattle.machine_steps.proofs.locals.store_local.Goals as goal
 
 pub returns : goal.returns

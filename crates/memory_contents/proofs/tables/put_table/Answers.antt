@@ -4,7 +4,6 @@ use native.Mathlib.Omega.{arith}
 use Rattle.entries.specs.Decoded.{table_in}
 use Rattle.memory.specs.Layout.{content_size}
 use Rattle.memory_contents.proofs.Forms.{table_put}
-use borrow.Author.Rules.{rules}
 use Rattle.memory_contents.proofs.tables.put_table.Goals as goal
 
 pub returns : goal.returns

@@ -3,7 +3,6 @@ use mathlib.Core.Path.{ap, ◌∙◌}
 use Prim.Native.Nat.{min}
 use Rattle.memory_found.specs.Found.{most_items}
 use Rattle.memory_found.proofs.Items.{counted}
-use borrow.Author.Rules.{rules}
 use Rattle.memory_found.proofs.reading.found_count.Goals as goal
 
 pub returns : goal.returns

@@ -1,10 +1,7 @@
 -- `reading::item_start` meets its contract: item by item.
 use mathlib.Core.Path.{◌≡◌}
-use Prim.Native.Nat.{◌≤◌, ◌-◌}
 use native.Mathlib.Omega.{arith}
-use Rattle.memory_found.specs.Steps.{ItemStart}
 use Rattle.memory_found.proofs.Items.{start_first, start_next}
-use borrow.Author.Rules.{rules}
 use Rattle.memory_found.proofs.reading.item_start.Goals as goal
 
 pub loop-j-init : goal.loop-j-init

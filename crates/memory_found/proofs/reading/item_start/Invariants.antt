@@ -1,10 +1,6 @@
 -- `reading::item_start` meets its contract: item by item.
-use mathlib.Core.Path.{◌≡◌}
 use Prim.Native.Nat.{◌≤◌, ◌-◌}
-use native.Mathlib.Omega.{arith}
 use Rattle.memory_found.specs.Steps.{ItemStart}
-use Rattle.memory_found.proofs.Items.{start_first, start_next}
-use borrow.Author.Rules.{rules}
 use Rattle.memory_found.proofs.reading.item_start.Given as goal
 
 abbrev pub invariant-loop-j : goal.invariant-loop-j

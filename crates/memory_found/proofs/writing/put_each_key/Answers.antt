@@ -1,8 +1,6 @@
 -- `writing::put_each_key` meets its contract: key by key.
-use Prim.Native.Nat.{◌-◌}
 use Rattle.entries.proofs.Views.{table_whole}
-use Rattle.memory_found.proofs.Forms.{Listing, listing_starts, listing_fits, listing_goes_on, listing_ends}
-use borrow.Author.Rules.{rules}
+use Rattle.memory_found.proofs.Forms.{listing_starts, listing_fits, listing_goes_on, listing_ends}
 use Rattle.memory_found.proofs.writing.put_each_key.Goals as goal
 
 pub loop-i-init : goal.loop-i-init

@@ -4,7 +4,6 @@ use lib.ListN.{length-map, length-set}
 use Rattle.entries.specs.Entries.{keys_of}
 use Rattle.entries.specs.Decoded.{table_in}
 use Rattle.memory_found.proofs.Forms.{items_put}
-use borrow.Author.Rules.{rules}
 use Rattle.memory_found.proofs.writing.put_keys.Goals as goal
 
 pub returns : goal.returns

@@ -6,7 +6,6 @@ use native.Mathlib.Numerals.{add-one}
 use lib.ListN.{set, length-set}
 use lib.Seq.{sets}
 use Rattle.entries.specs.Decoded.{key_bytes}
-use borrow.Author.Rules.{rules}
 use Rattle.memory_found.proofs.writing.put_one_key.Goals as goal
 
 pub put_key-requires : goal.put_key-requires

@@ -2,7 +2,6 @@
 use lib.ListN.{length-set}
 use Rattle.entries.specs.Decoded.{value_bytes}
 use Rattle.memory_found.proofs.Forms.{value_put}
-use borrow.Author.Rules.{rules}
 use Rattle.memory_found.proofs.writing.put_value.Goals as goal
 
 pub returns : goal.returns

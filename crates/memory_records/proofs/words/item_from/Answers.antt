@@ -1,5 +1,4 @@
 -- `words::item_from` meets its contract: none for 0.
-use borrow.Author.Rules.{rules}
 use Rattle.memory_records.proofs.words.item_from.Goals as goal
 
 pub returns : goal.returns

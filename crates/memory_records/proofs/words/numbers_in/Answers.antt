@@ -1,5 +1,4 @@
 -- `words::numbers_in` meets its contract: the words that its callees make.
-use borrow.Author.Rules.{rules}
 use Rattle.memory_records.proofs.words.numbers_in.Goals as goal
 
 pub returns : goal.returns

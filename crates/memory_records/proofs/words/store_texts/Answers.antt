@@ -1,6 +1,5 @@
 -- `words::store_texts` meets its contract: three copies, one behind another.
 use Rattle.memory.specs.Layout.{put_texts}
-use borrow.Author.Rules.{rules}
 use Rattle.memory_records.proofs.words.store_texts.Goals as goal
 
 pub returns : goal.returns

@@ -1,6 +1,5 @@
 -- `contents::copy_content` meets its contract: what its callee copies, by its name.
 use Rattle.memory.specs.Layout.{put_content}
-use borrow.Author.Rules.{rules}
 use Rattle.messages.proofs.contents.copy_content.Goals as goal
 
 pub returns : goal.returns

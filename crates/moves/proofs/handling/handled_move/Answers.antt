@@ -1,6 +1,5 @@
 -- `handling::handled_move` meets its contract: both go by the kind.
 use mathlib.Core.Path.{sym, ◌∙◌}
-use borrow.Author.Rules.{rules}
 use Rattle.moves.specs.Moves.{handled_move, handling_move}
 use Rattle.moves.proofs.handling.handled_move.Goals as goal
 

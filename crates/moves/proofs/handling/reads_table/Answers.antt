@@ -1,6 +1,5 @@
 -- `handling::reads_table` meets its contract: both go by the kind.
 use mathlib.Core.Path.{sym, ◌∙◌}
-use borrow.Author.Rules.{rules}
 use Rattle.moves.specs.Moves.{reads_table, reads_by}
 use Rattle.moves.proofs.handling.reads_table.Goals as goal
 

@@ -1,5 +1,4 @@
 -- `leading::after_broadcast` meets its contract: what its calls ensure, put together.
-use borrow.Author.Rules.{rules}
 use Rattle.moves.proofs.leading.after_broadcast.Goals as goal
 
 pub returns : goal.returns

@@ -1,5 +1,4 @@
 -- `leading::after_read_move` meets its contract: both make the same test.
-use borrow.Author.Rules.{rules}
 use borrow.Author.Tests.{eq-eqb, ne_eqb}
 use Rattle.moves.specs.Moves.{after_read_move}
 use Rattle.moves.proofs.leading.after_read_move.Goals as goal

@@ -1,5 +1,4 @@
 -- `leading::after_write` meets its contract: what its calls ensure, put together.
-use borrow.Author.Rules.{rules}
 use Rattle.moves.proofs.leading.after_write.Goals as goal
 
 pub returns : goal.returns

@@ -1,5 +1,4 @@
 -- `leading::alone_move` meets its contract: both make the same test.
-use borrow.Author.Rules.{rules}
 use borrow.Author.Tests.{eq-eqb, ne_eqb}
 use Rattle.moves.specs.Moves.{alone_move, finished_move}
 use Rattle.moves.proofs.leading.alone_move.Goals as goal

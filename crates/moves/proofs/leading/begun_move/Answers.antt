@@ -1,5 +1,4 @@
 -- `leading::begun_move` meets its contract: both make the same test.
-use borrow.Author.Rules.{rules}
 use borrow.Author.Tests.{le-leb, lt-leb}
 use Rattle.moves.specs.Moves.{begun_move}
 use Rattle.moves.proofs.leading.begun_move.Goals as goal

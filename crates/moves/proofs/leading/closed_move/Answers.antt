@@ -1,5 +1,4 @@
 -- `leading::closed_move` meets its contract: both make the same tests.
-use borrow.Author.Rules.{rules}
 use borrow.Author.Tests.{eq-eqb, ne_eqb}
 use Rattle.moves.specs.Moves.{closed_move}
 use Rattle.moves.proofs.leading.closed_move.Goals as goal

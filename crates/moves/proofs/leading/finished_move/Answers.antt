@@ -1,5 +1,4 @@
 -- `leading::finished_move` meets its contract: what its calls ensure, put together.
-use borrow.Author.Rules.{rules}
 use Rattle.moves.specs.Moves.{finished_move}
 use Rattle.moves.proofs.leading.finished_move.Goals as goal
 

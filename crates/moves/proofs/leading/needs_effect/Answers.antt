@@ -1,6 +1,5 @@
 -- `leading::needs_effect` meets its contract: both make the same tests.
 use mathlib.Core.Path.{sym, ◌∙◌}
-use borrow.Author.Rules.{rules}
 use borrow.Author.Tests.{le-leb, lt-leb}
 use Rattle.moves.specs.Moves.{needs_effect}
 use Rattle.moves.proofs.leading.needs_effect.Goals as goal

@@ -1,5 +1,4 @@
 -- `leading::own_write_move` meets its contract: what its calls ensure, put together.
-use borrow.Author.Rules.{rules}
 use Rattle.moves.proofs.leading.own_write_move.Goals as goal
 
 pub returns : goal.returns

@@ -1,5 +1,4 @@
 -- `leading::read_alone` meets its contract: what its calls ensure, put together.
-use borrow.Author.Rules.{rules}
 use Rattle.moves.proofs.leading.read_alone.Goals as goal
 
 pub returns : goal.returns

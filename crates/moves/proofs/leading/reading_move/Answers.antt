@@ -1,5 +1,4 @@
 -- `leading::reading_move` meets its contract: what its calls ensure, put together.
-use borrow.Author.Rules.{rules}
 use Rattle.moves.specs.Moves.{reading_move}
 use Rattle.moves.proofs.leading.reading_move.Goals as goal
 

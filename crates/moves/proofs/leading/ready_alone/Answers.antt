@@ -1,6 +1,5 @@
 -- `leading::ready_alone` meets its contract: both make the same test.
 use mathlib.Core.Path.{sym, ◌∙◌}
-use borrow.Author.Rules.{rules}
 use Rattle.moves.specs.Moves.{ready_alone}
 use Rattle.moves.proofs.leading.ready_alone.Goals as goal
 

@@ -1,6 +1,5 @@
 -- `leading::recovered_alone` meets its contract: both make the same test.
 use mathlib.Core.Path.{sym, ◌∙◌}
-use borrow.Author.Rules.{rules}
 use Rattle.moves.specs.Moves.{recovered_alone}
 use Rattle.moves.proofs.leading.recovered_alone.Goals as goal
 

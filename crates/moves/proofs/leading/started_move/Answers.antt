@@ -1,6 +1,5 @@
 -- `leading::started_move` meets its contract: both make the same tests.
 use mathlib.Core.Path.{sym, ◌∙◌}
-use borrow.Author.Rules.{rules}
 use borrow.Author.Tests.{eq-eqb, ne_eqb}
 use Rattle.moves.specs.Moves.{started_move}
 use Rattle.moves.proofs.leading.started_move.Goals as goal

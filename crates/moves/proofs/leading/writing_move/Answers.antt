@@ -1,5 +1,4 @@
 -- `leading::writing_move` meets its contract: what its calls ensure, put together.
-use borrow.Author.Rules.{rules}
 use Rattle.moves.specs.Moves.{writing_move}
 use Rattle.moves.proofs.leading.writing_move.Goals as goal
 

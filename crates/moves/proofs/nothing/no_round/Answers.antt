@@ -1,5 +1,4 @@
 -- `nothing::no_round` meets its contract: what its calls ensure, put together.
-use borrow.Author.Rules.{rules}
 use Rattle.moves.proofs.nothing.no_round.Goals as goal
 
 pub returns : goal.returns

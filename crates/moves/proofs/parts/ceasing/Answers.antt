@@ -1,5 +1,4 @@
 -- `parts::ceasing` meets its contract: what its calls ensure, put together.
-use borrow.Author.Rules.{rules}
 use Rattle.moves.proofs.parts.ceasing.Goals as goal
 
 pub returns : goal.returns

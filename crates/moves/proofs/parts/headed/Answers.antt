@@ -1,5 +1,4 @@
 -- `parts::headed` meets its contract: what its calls ensure, put together.
-use borrow.Author.Rules.{rules}
 use Rattle.moves.proofs.parts.headed.Goals as goal
 
 pub returns : goal.returns

@@ -1,5 +1,4 @@
 -- `parts::plain` meets its contract: what its calls ensure, put together.
-use borrow.Author.Rules.{rules}
 use Rattle.moves.proofs.parts.plain.Goals as goal
 
 pub returns : goal.returns

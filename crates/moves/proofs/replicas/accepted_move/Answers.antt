@@ -1,5 +1,4 @@
 -- `replicas::accepted_move` meets its contract: both make the same choice.
-use borrow.Author.Rules.{rules}
 use Rattle.moves.proofs.replicas.accepted_move.Goals as goal
 
 pub returns-then-writes : goal.returns-then-writes

@@ -1,5 +1,4 @@
 -- `replicas::read_request_move` meets its contract: what its calls ensure, put together.
-use borrow.Author.Rules.{rules}
 use Rattle.moves.proofs.replicas.read_request_move.Goals as goal
 
 pub returns : goal.returns

@@ -1,6 +1,5 @@
 -- `replicas::request_move` meets its contract: both make the same test.
 use mathlib.Core.Path.{sym, ◌∙◌}
-use borrow.Author.Rules.{rules}
 use Rattle.moves.specs.Moves.{request_move}
 use Rattle.moves.proofs.replicas.request_move.Goals as goal
 

@@ -1,6 +1,5 @@
 -- `replicas::stepped_down` meets its contract: both make the same tests.
 use mathlib.Core.Path.{sym, ◌∙◌}
-use borrow.Author.Rules.{rules}
 use Rattle.moves.specs.Moves.{stepped_down}
 use Rattle.moves.proofs.replicas.stepped_down.Goals as goal
 

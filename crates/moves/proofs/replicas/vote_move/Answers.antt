@@ -1,5 +1,4 @@
 -- `replicas::vote_move` meets its contract: what its calls ensure, put together.
-use borrow.Author.Rules.{rules}
 use Rattle.moves.specs.Moves.{vote_move}
 use Rattle.moves.proofs.replicas.vote_move.Goals as goal
 

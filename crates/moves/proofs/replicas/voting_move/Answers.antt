@@ -1,5 +1,4 @@
 -- `replicas::voting_move` meets its contract: both make the same tests.
-use borrow.Author.Rules.{rules}
 use borrow.Author.Tests.{eq-eqb, ne_eqb}
 use Rattle.moves.specs.Moves.{voting_move}
 use Rattle.moves.proofs.replicas.voting_move.Goals as goal

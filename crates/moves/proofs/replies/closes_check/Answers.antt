@@ -1,7 +1,6 @@
 -- `replies::closes_check` meets its contract: both make the same tests.
 use mathlib.Core.List.{[]}
 use mathlib.Core.Path.{sym, ◌∙◌}
-use borrow.Author.Rules.{rules}
 use borrow.Author.Tests.{eq-eqb, ne_eqb}
 use Rattle.moves.specs.Moves.{reads_by}
 use Rattle.moves.proofs.replies.closes_check.Goals as goal

@@ -1,6 +1,5 @@
 -- `replies::counted_move` meets its contract: both make the same test.
 use mathlib.Core.Path.{sym, ◌∙◌}
-use borrow.Author.Rules.{rules}
 use Rattle.moves.specs.Moves.{counted_move}
 use Rattle.moves.proofs.replies.counted_move.Goals as goal
 

@@ -1,5 +1,4 @@
 -- `replies::fetching` meets its contract: what its calls ensure, put together.
-use borrow.Author.Rules.{rules}
 use Rattle.moves.specs.Moves.{fetching}
 use Rattle.moves.proofs.replies.fetching.Goals as goal
 

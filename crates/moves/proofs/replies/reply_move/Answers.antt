@@ -1,7 +1,6 @@
 -- `replies::reply_move` meets its contract: both make the same test.
 use mathlib.Core.List.{[]}
 use mathlib.Core.Path.{sym, ◌∙◌}
-use borrow.Author.Rules.{rules}
 use Rattle.moves.specs.Moves.{reply_move}
 use Rattle.moves.proofs.replies.reply_move.Goals as goal
 

@@ -1,5 +1,4 @@
 -- `replies::reported_move` meets its contract: what its calls ensure, put together.
-use borrow.Author.Rules.{rules}
 use Rattle.moves.specs.Moves.{handling_move}
 use Rattle.moves.proofs.replies.reported_move.Goals as goal
 

@@ -1,6 +1,5 @@
 -- `replies::waiting_move` meets its contract: both make the same test.
 use mathlib.Core.Path.{sym, ◌∙◌}
-use borrow.Author.Rules.{rules}
 use Rattle.moves.proofs.replies.waiting_move.Goals as goal
 
 pub returns-then-fails : goal.returns-then-fails

@@ -1,5 +1,4 @@
 -- `roles::ceased_move` meets its contract: what its calls ensure, put together.
-use borrow.Author.Rules.{rules}
 use Rattle.moves.proofs.roles.ceased_move.Goals as goal
 
 pub returns : goal.returns

@@ -1,5 +1,4 @@
 -- `roles::elected_move` meets its contract: what its calls ensure, put together.
-use borrow.Author.Rules.{rules}
 use Rattle.moves.specs.Moves.{elected_move}
 use Rattle.moves.proofs.roles.elected_move.Goals as goal
 

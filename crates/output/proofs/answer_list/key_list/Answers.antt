@@ -1,8 +1,7 @@
 -- `answer_list::key_list` meets its contract: the keys of four slots.
 use mathlib.Core.Path.{◌≡◌}
-use lib.ListN.{length, length-map}
+use lib.ListN.{length}
 use Rattle.output.proofs.Keys.{keys_of_lem}
-use borrow.Author.Rules.{rules}
 use Rattle.output.proofs.answer_list.key_list.Goals as goal
 
 pub returns : goal.returns

@@ -1,6 +1,5 @@
 -- `answer_list::load_answer` meets its contract: what its callee reads, by its name.
 use Rattle.views.specs.Changes.{answer_at}
-use borrow.Author.Rules.{rules}
 use Rattle.output.proofs.answer_list.load_answer.Goals as goal
 
 pub returns : goal.returns

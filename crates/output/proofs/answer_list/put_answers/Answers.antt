@@ -1,9 +1,6 @@
 -- `answer_list::put_answers` meets its contract: answer by answer.
-use borrow.Author.Rules.{rules}
 use native.Mathlib.Omega.{arith}
-use Prim.Native.Nat.{◌-◌}
-use Rattle.entries.specs.Decoded.{table_in, value_bytes}
-use Rattle.output.proofs.Answering.{Answering, answering_starts, answering_fits, answering_goes_on, answering_ends}
+use Rattle.output.proofs.Answering.{answering_starts, answering_fits, answering_goes_on, answering_ends}
 use Rattle.output.proofs.answer_list.put_answers.Goals as goal
 
 pub loop-i-init : goal.loop-i-init

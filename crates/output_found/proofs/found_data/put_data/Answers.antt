@@ -6,7 +6,6 @@ use Rattle.print.specs.Answers.{result_for}
 use Rattle.print.proofs.Printing.{printed_none}
 use Rattle.output_found.specs.Answers.{result_of}
 use Rattle.output_found.proofs.Texts.{data_value, data_absent, data_keys}
-use borrow.Author.Rules.{rules}
 use Rattle.output_found.proofs.found_data.put_data.Goals as goal
 
 pub put_value-requires : goal.put_value-requires

@@ -1,11 +1,9 @@
 -- `found_data::put_each_key` meets its contract: key by key.
-use Prim.Native.Nat.{◌-◌}
 use Rattle.model.specs.Print.{key_list}
 use Rattle.memory_found.specs.Found.{found_in}
-use Rattle.print.proofs.Printing.{Each, each_starts, each_fits, each_goes_on, each_ends, each_size}
+use Rattle.print.proofs.Printing.{each_starts, each_fits, each_goes_on, each_ends, each_size}
 use Rattle.print.proofs.Texts.{keys_end}
 use Rattle.output_found.proofs.Texts.{next_item}
-use borrow.Author.Rules.{rules}
 use Rattle.output_found.proofs.found_data.put_each_key.Goals as goal
 
 pub loop-i-init : goal.loop-i-init

@@ -2,10 +2,7 @@
 use Prim.Native.Nat.{◌-◌}
 use Rattle.model.specs.Print.{key_list}
 use Rattle.memory_found.specs.Found.{found_in}
-use Rattle.print.proofs.Printing.{Each, each_starts, each_fits, each_goes_on, each_ends, each_size}
-use Rattle.print.proofs.Texts.{keys_end}
-use Rattle.output_found.proofs.Texts.{next_item}
-use borrow.Author.Rules.{rules}
+use Rattle.print.proofs.Printing.{Each}
 use Rattle.output_found.proofs.found_data.put_each_key.Given as goal
 
 abbrev pub invariant-loop-i : goal.invariant-loop-i

@@ -2,7 +2,6 @@
 use mathlib.Core.Path.{sym, ◌∙◌}
 use Rattle.model.specs.Text.{bytes}
 use Rattle.print.proofs.Texts.{keys_none, keys_some}
-use borrow.Author.Rules.{rules}
 use Rattle.output_found.proofs.found_data.put_keys.Goals as goal
 
 pub put_bytes-requires : goal.put_bytes-requires

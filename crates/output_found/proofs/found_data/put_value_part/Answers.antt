@@ -7,7 +7,6 @@ use lib.ListN.{take, drop, length-append}
 use Rattle.model.specs.Text.{bytes}
 use Rattle.model.specs.Print.{value_text}
 use Rattle.print.proofs.Printing.{fits_second, both}
-use borrow.Author.Rules.{rules}
 use Rattle.output_found.proofs.found_data.put_value_part.Goals as goal
 
 pub put_bytes-next-requires : goal.put_bytes-next-requires

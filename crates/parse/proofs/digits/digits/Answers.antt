@@ -1,8 +1,5 @@
 -- `digits::digits` meets its contract: digit by digit.
-use borrow.Author.Rules.{rules}
-use Prim.Native.Nat.{◌-◌}
-use lib.ListN.{length}
-use Rattle.parse.proofs.Numbers.{Reading, reading_starts, reading_small, reading_goes_on, reading_fails, reading_ends}
+use Rattle.parse.proofs.Numbers.{reading_starts, reading_small, reading_goes_on, reading_fails, reading_ends}
 use native.Mathlib.Omega.{arith}
 use Rattle.parse.specs.Digits.{number_in}
 use Rattle.parse.proofs.digits.digits.Goals as goal

@@ -1,5 +1,4 @@
 -- `hexadecimals::is_hexadecimal` meets its contract.
-use borrow.Author.Rules.{rules}
 use mathlib.Core.Path.{sym, ap, ◌∙◌}
 use Rattle.model.specs.Text.{bytes}
 use Rattle.parse.specs.Digits.{present}

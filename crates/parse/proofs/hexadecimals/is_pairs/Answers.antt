@@ -1,9 +1,6 @@
 -- `hexadecimals::is_pairs` meets its contract: pair by pair.
-use borrow.Author.Rules.{rules}
 use mathlib.Core.Path.{sym}
-use Prim.Native.Nat.{◌-◌}
-use lib.ListN.{length}
-use Rattle.parse.proofs.Pairs.{Checking, checking_starts, checking_goes_on, checking_first_bad, checking_second_bad, checking_odd, checking_ends}
+use Rattle.parse.proofs.Pairs.{checking_starts, checking_goes_on, checking_first_bad, checking_second_bad, checking_odd, checking_ends}
 use Rattle.parse.proofs.hexadecimals.is_pairs.Goals as goal
 
 pub loop-i-init : goal.loop-i-init

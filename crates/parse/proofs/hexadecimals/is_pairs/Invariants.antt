@@ -1,9 +1,7 @@
 -- `hexadecimals::is_pairs` meets its contract: pair by pair.
-use borrow.Author.Rules.{rules}
-use mathlib.Core.Path.{sym}
 use Prim.Native.Nat.{◌-◌}
 use lib.ListN.{length}
-use Rattle.parse.proofs.Pairs.{Checking, checking_starts, checking_goes_on, checking_first_bad, checking_second_bad, checking_odd, checking_ends}
+use Rattle.parse.proofs.Pairs.{Checking}
 use Rattle.parse.proofs.hexadecimals.is_pairs.Given as goal
 
 abbrev pub invariant-loop-i : goal.invariant-loop-i

@@ -1,5 +1,4 @@
 -- `hexadecimals::item_in` meets its contract: absent for `-`.
-use borrow.Author.Rules.{rules}
 use mathlib.Core.Path.{sym, ◌∙◌}
 use Rattle.model.specs.Text.{bytes}
 use Rattle.parse.proofs.Pairs.{item_there, item_absent}

@@ -1,5 +1,4 @@
 -- `hexadecimals::nibble` meets its contract.
-use borrow.Author.Rules.{rules}
 use Rattle.parse.proofs.Pairs.{nibble_digit, nibble_other}
 use Rattle.parse.proofs.hexadecimals.nibble.Goals as goal
 

@@ -1,12 +1,7 @@
 -- `hexadecimals::value_in` meets its contract: a copy, pair by pair.
-use borrow.Author.Rules.{rules}
-use mathlib.Core.Path.{sym}
 use Prim.Native.Nat.{◌-◌}
-use native.Mathlib.Omega.{arith}
 use Rattle.parse.specs.Digits.{pair_bytes}
-use Rattle.parse.specs.Kept.{padded}
-use Rattle.parse.proofs.Padding.{Padding, padding_starts, padding_goes_on}
-use Rattle.parse.proofs.Pairs.{length_pairs, value_padded}
+use Rattle.parse.proofs.Padding.{Padding}
 use Rattle.parse.proofs.hexadecimals.value_in.Given as goal
 
 abbrev pub invariant-loop-i : goal.invariant-loop-i

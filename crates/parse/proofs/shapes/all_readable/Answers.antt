@@ -1,5 +1,4 @@
 -- `shapes::all_readable` meets its contract.
-use borrow.Author.Rules.{rules}
 use mathlib.Core.Path.{◌∙◌}
 use Rattle.parse.specs.Digits.{all_three}
 use Rattle.parse.proofs.shapes.all_readable.Goals as goal

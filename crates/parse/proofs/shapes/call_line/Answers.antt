@@ -1,5 +1,4 @@
 -- `shapes::call_line` meets its contract.
-use borrow.Author.Rules.{rules}
 use mathlib.Core.Path.{sym, ap, ◌∙◌}
 use Rattle.parse.specs.Digits.{number_in}
 use Rattle.parse.specs.Meaning.{call_for}

@@ -1,6 +1,5 @@
 -- `shapes::key_line` meets its contract.
 use Rattle.model.specs.Text.{bytes}
-use borrow.Author.Rules.{rules}
 use Rattle.parse.proofs.shapes.key_line.Goals as goal
 
 pub returns : goal.returns

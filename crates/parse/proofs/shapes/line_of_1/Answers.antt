@@ -4,7 +4,6 @@ use Rattle.model.specs.Text.{bytes}
 use Rattle.model.specs.Parse.{line_of1}
 use Rattle.parse.specs.Meaning.{parsed}
 use Rattle.parse.proofs.Forms.{elect_line, deliver_line_lem, copy_line, lose_line, stop_line, start_line}
-use borrow.Author.Rules.{rules}
 use Rattle.parse.proofs.shapes.line_of_1.Goals as goal
 
 pub returns-then-same_word : goal.returns-then-same_word

@@ -4,7 +4,6 @@ use Rattle.model.specs.Text.{bytes}
 use Rattle.model.specs.Parse.{line_of2}
 use Rattle.parse.specs.Meaning.{two_numbers_line}
 use Rattle.parse.proofs.Forms.{cluster_line_lem, get_line, del_line}
-use borrow.Author.Rules.{rules}
 use Rattle.parse.proofs.shapes.line_of_2.Goals as goal
 
 pub returns-then-same_word : goal.returns-then-same_word

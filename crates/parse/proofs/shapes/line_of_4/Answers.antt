@@ -1,5 +1,4 @@
 -- `shapes::line_of_4` meets its contract: by the first word.
-use borrow.Author.Rules.{rules}
 use mathlib.Core.Path.{sym, ap, ◌∙◌}
 use Rattle.model.specs.Text.{bytes}
 use Rattle.model.specs.Parse.{line_of4}

@@ -1,5 +1,4 @@
 -- `shapes::malformed` meets its contract.
-use borrow.Author.Rules.{rules}
 use Rattle.parse.specs.Meaning.{parsed}
 use Rattle.parse.proofs.shapes.malformed.Goals as goal
 

@@ -2,7 +2,6 @@
 use mathlib.Core.Path.{◌∙◌}
 use Rattle.parse.specs.Digits.{number_in}
 use Rattle.parse.specs.Meaning.{number_for}
-use borrow.Author.Rules.{rules}
 use Rattle.parse.proofs.shapes.number_line.Goals as goal
 
 pub returns-in-Not : goal.returns-in-Not

@@ -1,5 +1,4 @@
 -- `shapes::numbers_line` meets its contract.
-use borrow.Author.Rules.{rules}
 use mathlib.Core.Path.{◌∙◌}
 use Rattle.parse.specs.Digits.{number_in}
 use Rattle.parse.specs.Meaning.{numbers_for}

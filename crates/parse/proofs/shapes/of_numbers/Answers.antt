@@ -1,5 +1,4 @@
 -- `shapes::of_numbers` meets its contract.
-use borrow.Author.Rules.{rules}
 use mathlib.Core.Path.{◌∙◌}
 use Rattle.parse.specs.Kept.{padded, key_for, item_for}
 use Rattle.parse.proofs.shapes.of_numbers.Goals as goal

@@ -3,7 +3,6 @@ use mathlib.Core.Path.{sym, ap, ◌∙◌}
 use Rattle.model.specs.Text.{bytes}
 use Rattle.parse.specs.Meaning.{two_numbers_line, parsed}
 use Rattle.parse.proofs.Forms.{keys_line, timeout_line, cut_line}
-use borrow.Author.Rules.{rules}
 use Rattle.parse.proofs.shapes.two_numbers_line.Goals as goal
 
 pub returns-then-same_word : goal.returns-then-same_word

@@ -1,5 +1,4 @@
 -- `shapes::with_four` meets its contract: where the next word ends.
-use borrow.Author.Rules.{rules}
 use mathlib.Core.Path.{sym, ap, ◌∙◌}
 use Rattle.model.specs.Parse.{line_of}
 use Rattle.parse.specs.Meaning.{parsed}

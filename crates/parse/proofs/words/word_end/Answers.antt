@@ -1,8 +1,5 @@
 -- `words::word_end` meets its contract.
-use borrow.Author.Rules.{rules}
-use Prim.Native.Nat.{◌-◌}
-use lib.ListN.{length}
-use Rattle.parse.proofs.Splitting.{Searching, searching_starts, searching_goes_on, searching_finds, searching_ends}
+use Rattle.parse.proofs.Splitting.{searching_starts, searching_goes_on, searching_finds, searching_ends}
 use Rattle.parse.proofs.words.word_end.Goals as goal
 
 pub loop-i-init : goal.loop-i-init

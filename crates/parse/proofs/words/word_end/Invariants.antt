@@ -1,8 +1,7 @@
 -- `words::word_end` meets its contract.
-use borrow.Author.Rules.{rules}
 use Prim.Native.Nat.{◌-◌}
 use lib.ListN.{length}
-use Rattle.parse.proofs.Splitting.{Searching, searching_starts, searching_goes_on, searching_finds, searching_ends}
+use Rattle.parse.proofs.Splitting.{Searching}
 use Rattle.parse.proofs.words.word_end.Given as goal
 
 abbrev pub invariant-loop-i : goal.invariant-loop-i

@@ -1,5 +1,5 @@
 -- `calls::bad_lengths` meets its contract: both make the same tests.
-use Rattle.std.proofs.Common.{sym, ◌∙◌, rules, eq-eqb, ne_eqb}
+use Rattle.std.proofs.Common.{sym, ◌∙◌, eq-eqb, ne_eqb}
 use Rattle.plans.specs.Plans.{bad_lengths}
 use Rattle.plans.proofs.calls.bad_lengths.Goals as goal
 

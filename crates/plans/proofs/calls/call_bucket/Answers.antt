@@ -1,5 +1,5 @@
 -- `calls::call_bucket` meets its contract: both make the same test.
-use Rattle.std.proofs.Common.{rules, eq-eqb, ne_eqb}
+use Rattle.std.proofs.Common.{eq-eqb, ne_eqb}
 use Rattle.plans.specs.Plans.{call_bucket}
 use Rattle.plans.proofs.calls.call_bucket.Goals as goal
 

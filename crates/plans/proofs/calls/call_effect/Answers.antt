@@ -1,5 +1,5 @@
 -- `calls::call_effect` meets its contract: the effect itself will do, and where it is not needed one that writes nothing.
-use Rattle.std.proofs.Common.{sym, ◌∙◌, rules}
+use Rattle.std.proofs.Common.{sym, ◌∙◌}
 use Rattle.moves.proofs.Needed.{known, unneeded}
 use Rattle.plans.proofs.calls.call_effect.Goals as goal
 

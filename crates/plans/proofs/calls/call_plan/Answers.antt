@@ -1,5 +1,5 @@
 -- `calls::call_plan` meets its contract: both make the same test.
-use Rattle.std.proofs.Common.{sym, ◌∙◌, rules}
+use Rattle.std.proofs.Common.{sym, ◌∙◌}
 use Rattle.plans.specs.Plans.{call_plan}
 use Rattle.plans.proofs.Judging.{unless_none, unless_some}
 use Rattle.plans.proofs.calls.call_plan.Goals as goal

@@ -1,5 +1,5 @@
 -- `calls::call_refusal` meets its contract: both make the same tests.
-use Rattle.std.proofs.Common.{sym, ◌∙◌, rules, eq-eqb, ne_eqb}
+use Rattle.std.proofs.Common.{sym, ◌∙◌, eq-eqb, ne_eqb}
 use Rattle.plans.specs.Plans.{call_refusal}
 use Rattle.plans.proofs.calls.call_refusal.Goals as goal
 

@@ -1,5 +1,5 @@
 -- `calls::effect_on` meets its contract: the bytes that are lent are those of the content.
-use Rattle.std.proofs.Common.{◌+◌, ◌-◌, ◌*◌, ap, ◌∙◌, arith, rules}
+use Rattle.std.proofs.Common.{◌+◌, ◌-◌, ◌*◌, ap, ◌∙◌, arith}
 use Rattle.model.specs.Calls.{effect}
 use Rattle.server.specs.Views.{words_in}
 use Rattle.plans.proofs.Lent.{content_is}

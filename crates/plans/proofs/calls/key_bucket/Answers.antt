@@ -1,5 +1,5 @@
 -- `calls::key_bucket` meets its contract: the bytes that are lent are those that count.
-use Rattle.std.proofs.Common.{sym, ap, ◌∙◌, length-take-le, rules}
+use Rattle.std.proofs.Common.{sym, ap, ◌∙◌, length-take-le}
 use Rattle.hash.specs.Fnv.{bucket_of}
 use Rattle.plans.proofs.Lent.{cut_low, cut_is}
 use Rattle.plans.proofs.calls.key_bucket.Goals as goal

@@ -1,6 +1,5 @@
 -- `calls::plan_at` meets its contract: what its calls ensure, put together.
 use Rattle.plans.proofs.Judging.{called}
-use Rattle.std.proofs.Common.{rules}
 use Rattle.plans.proofs.calls.plan_at.Goals as goal
 
 pub returns : goal.returns

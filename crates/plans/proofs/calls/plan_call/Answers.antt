@@ -1,5 +1,5 @@
 -- `calls::plan_call` meets its contract: refused with 3 or 4, or judged further.
-use Rattle.std.proofs.Common.{sym, ◌∙◌, rules}
+use Rattle.std.proofs.Common.{sym, ◌∙◌}
 use Rattle.plans.proofs.Judging.{inside_room, call_nowhere, call_unfit, call_fit}
 use Rattle.plans.proofs.calls.plan_call.Goals as goal
 

@@ -1,5 +1,5 @@
 -- `cuts::cut_plan` meets its contract: both make the same tests.
-use Rattle.std.proofs.Common.{sym, ◌∙◌, rules}
+use Rattle.std.proofs.Common.{sym, ◌∙◌}
 use Rattle.plans.specs.Plans.{cut_plan}
 use Rattle.plans.proofs.cuts.cut_plan.Goals as goal
 

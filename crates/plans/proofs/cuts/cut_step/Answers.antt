@@ -1,5 +1,4 @@
 -- `cuts::cut_step` meets its contract: what its calls ensure, put together.
-use Rattle.std.proofs.Common.{rules}
 use Rattle.server.specs.Views.{chosen}
 use Rattle.plans.proofs.cuts.cut_step.Goals as goal
 

@@ -1,5 +1,5 @@
 -- `deliveries::asked_effect` meets its contract: the effect is made where the message asks for it.
-use Rattle.std.proofs.Common.{sym, ◌∙◌, true≢false, rules}
+use Rattle.std.proofs.Common.{sym, ◌∙◌, true≢false}
 use Rattle.plans.proofs.deliveries.asked_effect.Goals as goal
 
 pub returns-then-reads_table : goal.returns-then-reads_table

@@ -1,5 +1,4 @@
 -- `deliveries::hand_effect` meets its contract: the words are those of the slot, and so is the table.
-use Rattle.std.proofs.Common.{rules}
 use Rattle.plans.proofs.deliveries.hand_effect.Goals as goal
 
 pub returns : goal.returns

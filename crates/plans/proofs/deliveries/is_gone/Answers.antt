@@ -1,5 +1,4 @@
 -- `deliveries::is_gone` meets its contract: the message's receiver is asked.
-use Rattle.std.proofs.Common.{rules}
 use Rattle.plans.specs.Plans.{gone}
 use Rattle.plans.proofs.deliveries.is_gone.Goals as goal
 

@@ -1,5 +1,4 @@
 -- `deliveries::lost_plan` meets its contract: what its calls ensure, put together.
-use Rattle.std.proofs.Common.{rules}
 use Rattle.plans.proofs.deliveries.lost_plan.Goals as goal
 
 pub returns : goal.returns

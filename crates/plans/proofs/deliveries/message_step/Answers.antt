@@ -1,5 +1,4 @@
 -- `deliveries::message_step` meets its contract: what its calls ensure, put together.
-use Rattle.std.proofs.Common.{rules}
 use Rattle.plans.proofs.deliveries.message_step.Goals as goal
 
 pub returns : goal.returns

@@ -1,7 +1,6 @@
 -- `deliveries::plan_lose` meets its contract: what its calls ensure, put together.
 use Rattle.plans.specs.Plans.{lose_at}
 use Rattle.plans.proofs.Judging.{told, lose_at_keeps}
-use Rattle.std.proofs.Common.{rules}
 use Rattle.plans.proofs.deliveries.plan_lose.Goals as goal
 
 pub returns : goal.returns

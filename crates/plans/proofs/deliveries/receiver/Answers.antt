@@ -1,5 +1,4 @@
 -- `deliveries::receiver` meets its contract: the slot is that of the step's server and bucket.
-use Rattle.std.proofs.Common.{rules}
 use Rattle.plans.proofs.deliveries.receiver.Goals as goal
 
 pub returns : goal.returns

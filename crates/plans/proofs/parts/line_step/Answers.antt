@@ -1,5 +1,4 @@
 -- `parts::line_step` meets its contract: what its calls ensure, put together.
-use Rattle.std.proofs.Common.{rules}
 use Rattle.plans.proofs.parts.line_step.Goals as goal
 
 pub returns : goal.returns

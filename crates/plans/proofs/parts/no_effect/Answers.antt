@@ -1,5 +1,5 @@
 -- `parts::no_effect` meets its contract: its table has no entry.
-use Rattle.std.proofs.Common.{refl, rules}
+use Rattle.std.proofs.Common.{refl}
 use Rattle.plans.proofs.parts.no_effect.Goals as goal
 
 pub returns : goal.returns

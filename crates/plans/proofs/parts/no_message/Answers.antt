@@ -1,5 +1,4 @@
 -- `parts::no_message` meets its contract: what its calls ensure, put together.
-use Rattle.std.proofs.Common.{rules}
 use Rattle.plans.proofs.parts.no_message.Goals as goal
 
 pub returns : goal.returns

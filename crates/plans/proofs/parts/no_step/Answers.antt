@@ -1,5 +1,4 @@
 -- `parts::no_step` meets its contract: what its calls ensure, put together.
-use Rattle.std.proofs.Common.{rules}
 use Rattle.plans.proofs.parts.no_step.Goals as goal
 
 pub returns : goal.returns

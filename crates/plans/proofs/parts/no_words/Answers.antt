@@ -1,5 +1,4 @@
 -- `parts::no_words` meets its contract.
-use Rattle.std.proofs.Common.{rules}
 use Rattle.plans.proofs.parts.no_words.Goals as goal
 
 pub returns : goal.returns

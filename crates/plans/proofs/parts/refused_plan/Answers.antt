@@ -1,5 +1,4 @@
 -- `parts::refused_plan` meets its contract: what its calls ensure, put together.
-use Rattle.std.proofs.Common.{rules}
 use Rattle.plans.proofs.parts.refused_plan.Goals as goal
 
 pub returns : goal.returns

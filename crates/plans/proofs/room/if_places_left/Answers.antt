@@ -1,5 +1,5 @@
 -- `room::if_places_left` meets its contract: both make the same test.
-use Rattle.std.proofs.Common.{sym, ◌∙◌, rules}
+use Rattle.std.proofs.Common.{sym, ◌∙◌}
 use Rattle.plans.specs.Plans.{if_places_left}
 use Rattle.plans.proofs.room.if_places_left.Goals as goal
 

@@ -1,5 +1,5 @@
 -- `room::unless` meets its contract: both make the same test.
-use Rattle.std.proofs.Common.{sym, rules}
+use Rattle.std.proofs.Common.{sym}
 use Rattle.plans.proofs.Judging.{unless_none, unless_some}
 use Rattle.plans.proofs.room.unless.Goals as goal
 

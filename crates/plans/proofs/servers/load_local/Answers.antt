@@ -1,5 +1,4 @@
 -- `servers::load_local` meets its contract: the records that it loads.
-use Rattle.std.proofs.Common.{rules}
 use Rattle.plans.proofs.servers.load_local.Goals as goal
 
 pub returns : goal.returns

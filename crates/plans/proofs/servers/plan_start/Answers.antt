@@ -1,5 +1,5 @@
 -- `servers::plan_start` meets its contract: refused with 3, or judged further.
-use Rattle.std.proofs.Common.{sym, ◌∙◌, arith, rules}
+use Rattle.std.proofs.Common.{sym, ◌∙◌, arith}
 use Rattle.plans.specs.Arrays.{servers}
 use Rattle.plans.specs.Plans.{start_at}
 use Rattle.plans.proofs.Judging.{told, inside_room, start_at_keeps}

@@ -1,5 +1,5 @@
 -- `servers::plan_stop` meets its contract: refused with 3, or judged further.
-use Rattle.std.proofs.Common.{sym, ◌∙◌, arith, rules}
+use Rattle.std.proofs.Common.{sym, ◌∙◌, arith}
 use Rattle.plans.specs.Arrays.{servers}
 use Rattle.plans.specs.Plans.{stop_at}
 use Rattle.plans.proofs.Judging.{told, inside_room, stop_at_keeps}

@@ -1,6 +1,5 @@
 -- `servers::start_plan` meets its contract: what its calls ensure, put together.
 use Rattle.plans.specs.Plans.{start_plan}
-use Rattle.std.proofs.Common.{rules}
 use Rattle.plans.proofs.servers.start_plan.Goals as goal
 
 pub returns : goal.returns

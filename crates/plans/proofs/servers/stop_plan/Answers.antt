@@ -1,6 +1,5 @@
 -- `servers::stop_plan` meets its contract: what its calls ensure, put together.
 use Rattle.plans.specs.Plans.{stop_plan}
-use Rattle.std.proofs.Common.{rules}
 use Rattle.plans.proofs.servers.stop_plan.Goals as goal
 
 pub returns : goal.returns

@@ -1,5 +1,5 @@
 -- `servers::timeout_plan` meets its contract: both make the same tests.
-use Rattle.std.proofs.Common.{sym, ◌∙◌, rules}
+use Rattle.std.proofs.Common.{sym, ◌∙◌}
 use Rattle.plans.specs.Plans.{timeout_plan}
 use Rattle.plans.proofs.Judging.{unless_none, unless_some}
 use Rattle.plans.proofs.servers.timeout_plan.Goals as goal

@@ -1,5 +1,4 @@
 -- `answer_text::key_count` meets its contract: there is room for four keys.
-use borrow.Author.Rules.{rules}
 use mathlib.Core.Path.{◌≡◌, ◌∙◌}
 use mathlib.Core.List.{map}
 use lib.ListN.{length, length-map}

@@ -1,5 +1,4 @@
 -- `answer_text::put_data` meets its contract.
-use borrow.Author.Rules.{rules}
 use Rattle.model.specs.Text.{bytes}
 use Rattle.model.specs.Print.{data_of}
 use Rattle.print.specs.Answers.{result_for, answer_in}

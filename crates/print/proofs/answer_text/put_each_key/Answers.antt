@@ -1,9 +1,7 @@
 -- `answer_text::put_each_key` meets its contract: key by key.
-use borrow.Author.Rules.{rules}
-use Prim.Native.Nat.{◌-◌}
 use Rattle.model.specs.Print.{key_list}
-use Rattle.print.proofs.Printing.{Each, each_starts, each_fits, each_goes_on, each_ends, each_size}
-use Rattle.print.proofs.Texts.{first_keys, length_keys, next_key, keys_whole, within, keys_end}
+use Rattle.print.proofs.Printing.{each_starts, each_fits, each_goes_on, each_ends, each_size}
+use Rattle.print.proofs.Texts.{length_keys, next_key, keys_whole, within, keys_end}
 use Rattle.print.proofs.answer_text.put_each_key.Goals as goal
 
 pub loop-i-init : goal.loop-i-init

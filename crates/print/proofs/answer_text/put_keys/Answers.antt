@@ -1,5 +1,4 @@
 -- `answer_text::put_keys` meets its contract.
-use borrow.Author.Rules.{rules}
 use mathlib.Core.Path.{sym, ◌∙◌}
 use Rattle.model.specs.Text.{bytes}
 use Rattle.print.proofs.Texts.{keys_none, keys_some}

@@ -1,5 +1,4 @@
 -- `answer_text::put_word` meets its contract.
-use borrow.Author.Rules.{rules}
 use Rattle.model.specs.Text.{bytes}
 use Rattle.model.specs.Print.{word_of}
 use Rattle.print.specs.Answers.{result_for, word_for}

@@ -1,6 +1,6 @@
 -- `decimals::figures_of` meets its contract: figure by figure, the last first.
 use borrow.Author.Rules.{rules}
-use Rattle.print.proofs.Counting.{Counting, counting_starts, counting_goes_on, counting_ends}
+use Rattle.print.proofs.Counting.{counting_starts, counting_goes_on, counting_ends}
 use Rattle.print.proofs.decimals.figures_of.Goals as goal
 
 pub loop-rest-init : goal.loop-rest-init

@@ -1,6 +1,5 @@
 -- `decimals::figures_of` meets its contract: figure by figure, the last first.
-use borrow.Author.Rules.{rules}
-use Rattle.print.proofs.Counting.{Counting, counting_starts, counting_goes_on, counting_ends}
+use Rattle.print.proofs.Counting.{Counting}
 use Rattle.print.proofs.decimals.figures_of.Given as goal
 
 abbrev pub invariant-loop-rest : goal.invariant-loop-rest

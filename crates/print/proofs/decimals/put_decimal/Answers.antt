@@ -1,5 +1,4 @@
 -- `decimals::put_decimal` meets its contract.
-use borrow.Author.Rules.{rules}
 use native.Mathlib.Omega.{arith}
 use Rattle.print.proofs.Counting.{figures_whole}
 use Rattle.print.proofs.decimals.put_decimal.Goals as goal

@@ -1,5 +1,4 @@
 -- `decimals::put_number` meets its contract.
-use borrow.Author.Rules.{rules}
 use Rattle.model.specs.Print.{decimal}
 use Rattle.print.proofs.Printing.{fits_second, both}
 use native.Mathlib.Omega.{arith}

@@ -1,5 +1,4 @@
 -- `hexadecimals::hex_digit` meets its contract.
-use borrow.Author.Rules.{rules}
 use borrow.Author.Tests.{lt-ltb, le-ltb}
 use Rattle.model.specs.Print.{hex_digit}
 use Rattle.print.proofs.hexadecimals.hex_digit.Goals as goal

@@ -1,9 +1,6 @@
 -- `hexadecimals::put_key` meets its contract.
-use borrow.Author.Rules.{rules}
-use mathlib.Core.Path.{sym}
-use lib.Seq.{length-take-le}
 use Rattle.entries.specs.Decoded.{key_bytes}
-use Rattle.entries.proofs.Views.{key_whole, key_within}
+use Rattle.entries.proofs.Views.{key_whole}
 use Rattle.model.specs.Text.{bytes}
 use Rattle.model.specs.Print.{hex_pairs}
 use Rattle.print.proofs.Printing.{fits_second, both}

@@ -1,10 +1,8 @@
 -- `hexadecimals::put_pairs` meets its contract: byte by byte.
-use borrow.Author.Rules.{rules}
-use Prim.Native.Nat.{◌-◌}
-use lib.ListN.{length, length-set}
+use lib.ListN.{length-set}
 use native.Mathlib.Omega.{arith}
 use Rattle.model.specs.Print.{hex_pairs}
-use Rattle.print.proofs.Printing.{Each, each_starts, each_fits, each_goes_on, each_ends, each_size, next_pair, pairs_end, printed_two}
+use Rattle.print.proofs.Printing.{each_starts, each_fits, each_goes_on, each_ends, each_size, next_pair, pairs_end, printed_two}
 use Rattle.print.proofs.hexadecimals.put_pairs.Goals as goal
 
 pub loop-i-init : goal.loop-i-init

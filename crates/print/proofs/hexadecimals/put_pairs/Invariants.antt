@@ -1,10 +1,8 @@
 -- `hexadecimals::put_pairs` meets its contract: byte by byte.
-use borrow.Author.Rules.{rules}
 use Prim.Native.Nat.{◌-◌}
-use lib.ListN.{length, length-set}
-use native.Mathlib.Omega.{arith}
+use lib.ListN.{length}
 use Rattle.model.specs.Print.{hex_pairs}
-use Rattle.print.proofs.Printing.{Each, each_starts, each_fits, each_goes_on, each_ends, each_size, next_pair, pairs_end, printed_two}
+use Rattle.print.proofs.Printing.{Each}
 use Rattle.print.proofs.hexadecimals.put_pairs.Given as goal
 
 abbrev pub invariant-loop-i : goal.invariant-loop-i

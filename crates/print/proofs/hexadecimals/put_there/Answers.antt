@@ -1,5 +1,4 @@
 -- `hexadecimals::put_there` meets its contract.
-use borrow.Author.Rules.{rules}
 use Rattle.model.specs.Text.{bytes}
 use Rattle.print.proofs.Printing.{text_empty, text_pairs}
 use Rattle.print.proofs.hexadecimals.put_there.Goals as goal

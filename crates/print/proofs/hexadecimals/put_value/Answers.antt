@@ -1,10 +1,7 @@
 -- `hexadecimals::put_value` meets its contract.
-use borrow.Author.Rules.{rules}
-use mathlib.Core.Path.{sym}
 use mathlib.Core.Option.{some}
-use lib.Seq.{length-take-le}
 use Rattle.entries.specs.Decoded.{value_bytes}
-use Rattle.entries.proofs.Views.{value_whole, value_within}
+use Rattle.entries.proofs.Views.{value_whole}
 use Rattle.model.specs.Text.{bytes}
 use Rattle.model.specs.Print.{value_text}
 use Rattle.print.proofs.Printing.{fits_second, both}

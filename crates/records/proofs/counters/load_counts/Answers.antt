@@ -1,6 +1,5 @@
 -- `counters::load_counts` meets its contract: what its callee reads, by its name.
 use Rattle.memory.specs.Layout.{counts_at}
-use borrow.Author.Rules.{rules}
 use Rattle.records.proofs.counters.load_counts.Goals as goal
 
 pub returns : goal.returns

@@ -1,6 +1,5 @@
 -- `counters::store_counts` meets its contract: what its callee stores, by its name.
 use Rattle.memory.specs.Layout.{put_counts}
-use borrow.Author.Rules.{rules}
 use Rattle.records.proofs.counters.store_counts.Goals as goal
 
 pub returns : goal.returns

@@ -1,6 +1,5 @@
 -- `heads::load_head` meets its contract: what its callee reads, by its name.
 use Rattle.memory.specs.Layout.{head_at}
-use borrow.Author.Rules.{rules}
 use Rattle.records.proofs.heads.load_head.Goals as goal
 
 pub returns : goal.returns

@@ -1,6 +1,5 @@
 -- `heads::store_head` meets its contract: the numbers, then a word for each server.
 use Rattle.memory.specs.Layout.{put_head}
-use borrow.Author.Rules.{rules}
 use Rattle.records.proofs.heads.store_head.Goals as goal
 
 pub returns : goal.returns

@@ -1,6 +1,5 @@
 -- `slots::load_call` meets its contract: what its callee reads, by its name.
 use Rattle.memory.specs.Layout.{call_at}
-use borrow.Author.Rules.{rules}
 use Rattle.records.proofs.slots.load_call.Goals as goal
 
 pub returns : goal.returns

@@ -1,6 +1,5 @@
 -- `slots::load_version` meets its contract: what its callee reads, by its name.
 use Rattle.memory.specs.Layout.{version_at}
-use borrow.Author.Rules.{rules}
 use Rattle.records.proofs.slots.load_version.Goals as goal
 
 pub returns : goal.returns

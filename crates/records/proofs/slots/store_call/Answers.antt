@@ -1,6 +1,5 @@
 -- `slots::store_call` meets its contract: what its callee stores, by its name.
 use Rattle.memory.specs.Layout.{put_call}
-use borrow.Author.Rules.{rules}
 use Rattle.records.proofs.slots.store_call.Goals as goal
 
 pub returns : goal.returns

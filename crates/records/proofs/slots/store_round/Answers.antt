@@ -1,6 +1,5 @@
 -- `slots::store_round` meets its contract: the numbers, then a word for each server.
 use Rattle.memory.specs.Layout.{put_round}
-use borrow.Author.Rules.{rules}
 use Rattle.records.proofs.slots.store_round.Goals as goal
 
 pub returns : goal.returns

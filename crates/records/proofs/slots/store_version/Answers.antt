@@ -1,6 +1,5 @@
 -- `slots::store_version` meets its contract: what its callee stores, by its name.
 use Rattle.memory.specs.Layout.{put_version}
-use borrow.Author.Rules.{rules}
 use Rattle.records.proofs.slots.store_version.Goals as goal
 
 pub returns : goal.returns

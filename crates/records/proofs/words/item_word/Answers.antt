@@ -1,5 +1,4 @@
 -- `words::item_word` meets its contract: none is 0.
-use borrow.Author.Rules.{rules}
 use Rattle.memory.specs.Layout.{item_word}
 use Rattle.records.proofs.words.item_word.Goals as goal
 

@@ -1,6 +1,5 @@
 -- `words::key_from` meets its contract: a copy of eight bytes.
 use mathlib.Core.List.{append-nil}
-use borrow.Author.Rules.{rules}
 use Rattle.records.proofs.words.key_from.Goals as goal
 
 pub returns : goal.returns

@@ -1,6 +1,5 @@
 -- `words::load_words` meets its contract: its numbers, then its three texts.
 use Rattle.memory.specs.Layout.{words_at, numbers_at}
-use borrow.Author.Rules.{rules}
 use Rattle.records.proofs.words.load_words.Goals as goal
 
 pub returns : goal.returns

@@ -1,6 +1,5 @@
 -- `words::store_words` meets its contract: the numbers, then the texts.
 use Rattle.memory.specs.Layout.{put_words, put_numbers}
-use borrow.Author.Rules.{rules}
 use Rattle.records.proofs.words.store_words.Goals as goal
 
 pub returns : goal.returns

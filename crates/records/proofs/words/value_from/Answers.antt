@@ -1,6 +1,5 @@
 -- `words::value_from` meets its contract: a copy of sixteen bytes.
 use mathlib.Core.List.{append-nil}
-use borrow.Author.Rules.{rules}
 use Rattle.records.proofs.words.value_from.Goals as goal
 
 pub returns : goal.returns

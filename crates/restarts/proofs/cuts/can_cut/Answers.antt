@@ -1,7 +1,6 @@
 -- `cuts::can_cut` meets its contract: both make the same tests.
 use mathlib.Core.Path.{sym, ◌∙◌}
 use Rattle.restarts.specs.Restarts.{cuttable}
-use borrow.Author.Rules.{rules}
 use Rattle.restarts.proofs.cuts.can_cut.Goals as goal
 
 pub returns-then-is_broadcast : goal.returns-then-is_broadcast

@@ -1,6 +1,5 @@
 -- `cuts::cut_head` meets its contract: both make the same test.
 use mathlib.Core.Path.{sym, ◌∙◌}
-use borrow.Author.Rules.{rules}
 use Rattle.restarts.specs.Restarts.{cut_head}
 use Rattle.restarts.proofs.cuts.cut_head.Goals as goal
 

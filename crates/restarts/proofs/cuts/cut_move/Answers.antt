@@ -1,6 +1,5 @@
 -- `cuts::cut_move` meets its contract: what its calls ensure, put together.
 use Rattle.restarts.specs.Restarts.{cut_move}
-use borrow.Author.Rules.{rules}
 use Rattle.restarts.proofs.cuts.cut_move.Goals as goal
 
 pub returns : goal.returns

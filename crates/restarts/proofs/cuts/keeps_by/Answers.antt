@@ -1,7 +1,6 @@
 -- `cuts::keeps_by` meets its contract: both make the same tests.
 use mathlib.Core.Path.{sym, ◌∙◌}
 use Rattle.restarts.specs.Restarts.{keeps_by}
-use borrow.Author.Rules.{rules}
 use Rattle.restarts.proofs.cuts.keeps_by.Goals as goal
 
 pub returns-then-stores_bucket : goal.returns-then-stores_bucket

@@ -2,7 +2,6 @@
 use mathlib.Core.Path.{sym, ◌∙◌}
 use borrow.Author.Tests.{eq-eqb, ne_eqb}
 use Rattle.restarts.specs.Restarts.{stores_bucket}
-use borrow.Author.Rules.{rules}
 use Rattle.restarts.proofs.cuts.stores_bucket.Goals as goal
 
 pub returns-then-may_accept : goal.returns-then-may_accept

@@ -1,6 +1,5 @@
 -- `cuts::stores_made` meets its contract: both make the same tests.
 use Rattle.restarts.specs.Restarts.{stores_made}
-use borrow.Author.Rules.{rules}
 use Rattle.restarts.proofs.cuts.stores_made.Goals as goal
 
 pub returns-then-vote : goal.returns-then-vote

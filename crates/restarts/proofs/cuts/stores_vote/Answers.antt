@@ -2,7 +2,6 @@
 use mathlib.Core.Path.{sym, ◌∙◌}
 use borrow.Author.Tests.{eq-eqb, ne_eqb}
 use Rattle.restarts.specs.Restarts.{stores_vote}
-use borrow.Author.Rules.{rules}
 use Rattle.restarts.proofs.cuts.stores_vote.Goals as goal
 
 pub returns-then-message-eq-PLEASE_VOTE : goal.returns-then-message-eq-PLEASE_VOTE

@@ -1,7 +1,6 @@
 -- `cuts::votes_by` meets its contract: both make the same tests.
 use mathlib.Core.Path.{sym, ◌∙◌}
 use Rattle.restarts.specs.Restarts.{votes_by}
-use borrow.Author.Rules.{rules}
 use Rattle.restarts.proofs.cuts.votes_by.Goals as goal
 
 pub returns-then-stores_vote : goal.returns-then-stores_vote

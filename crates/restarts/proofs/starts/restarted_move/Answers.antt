@@ -1,5 +1,4 @@
 -- `starts::restarted_move` meets its contract: what its call ensures, with what it changes before and after.
-use borrow.Author.Rules.{rules}
 use Rattle.restarts.specs.Restarts.{restarted_move}
 use Rattle.restarts.proofs.starts.restarted_move.Goals as goal
 

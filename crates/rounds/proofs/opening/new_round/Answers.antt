@@ -1,5 +1,5 @@
 -- `opening::new_round` meets its contract.
-use Rattle.std.proofs.Common.{◌≡◌, ap, ◌∙◌, ap₂, rules}
+use Rattle.std.proofs.Common.{◌≡◌, ap, ◌∙◌, ap₂}
 use Rattle.model.specs.Cluster.{copy_at}
 use Rattle.model.specs.Leader.{report_to}
 use Rattle.server.specs.Views.{stored_in, open_in, purpose_in}

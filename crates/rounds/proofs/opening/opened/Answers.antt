@@ -1,5 +1,5 @@
 -- `opening::opened` meets its contract.
-use Rattle.std.proofs.Common.{◌≡◌, ap, ◌∙◌, rules}
+use Rattle.std.proofs.Common.{◌≡◌, ap, ◌∙◌}
 use Rattle.model.specs.Leader.{opening}
 use Rattle.server.specs.Views.{purpose_in, beside_in, server_in}
 use Rattle.rounds.specs.Rounds.{head_with, opened_head}

@@ -1,5 +1,5 @@
 -- `opening::report_to` meets its contract: both make the same test.
-use Rattle.std.proofs.Common.{rules, eq-eqb, ne_eqb}
+use Rattle.std.proofs.Common.{eq-eqb, ne_eqb}
 use Rattle.rounds.specs.Rounds.{pick_version, reported}
 use Rattle.rounds.proofs.opening.report_to.Goals as goal
 

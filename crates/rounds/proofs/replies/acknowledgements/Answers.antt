@@ -1,5 +1,5 @@
 -- `replies::acknowledgements` meets its contract: they are the marks that are 1.
-use Rattle.std.proofs.Common.{take, sym, ◌∙◌, rules}
+use Rattle.std.proofs.Common.{take, sym, ◌∙◌}
 use Rattle.server.proofs.Counting.{acknowledgements_count}
 use Rattle.rounds.proofs.replies.acknowledgements.Goals as goal
 

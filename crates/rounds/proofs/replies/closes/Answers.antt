@@ -1,5 +1,5 @@
 -- `replies::closes` meets its contract: both make the same test.
-use Rattle.std.proofs.Common.{leb, ap₂, rules}
+use Rattle.std.proofs.Common.{leb, ap₂}
 use Rattle.model.specs.Leader.{closes}
 use Rattle.rounds.proofs.replies.closes.Goals as goal
 

@@ -1,6 +1,6 @@
 -- `replies::counted` meets its contract: both look at the mark of the sender first.
 -- what is counted stands for what the definition counts
-use Rattle.std.proofs.Common.{◌≡◌, ℕ, true, false, List, get_or, take, set, sym, ap, ◌∙◌, ap₂, rules}
+use Rattle.std.proofs.Common.{◌≡◌, ℕ, true, false, List, get_or, take, set, sym, ap, ◌∙◌, ap₂}
 use Rattle.entries.specs.Entries.{Entry}
 use Rattle.model.specs.Leader.{counted}
 use Rattle.server.specs.declared.Version.{Version}

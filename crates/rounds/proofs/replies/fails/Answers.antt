@@ -1,5 +1,5 @@
 -- `replies::fails` meets its contract: there are no more refusals than servers, and both make the same test.
-use Rattle.std.proofs.Common.{◌-◌, ltb, ap, ap₂, arith, rules}
+use Rattle.std.proofs.Common.{◌-◌, ltb, ap, ap₂, arith}
 use Rattle.model.specs.Leader.{fails}
 use Rattle.server.proofs.Counting.{refusals_within}
 use Rattle.rounds.proofs.replies.fails.Goals as goal

@@ -1,5 +1,5 @@
 -- `replies::improves` meets its contract: both make the same tests.
-use Rattle.std.proofs.Common.{rules, eq-eqb, ne_eqb}
+use Rattle.std.proofs.Common.{eq-eqb, ne_eqb}
 use Rattle.rounds.specs.Rounds.{improves}
 use Rattle.rounds.proofs.replies.improves.Goals as goal
 

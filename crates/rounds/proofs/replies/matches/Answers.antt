@@ -1,5 +1,5 @@
 -- `replies::matches` meets its contract: both make the same tests.
-use Rattle.std.proofs.Common.{◌≡◌, true, false, sym, ◌∙◌, rules, eq-eqb, ne_eqb}
+use Rattle.std.proofs.Common.{◌≡◌, true, false, sym, ◌∙◌, eq-eqb, ne_eqb}
 use Rattle.server.specs.Views.{among}
 use Rattle.rounds.proofs.RoundLaws.{matching_open, matching_shut}
 use Rattle.rounds.proofs.replies.matches.Goals as goal

@@ -1,5 +1,5 @@
 -- `replies::refusals` meets its contract: they are the marks that are 2.
-use Rattle.std.proofs.Common.{take, sym, ◌∙◌, rules}
+use Rattle.std.proofs.Common.{take, sym, ◌∙◌}
 use Rattle.server.proofs.Counting.{refusals_count}
 use Rattle.rounds.proofs.replies.refusals.Goals as goal
 

@@ -1,5 +1,5 @@
 -- `numbers::count` meets its contract: the loop has counted the places that it passed.
-use Rattle.std.proofs.Common.{◌≡◌, ◌+◌, ◌-◌, ◌≤◌, min, eqb, length, get_or, take, refl, ap, ◌∙◌, ⊎_elim, arith, rules, eq-eqb, ne_eqb}
+use Rattle.std.proofs.Common.{◌≡◌, ◌+◌, min, eqb, length, get_or, take, refl, ap, ◌∙◌, arith, eq-eqb, ne_eqb}
 use Rattle.entries.proofs.Lists.{take_min}
 use Rattle.server.specs.Counts.{count_of}
 use Rattle.server.proofs.Counting.{one, count_next}
@@ -16,7 +16,7 @@ loop-i-preserved c =
     let h : length c.args.places ≡ 7 = c.well_formed.1.0.1.0.1 in
     let e : count_of c.args.word (take (c.loop-i.i + 1) c.args.places) ≡ count_of c.args.word (take c.loop-i.i c.args.places) + one (eqb (get_or c.args.places c.loop-i.i 0) c.args.word) = count_next c.args.word c.args.places c.loop-i.i (omega arith) in
     elim c.if-places-i.branch [
-      then-places-i w ↦ (omega arith, (omega arith, omega (arith, rw (eq-eqb _ _ w.if-places-i.true, one) at e)))
+      | then-places-i w ↦ (omega arith, (omega arith, omega (arith, rw (eq-eqb _ _ w.if-places-i.true, one) at e)))
       | else-places-i w ↦ (omega arith, (omega arith, omega (arith, rw (ne_eqb _ _ w.if-places-i.false, one) at e)))
     ]
 

@@ -1,8 +1,6 @@
 -- `numbers::count` meets its contract: the loop has counted the places that it passed.
-use Rattle.std.proofs.Common.{◌≡◌, ◌+◌, ◌-◌, ◌≤◌, min, eqb, length, get_or, take, refl, ap, ◌∙◌, ⊎_elim, arith, rules, eq-eqb, ne_eqb}
-use Rattle.entries.proofs.Lists.{take_min}
+use Rattle.std.proofs.Common.{◌≡◌, ◌-◌, ◌≤◌, take}
 use Rattle.server.specs.Counts.{count_of}
-use Rattle.server.proofs.Counting.{one, count_next}
 use Rattle.server.proofs.numbers.count.Given as goal
 
 abbrev pub invariant-loop-i : goal.invariant-loop-i

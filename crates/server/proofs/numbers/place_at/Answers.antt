@@ -1,5 +1,5 @@
 -- `numbers::place_at` meets its contract: past the servers, and past seven places, there is nothing.
-use Rattle.std.proofs.Common.{◌≡◌, ◌<◌, length, take, sym, ◌∙◌, arith, length-take, get_or-take, rules}
+use Rattle.std.proofs.Common.{◌≡◌, ◌<◌, length, take, sym, ◌∙◌, arith, length-take, get_or-take}
 use lib.ListN.{get_or-eq_default}
 use Rattle.server.proofs.Counting.{get_or_within}
 use Rattle.server.proofs.numbers.place_at.Goals as goal

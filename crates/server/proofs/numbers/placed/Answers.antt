@@ -1,5 +1,5 @@
 -- `numbers::placed` meets its contract: past seven places there is nothing to set.
-use Rattle.std.proofs.Common.{◌≡◌, length, sym, arith, rules}
+use Rattle.std.proofs.Common.{◌≡◌, length, sym, arith}
 use lib.Seq.{set_out}
 use Rattle.server.proofs.numbers.placed.Goals as goal
 

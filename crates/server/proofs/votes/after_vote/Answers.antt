@@ -1,5 +1,5 @@
 -- `votes::after_vote` meets its contract: both make the same test.
-use Rattle.std.proofs.Common.{◌≡◌, ap, ◌∙◌, rules, le-ltb, lt-ltb}
+use Rattle.std.proofs.Common.{◌≡◌, ap, ◌∙◌, le-ltb, lt-ltb}
 use Rattle.server.specs.Views.{server_in}
 use Rattle.server.specs.Heads.{after_vote_head}
 use Rattle.server.proofs.HeadLaws.{after_vote_means}

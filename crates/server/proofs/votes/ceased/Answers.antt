@@ -1,6 +1,5 @@
 -- `votes::ceased` meets its contract: a head has seven votes, and none is left.
 use Rattle.std.proofs.Common.{refl}
-use lib.ListN.{length-map}
 use Rattle.server.proofs.HeadLaws.{ceased_means}
 use Rattle.server.proofs.votes.ceased.Goals as goal
 

@@ -1,6 +1,5 @@
 -- `votes::elected` meets its contract: the own vote is counted, then the role goes by the votes.
-use Rattle.std.proofs.Common.{◌≡◌, length, ap, ◌∙◌, ap₂, rules}
-use lib.ListN.{length-map}
+use Rattle.std.proofs.Common.{◌≡◌, length, ap, ◌∙◌, ap₂}
 use Rattle.server.specs.Views.{server_in, idle}
 use Rattle.server.specs.Heads.{voting_head, with_number, voted_head, standing_head, elected_head}
 use Rattle.server.proofs.HeadLaws.{elected_means}

@@ -1,5 +1,5 @@
 -- `votes::on_ack_vote` meets its contract: both make the same tests.
-use Rattle.std.proofs.Common.{◌≡◌, ap, ◌∙◌, rules, eq-eqb, ne_eqb}
+use Rattle.std.proofs.Common.{◌≡◌, ap, ◌∙◌, eq-eqb, ne_eqb}
 use Rattle.server.specs.Views.{server_in}
 use Rattle.server.specs.Heads.{standing_head, on_ack_vote_head}
 use Rattle.server.proofs.HeadLaws.{on_ack_vote_means}

@@ -1,5 +1,5 @@
 -- `votes::role_by` meets its contract: both make the same test.
-use Rattle.std.proofs.Common.{◌<◌, ◌≤◌, arith, rules, le-leb}
+use Rattle.std.proofs.Common.{◌<◌, ◌≤◌, arith, le-leb}
 use borrow.Author.Tests.{lt-leb}
 use Rattle.model.specs.Measures.{majority}
 use Rattle.server.specs.Heads.{role_by}

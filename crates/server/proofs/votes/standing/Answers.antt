@@ -1,5 +1,5 @@
 -- `votes::standing` meets its contract: the role goes by the votes.
-use Rattle.std.proofs.Common.{◌≡◌, ap, ◌∙◌, rules}
+use Rattle.std.proofs.Common.{◌≡◌, ap, ◌∙◌}
 use Rattle.model.specs.Leader.{votes_for}
 use Rattle.server.specs.Views.{volatile_in, votes_in}
 use Rattle.server.specs.Heads.{role_by, with_role}

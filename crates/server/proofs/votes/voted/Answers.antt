@@ -1,5 +1,5 @@
 -- `votes::voted` meets its contract.
-use Rattle.std.proofs.Common.{ap, rules}
+use Rattle.std.proofs.Common.{ap}
 use Rattle.server.specs.Heads.{with_votes}
 use Rattle.server.proofs.votes.voted.Goals as goal
 

@@ -1,5 +1,5 @@
 -- `votes::votes_for` meets its contract: the votes are the ones.
-use Rattle.std.proofs.Common.{take, sym, ◌∙◌, rules}
+use Rattle.std.proofs.Common.{take, sym, ◌∙◌}
 use Rattle.server.proofs.Counting.{votes_count}
 use Rattle.server.proofs.votes.votes_for.Goals as goal
 

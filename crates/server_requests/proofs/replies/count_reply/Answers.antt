@@ -1,7 +1,6 @@
 -- `replies::count_reply` meets its contract: both make the same test.
 use mathlib.Core.List.{[]}
 use mathlib.Core.Path.{sym, ◌∙◌}
-use borrow.Author.Rules.{rules}
 use Rattle.server_requests.specs.Replies.{count_reply}
 use Rattle.server_requests.proofs.replies.count_reply.Goals as goal
 

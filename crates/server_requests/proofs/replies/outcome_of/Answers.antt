@@ -1,6 +1,5 @@
 -- `replies::outcome_of` meets its contract: both make the same tests.
 use mathlib.Core.Path.{sym, ◌∙◌}
-use borrow.Author.Rules.{rules}
 use Rattle.server.specs.Views.{chosen}
 use Rattle.server_requests.specs.Replies.{outcome_of}
 use Rattle.server_requests.proofs.replies.outcome_of.Goals as goal

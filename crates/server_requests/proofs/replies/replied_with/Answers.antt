@@ -1,5 +1,4 @@
 -- `replies::replied_with` meets its contract: what its call ensures.
-use borrow.Author.Rules.{rules}
 use Rattle.server_requests.proofs.replies.replied_with.Goals as goal
 
 pub returns : goal.returns

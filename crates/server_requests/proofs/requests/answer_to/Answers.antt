@@ -1,6 +1,5 @@
 -- `requests::answer_to` meets its contract: each arm is the definition's at that kind.
 use mathlib.Core.Path.{ap}
-use borrow.Author.Rules.{rules}
 use borrow.Author.Tests.{ne_eqb}
 use lib.Dec.{eqb}
 use Rattle.server_requests.specs.Requests.{answer_to}

@@ -1,5 +1,4 @@
 -- `requests::reply_to` meets its contract: what its calls ensure.
-use borrow.Author.Rules.{rules}
 use Rattle.server_requests.proofs.requests.reply_to.Goals as goal
 
 pub returns : goal.returns

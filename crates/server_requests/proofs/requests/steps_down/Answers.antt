@@ -1,6 +1,5 @@
 -- `requests::steps_down` meets its contract: both make the same tests.
 use mathlib.Core.Path.{sym, ◌∙◌}
-use borrow.Author.Rules.{rules}
 use Rattle.server_requests.specs.Requests.{steps_down}
 use Rattle.server_requests.proofs.requests.steps_down.Goals as goal
 

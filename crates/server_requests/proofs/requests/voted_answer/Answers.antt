@@ -1,5 +1,4 @@
 -- `requests::voted_answer` meets its contract: what its call ensures.
-use borrow.Author.Rules.{rules}
 use Rattle.server_requests.proofs.requests.voted_answer.Goals as goal
 
 pub returns : goal.returns

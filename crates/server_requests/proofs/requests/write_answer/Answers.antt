@@ -1,5 +1,4 @@
 -- `requests::write_answer` meets its contract: both make the same test.
-use borrow.Author.Rules.{rules}
 use borrow.Author.Tests.{lt-ltb, le-ltb}
 use Rattle.server_requests.specs.Requests.{write_answer}
 use Rattle.server_requests.proofs.requests.write_answer.Goals as goal

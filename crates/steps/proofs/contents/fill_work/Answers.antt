@@ -1,7 +1,6 @@
 -- `contents::fill_work` meets its contract: by the number of what fills it.
 use borrow.Author.Tests.{eq-eqb, ne_eqb}
 use Rattle.views.specs.Changes.{filled_from}
-use borrow.Author.Rules.{rules}
 use Rattle.steps.proofs.contents.fill_work.Goals as goal
 
 pub returns-then-fills-eq-FILLS_COPY : goal.returns-then-fills-eq-FILLS_COPY

@@ -1,7 +1,6 @@
 -- `contents::keep_copy` meets its contract: by the number of what is kept.
 use borrow.Author.Tests.{eq-eqb, ne_eqb}
 use Rattle.views.specs.Changes.{kept_from}
-use borrow.Author.Rules.{rules}
 use Rattle.steps.proofs.contents.keep_copy.Goals as goal
 
 pub returns-then-keeps-eq-KEEPS_WORK : goal.returns-then-keeps-eq-KEEPS_WORK

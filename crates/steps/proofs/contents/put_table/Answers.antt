@@ -3,7 +3,6 @@ use Rattle.entries.specs.Decoded.{table_in}
 use Rattle.steps.proofs.Tables.{table_stored}
 use Prim.Native.Nat.{◌+◌, ◌-◌, ◌*◌}
 use native.Mathlib.Omega.{arith}
-use borrow.Author.Rules.{rules}
 use Rattle.steps.proofs.contents.put_table.Goals as goal
 
 pub returns : goal.returns

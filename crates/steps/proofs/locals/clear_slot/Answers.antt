@@ -1,6 +1,5 @@
 -- `locals::clear_slot` meets its contract: the slot is idle or not.
 use Rattle.views.specs.Changes.{cleared_slot}
-use borrow.Author.Rules.{rules}
 use Rattle.steps.proofs.locals.clear_slot.Goals as goal
 
 pub returns-then-is_idle : goal.returns-then-is_idle

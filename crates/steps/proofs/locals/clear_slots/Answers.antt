@@ -1,7 +1,6 @@
 -- `locals::clear_slots` meets its contract: slot by slot.
 use mathlib.Core.Path.{◌≡◌, refl, sym, ap, ◌∙◌}
 use Rattle.steps.proofs.Loops.{cleared_next}
-use Prim.Native.Nat.{◌≤◌, ◌-◌}
 use native.Mathlib.Omega.{arith}
 use Rattle.memory.specs.Layout.{slot_of}
 use Rattle.views.specs.Changes.{cleared_slot, cleared_slots}

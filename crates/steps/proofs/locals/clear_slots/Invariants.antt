@@ -1,10 +1,7 @@
 -- `locals::clear_slots` meets its contract: slot by slot.
-use mathlib.Core.Path.{◌≡◌, refl, sym, ap, ◌∙◌}
-use Rattle.steps.proofs.Loops.{cleared_next}
+use mathlib.Core.Path.{◌≡◌}
 use Prim.Native.Nat.{◌≤◌, ◌-◌}
-use native.Mathlib.Omega.{arith}
-use Rattle.memory.specs.Layout.{slot_of}
-use Rattle.views.specs.Changes.{cleared_slot, cleared_slots}
+use Rattle.views.specs.Changes.{cleared_slots}
 use Rattle.steps.proofs.locals.clear_slots.Given as goal
 
 abbrev pub invariant-loop-bucket : goal.invariant-loop-bucket

@@ -1,6 +1,5 @@
 -- `locals::settle` meets its contract: the head and the slot, then all slots where leading ends.
 use Rattle.views.specs.Changes.{slots_after}
-use borrow.Author.Rules.{rules}
 use Rattle.steps.proofs.locals.settle.Goals as goal
 
 pub returns-then-next : goal.returns-then-next

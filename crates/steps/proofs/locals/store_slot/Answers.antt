@@ -1,5 +1,4 @@
 -- `locals::store_slot` meets its contract: record by record.
-use borrow.Author.Rules.{rules}
 use Rattle.steps.proofs.locals.store_slot.Goals as goal
 
 pub returns : goal.returns
