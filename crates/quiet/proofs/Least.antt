@@ -39,9 +39,9 @@ unfoldable emptied : Option Cluster → Bool
 emptied none = false
 emptied (some c) = no_message c 0
 
-unfoldable count_in_flight : Option Cluster → Bool
-count_in_flight none = false
-count_in_flight (some c) = not (no_message c 0)
+unfoldable is_any_in_flight : Option Cluster → Bool
+is_any_in_flight none = false
+is_any_in_flight (some c) = not (no_message c 0)
 
 emptied_list : (o : Option Cluster) → emptied o ≡ true → (c : Cluster) × (o ≡ some c) × (c.messages ≡ [])
 unfolding emptied no_message
@@ -52,8 +52,8 @@ filled_list : (l : List Message) → not (leb (length l) 0) ≡ true → l ≢ [
 filled_list [] e = let z : ◌≡◌ {A = ℕ} 0 1 = cc in absurd (omega arith)
 filled_list (m ∷ l) e = λ i. let z : ◌≡◌ {A = ℕ} 0 1 = cc in omega arith
 
-in_flight : (o : Option Cluster) → count_in_flight o ≡ true → (c : Cluster) × (o ≡ some c) × (c.messages ≢ [])
-unfolding count_in_flight no_message
+in_flight : (o : Option Cluster) → is_any_in_flight o ≡ true → (c : Cluster) × (o ≡ some c) × (c.messages ≢ [])
+unfolding is_any_in_flight no_message
 in_flight none e = let z : ◌≡◌ {A = ℕ} 0 1 = cc in absurd (omega arith)
 in_flight (some c) e = (c, refl, filled_list c.messages e)
 
@@ -62,13 +62,13 @@ oldest_first = bytes "deliver 0"
 
 unfoldable drains_in : ℕ → State → Bool
 drains_in zero s = emptied s.cluster
-drains_in (suc k) s = every (count_in_flight s.cluster ∷ accepts (step s oldest_first).outcome ∷ drains_in k (step s oldest_first).state ∷ [])
+drains_in (suc k) s = every (is_any_in_flight s.cluster ∷ accepts (step s oldest_first).outcome ∷ drains_in k (step s oldest_first).state ∷ [])
 
 drains_in_lem : (k : ℕ) (s : State) → drains_in k s ≡ true → (more : List Answer) × (last : State) × Drains k s more last
 unfolding drains_in
 drains_in_lem zero s h = let (c, is, e) = emptied_list s.cluster h in ([], s, drained c is e)
 drains_in_lem (suc k) s h =
-    let (a, h2) = every_parts (count_in_flight s.cluster) _ h in
+    let (a, h2) = every_parts (is_any_in_flight s.cluster) _ h in
     let (b, h3) = every_parts (accepts (step s oldest_first).outcome) _ h2 in
     let (d, h4) = every_parts (drains_in k (step s oldest_first).state) _ h3 in
     let (c, is, e) = in_flight s.cluster a in
@@ -126,7 +126,7 @@ least_by n h = go (begun n).cluster refl h
         }
 
 pub least : NoSmaller
-unfolding computing testing accepts emptied count_in_flight drains_in reached_by
+unfolding computing testing accepts emptied is_any_in_flight drains_in reached_by
 least zero h k = absurd (omega arith)
 least (suc zero) h k = least_by 1 refl
 least (suc (suc zero)) h k = least_by 2 refl

@@ -17,8 +17,7 @@ use tally::add;
 
 // A part of the input: how many bytes of it were taken. Bytes are left only from a line feed on, where the output has no room for what
 // a line can print (1,024 bytes); the bytes written are counted in `reader[2]`.
-#[unsafe(no_mangle)]
-pub extern "C" fn script_feed(
+pub fn script_feed(
     counts: &mut CountWords,
     heads: &mut HeadWords,
     slots: &mut SlotWords,
@@ -47,8 +46,7 @@ pub extern "C" fn script_feed(
 
 // The end of the input: a last line without line feed, then the tally. It answers how many bytes it wrote, or 0 and does nothing
 // where the output has no room for them (1,088 bytes).
-#[unsafe(no_mangle)]
-pub extern "C" fn script_finish(
+pub fn script_finish(
     counts: &mut CountWords,
     heads: &mut HeadWords,
     slots: &mut SlotWords,
