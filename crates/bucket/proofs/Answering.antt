@@ -13,9 +13,9 @@ use Rattle.entries.specs.declared.Decoded.{Decoded}
 use Rattle.entries.specs.Entries.{Entry}
 use Rattle.entries.specs.Decoded.{table_in}
 use Rattle.checks.specs.Tests.{sound_slots, sound}
-use Rattle.table.specs.Form.{fits, bucket_bytes, table_of, read_bucket, same_bytes, read_number}
+use Rattle.table.specs.Form.{bucket_size, fits, bucket_bytes, table_of, read_bucket, same_bytes, read_number}
 use Rattle.table.specs.Steps.{Bounded, Decodes}
-use Rattle.table.proofs.Reading.{read_taken, read_unfit, bytes_same}
+use Rattle.table.proofs.Reading.{other_length, read_taken, read_unfit, bytes_same}
 use Rattle.bucket.specs.declared.Outcome.TheVariants.{Accepted, Malformed}
 use Rattle.bucket.specs.declared.Reading.{Reading}
 use Rattle.bucket.specs.Answers.{numbered, outcome_number, reading_of, table_read, Read, Refused, write_of}
@@ -25,6 +25,11 @@ use Rattle.bucket.specs.Answers.{numbered, outcome_number, reading_of, table_rea
 pub reading_refused : (b : List ℕ) (r : Reading) → Refused r → read_bucket 4 16 b ≡ none → Read b r
 unfolding reading_of read_number table_read outcome_number
 reading_refused b r o e = record { is = rw (reading_of, o.outcome, e); number = rw (o.outcome, read_number, e); table = rw (table_read, e) o.table.table; sound = o.table.sound }
+
+-- bytes of another length are refused
+pub length_unread : (b : List ℕ) → (length b ≡ 113 → ⊥) → read_bucket 4 16 b ≡ none
+unfolding bucket_size
+length_unread b h = other_length 4 16 b h
 
 -- a table whose count is 0 can be written as it stands
 pub empty_sound : (t : Decoded) → t.count ≡ 0 → sound t ≡ true

@@ -60,6 +60,7 @@ fn refused() -> Reading
 }
 
 // The table of bucket bytes, which are taken exactly where they are the form of a table: refusal 13 else.
+#[tactic(auto, using(crate::proofs::Answering::length_unread), unfolding(crate::specs::Answers::reading_of, crate::specs::Answers::outcome_number, crate::specs::Answers::table_read, table::specs::Form::read_number))]
 pub fn read(bucket: &[u8]) -> Reading
     ensures { Read bucket.now result }
 {

@@ -42,6 +42,7 @@ const LAST_SERVER: u8 = 6;
 
 const LAST_BUCKET: u8 = 7;
 
+#[tactic(auto, unfolding(crate::specs::Form::addressed, table::specs::Form::within))]
 pub fn addressed(from: u8, to: u8, bucket: u8, election: u16) -> bool
     ensures { result ≡ addressed from to bucket election }
 {
@@ -71,6 +72,7 @@ pub fn has_no_round(bucket: u8, round: u32) -> bool
 }
 
 // A version's counter is 0 exactly where its number is 0, and then the table has no entries.
+#[tactic(auto, unfolding(crate::specs::Form::settled, table::specs::Form::within))]
 fn settled(number: u16, counter: u32, entries: usize) -> bool
     ensures { result ≡ settled (version number counter) entries }
 {

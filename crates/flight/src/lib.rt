@@ -128,6 +128,7 @@ fn send_all(
 }
 
 // What a step sends: a broadcast with the working content of the slot, or a reply with the content of its copy.
+#[tactic(auto, using(crate::proofs::Sends::sends_nothing))]
 pub fn send(
     queue: &mut QueueWords,
     payloads: &mut PayloadBytes,

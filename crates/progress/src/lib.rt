@@ -130,6 +130,7 @@ pub fn has_room(size: usize, written: usize) -> bool
 }
 
 // How many line feeds end a line of `count` bytes at the end of the input: one, unless the line is empty.
+#[tactic(auto, using(crate::proofs::Feeds::feeds_none, crate::proofs::Feeds::feeds_one), unfolding(crate::specs::Progress::last_feed))]
 pub fn line_feeds(count: usize) -> usize
     ensures { (take result (10 ∷ []) ≡ last_feed count) × (result ≤ 1) }
 {

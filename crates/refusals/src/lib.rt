@@ -30,6 +30,7 @@ pub fn inside(cluster: Counts, server: u32, bucket: u32) -> bool
 }
 
 // 5 and 6, or 0.
+#[tactic(auto, unfolding(crate::specs::Refusals::server_refusal, server::specs::Views::flag_in))]
 pub fn server_refusal(cluster: Counts, head: Head) -> u32
     ensures { result ≡ server_refusal cluster head }
 {

@@ -35,6 +35,7 @@ pub struct Tally {
 }
 
 // The tally after a line: a refused one leaves it as it was.
+#[tactic(auto, unfolding(crate::specs::Meaning::tally_after))]
 pub fn tally_after(tally: Tally, report: Report) -> Tally
     ensures { result ≡ tally_after tally report }
 {

@@ -4,22 +4,14 @@ use native.Mathlib.Omega.{arith}
 use Rattle.blocks.specs.Blocks.{block}
 use Rattle.memory.specs.Layout.{content_size}
 use Rattle.views.specs.Queue.{flight, appended, spread}
-use Rattle.flight.proofs.Sends.{appended_is, sends_nothing, sends_all, sends_reply, count_all, count_reply_lem}
+use Rattle.flight.proofs.Sends.{appended_is, sends_all, sends_reply, count_all, count_reply_lem}
 use borrow.Author.Rules.{rules}
 use Rattle.flight.proofs.send.Goals as goal
-
-pub returns-then-next-eq-NO_MESSAGE : goal.returns-then-next-eq-NO_MESSAGE
-returns-then-next-eq-NO_MESSAGE c =
-    let x = flight c.args.queue.now c.args.payloads.now c.args.count in
-    record {
-      is = sym (sends_nothing c.args.servers c.args.me c.args.bucket c.args.slot c.args.asked c.args.next c.args.working.now c.args.copies.now x c.if-next-eq-NO_MESSAGE.true);
-      few = omega arith;
-    }
 
 pub send_all-requires : goal.send_all-requires
 send_all-requires c =
     let s = ap (λ m. m.sender) c.broadcast_of.ensures in
-    let n = count_all c.args.servers c.args.next.sends c.if-next-eq-NO_MESSAGE.false (sym c.is_broadcast.ensures ∙ c.if-is_broadcast.true) in
+    let n = count_all c.args.servers c.args.next.sends (λ e. omega arith) (sym c.is_broadcast.ensures ∙ c.if-is_broadcast.true) in
     (c.requires.0, (omega (arith, s, c.requires.1.0), omega (arith, n, c.requires.1.1)))
 
 pub returns-then-is_broadcast : goal.returns-then-is_broadcast
@@ -30,13 +22,13 @@ returns-then-is_broadcast c =
       is =
           c.send_all.ensures.is
           ∙ ap (λ m. spread (block content_size c.args.slot c.args.working.now) m c.args.servers x) c.broadcast_of.ensures
-          ∙ sym (sends_all c.args.servers c.args.me c.args.bucket c.args.slot c.args.asked c.args.next c.args.working.now c.args.copies.now x c.if-next-eq-NO_MESSAGE.false all);
+          ∙ sym (sends_all c.args.servers c.args.me c.args.bucket c.args.slot c.args.asked c.args.next c.args.working.now c.args.copies.now x (λ e. omega arith) all);
       few = c.send_all.ensures.few;
     }
 
 pub append_message-requires : goal.append_message-requires
 append_message-requires c =
-    let n = count_reply_lem c.args.servers c.args.next.sends c.if-next-eq-NO_MESSAGE.false (sym c.is_broadcast.ensures ∙ c.if-is_broadcast.false) in
+    let n = count_reply_lem c.args.servers c.args.next.sends (λ e. omega arith) (sym c.is_broadcast.ensures ∙ c.if-is_broadcast.false) in
     (omega (arith, n, c.requires.1.1), search rules)
 
 pub returns : goal.returns
@@ -44,11 +36,11 @@ returns c =
     let v = block content_size c.args.slot c.args.copies.now in
     let x = flight c.args.queue.now c.args.payloads.now c.args.count in
     let one = sym c.is_broadcast.ensures ∙ c.if-is_broadcast.false in
-    let n = count_reply_lem c.args.servers c.args.next.sends c.if-next-eq-NO_MESSAGE.false one in
+    let n = count_reply_lem c.args.servers c.args.next.sends (λ e. omega arith) one in
     record {
       is =
           appended_is c.args.queue.now c.args.payloads.now c.args.count _ v _ _ c.append_message.ensures
           ∙ ap (λ m. appended v m x) c.reply_of.ensures
-          ∙ sym (sends_reply c.args.servers c.args.me c.args.bucket c.args.slot c.args.asked c.args.next c.args.working.now c.args.copies.now x c.if-next-eq-NO_MESSAGE.false one);
+          ∙ sym (sends_reply c.args.servers c.args.me c.args.bucket c.args.slot c.args.asked c.args.next c.args.working.now c.args.copies.now x (λ e. omega arith) one);
       few = omega (arith, n, c.requires.1.1);
     }
