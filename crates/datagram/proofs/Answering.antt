@@ -1,5 +1,6 @@
 -- What the answers of the calls stand for, case by case, and a datagram's bytes stored over lent ones.
-use mathlib.Core.Path.{◌≡◌, refl, ap, ◌∙◌}
+use mathlib.Core.Path.{◌≡◌, refl, sym, ap, ◌∙◌}
+use lib.Dec.{leb}
 use mathlib.Core.List.{List, ◌++◌, append_assoc, append-nil}
 use mathlib.Core.Bool.{Bool, true, false, ◌&&◌}
 use Prim.Native.Nat.{ℕ, ◌-◌, ◌≤◌, ◌<◌}
@@ -16,10 +17,10 @@ use Rattle.bucket.specs.Answers.{numbered}
 use Rattle.datagram.specs.declared.Datagram as code
 use Rattle.datagram.specs.declared.Outcome.TheVariants.{Accepted, BadBucket, BadDatagram}
 use Rattle.datagram.specs.declared.Reading.{Reading}
-use Rattle.fields.specs.Form.{Datagram, Version, carries, well_formed, table_fits, big, header_bytes, version_bytes, full_bytes, Parsed, taken, refused, write_datagram}
+use Rattle.fields.specs.Form.{Datagram, Version, max_four, addressed, carries, well_formed, table_fits, big, header_bytes, version_bytes, full_bytes, Parsed, taken, refused, write_datagram}
 use Rattle.datagram.specs.Answers.{outcome_number, meant, parsed_of, datagram_in, StandsFor, Refused, write_of}
 use Rattle.fields.proofs.Parsing.{tail_part, past_tail}
-use Rattle.fields.proofs.Rules.{and_parts, plain_length, full_length, plain_bytes, full_bytes_lem}
+use Rattle.fields.proofs.Rules.{plain_rules, and_parts, plain_length, full_length, plain_bytes, full_bytes_lem}
 
 -- ---- reading
 
@@ -37,6 +38,13 @@ stands_taken d s = record { is = refl; datagram = refl; sound = s }
 
 pub stands_too : {p q : Parsed} {r : Reading} → StandsFor p r → p ≡ q → StandsFor q r
 stands_too s e = record { is = s.is ∙ e; datagram = s.datagram ∙ ap datagram_in e; sound = s.sound }
+
+-- ---- the rules of a kind
+
+-- a kind that carries neither a version nor a table, and has a round
+pub plain_kind : (d : code.Datagram) → addressed d.from d.to d.bucket d.election ≡ true → 3 < d.kind → d.kind ≤ 9 → d.round ≤ max_four → (d.kind ≡ 4 → ⊥) → (d.kind ≡ 8 → ⊥) → well_formed (meant d) ≡ leb 1 d.round
+unfolding meant
+plain_kind d a l h r n m = sym (plain_rules (meant d) a l h r n m)
 
 -- ---- bytes stored
 

@@ -81,6 +81,7 @@ fn headed(bytes: &[u8], number: u16, counter: u32, table: Decoded) -> Datagram
 }
 
 // The rules of each kind. A kind that carries no version and no table is not asked for them.
+#[tactic(auto, using(crate::proofs::Answering::plain_kind))]
 fn well_formed(datagram: Datagram) -> bool
     ensures { result ≡ well_formed (meant datagram) }
 {

@@ -42,6 +42,7 @@ fn kept_bytes(line: &[u8], count: usize) -> &[u8]
 }
 
 // The present line, read; these are its last bytes. Where nothing of it is kept they are all of it, and it is read where it lies.
+#[tactic(auto, unfolding(crate::specs::Sessions::ended_line, crate::specs::Sessions::held_after))]
 pub fn read_line(line: &mut KeptLine, bytes: &[u8], count: usize) -> Line
     ensures { ReadsLine line (read_only bytes) count result }
 {

@@ -21,11 +21,6 @@ unfolding meant
 returns-in-8 c =
     c.content_agrees-in-8.ensures ∙ read_rules (meant c.args.datagram) (sym c.addressed.ensures ∙ c.if-addressed.true) (omega arith) (omega arith) (search rules) c.in-8.is
 
-pub returns-in-9 : goal.returns-in-9
-unfolding meant
-returns-in-9 c =
-    plain_rules (meant c.args.datagram) (sym c.addressed.ensures ∙ c.if-addressed.true) (omega arith) (omega arith) (search rules) (omega arith) (omega arith)
-
 pub returns-in-1-to-3 : goal.returns-in-1-to-3
 unfolding meant
 returns-in-1-to-3 c =

@@ -13,7 +13,7 @@ returns-then-needless_zero c = other c.not_read-then-needless_zero.ensures
 
 pub returns-then-input-end-eq-LINE_FEED : goal.returns-then-input-end-eq-LINE_FEED
 returns-then-input-end-eq-LINE_FEED c =
-    numbered _ refl (number_at c.digits_from-read.ensures (omega (arith, c.at_most-stop.ensures)) c.if-end-start.false (c.needless_zero.ensures c.if-needless_zero.false) c.if-end-input.true c.if-input-end-eq-LINE_FEED.true)
+    numbered _ refl (number_at c.digits_from-read.ensures (omega (arith, c.at_most-stop.ensures)) c.if-end-start.false (c.needless_zero.ensures c.if-needless_zero.false) c.if-end-input.true (grind arith))
 
 pub returns : goal.returns
 returns c = other c.not_read-2.ensures
