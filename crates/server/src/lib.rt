@@ -11,7 +11,7 @@ pub mod numbers;
 pub mod votes;
 
 // A version: the election number decides first, then the counter.
-#[derive(Clone, Copy)]
+#[derive(Clone, Copy, PartialEq, Eq, PartialOrd, Ord)]
 pub struct Version {
     pub election: u32,
     pub counter: u32,
