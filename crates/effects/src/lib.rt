@@ -14,7 +14,7 @@ use server::codes::{ABSENT, DEL, FULL, GET, LISTED, MISMATCH, NO_RESULT, SET, SE
 use server::{Effect, Words};
 
 // Whether two values have the same bytes; an absent one is the same as an absent one alone.
-#[tactic(auto, unfolding(table::specs::Form::same_value, table::specs::Form::same_bytes))]
+#[tactic(auto, unfolding(table::specs::Form::same_value, entries::specs::Decoded::item_in))]
 fn same_value(a: Option<Value>, b: Option<Value>) -> bool
     ensures { result ≡ same_value (item_in a) (item_in b) }
 {
@@ -37,7 +37,7 @@ fn without_value(res: u32, table: Decoded) -> Effect
 }
 
 // `get K`
-#[tactic(auto, unfolding(model::specs::Calls::effect, server::specs::Views::effect_in, server::specs::Views::result_in))]
+#[tactic(auto, unfolding(model::specs::Calls::effect, server::specs::Views::effect_in, server::specs::Views::result_in, entries::specs::Decoded::item_in))]
 fn getting(key: Key, table: Decoded) -> Effect
     ensures { effect_in result ≡ effect (calls.get (key_bytes key)) (table_in table) }
 {
@@ -83,7 +83,7 @@ fn setting_if(key: Key, expected: Option<Value>, item: Option<Value>, table: Dec
 }
 
 // What is left to do of a call once its bucket's table is read: `del K` is `set K -`.
-#[tactic(auto, unfolding(model::specs::Calls::effect, server::specs::Views::words_by))]
+#[tactic(auto, unfolding(model::specs::Calls::effect, server::specs::Views::words_by, entries::specs::Decoded::item_in))]
 pub fn effect(words: Words, table: Decoded) -> Effect
     ensures { effect_in result ≡ effect (words_in words) (table_in table) }
 {
