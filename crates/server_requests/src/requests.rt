@@ -11,86 +11,88 @@ use server::codes::{
 use server::numbers::above;
 use server::{Message, Version};
 
-// Whether a leader or candidate is one no more where its vote becomes this number.
-#[tactic(auto, unfolding(crate::specs::Requests::steps_down))]
-fn steps_down(seat: Seat, vote: u32) -> bool
-    ensures { result ≡ steps_down seat vote }
-{
-    role_acts(seat.role) && seat.number < vote
-}
-
-// Vote, leader and copy stay.
-fn left_answer(seat: Seat, kind: u32, ceases: bool) -> Answered
-    ensures { result ≡ left_answer seat kind ceases }
-{
-    Answered {
-        vote: seat.vote,
-        leader: seat.leader,
-        kind,
-        ceases,
-        stores: false,
+impl Seat {
+    // Whether a leader or candidate is one no more where its vote becomes this number.
+    #[tactic(auto, unfolding(crate::specs::Requests::steps_down))]
+    fn steps_down(self, vote: u32) -> bool
+        ensures { result ≡ steps_down self vote }
+    {
+        role_acts(self.role) && self.number < vote
     }
-}
 
-// The vote goes to the sender.
-fn voted_answer(seat: Seat, message: Message, kind: u32, stores: bool) -> Answered
-    ensures { result ≡ voted_answer seat message kind stores }
-{
-    Answered {
-        vote: message.election,
-        leader: message.sender,
-        kind,
-        ceases: steps_down(seat, message.election),
-        stores,
+    // Vote, leader and copy stay.
+    fn left_answer(self, kind: u32, ceases: bool) -> Answered
+        ensures { result ≡ left_answer self kind ceases }
+    {
+        Answered {
+            vote: self.vote,
+            leader: self.leader,
+            kind,
+            ceases,
+            stores: false,
+        }
     }
-}
 
-// Whether the vote is the sender's already.
-#[tactic(auto, unfolding(crate::specs::Requests::has_vote))]
-fn has_vote(seat: Seat, message: Message) -> bool
-    ensures { result ≡ has_vote seat message }
-{
-    message.election == seat.vote && message.sender == seat.leader
-}
+    // The vote goes to the sender.
+    fn voted_answer(self, message: Message, kind: u32, stores: bool) -> Answered
+        ensures { result ≡ voted_answer self message kind stores }
+    {
+        Answered {
+            vote: message.election,
+            leader: message.sender,
+            kind,
+            ceases: self.steps_down(message.election),
+            stores,
+        }
+    }
 
-// PLEASEVOTE: a vote under a higher number is given; one that is given already is acknowledged again.
-#[tactic(auto, unfolding(crate::specs::Requests::vote_answer, server::specs::Views::chosen))]
-fn vote_answer(seat: Seat, message: Message) -> Answered
-    ensures { result ≡ vote_answer seat message }
-{
-    if seat.vote < message.election {
-        voted_answer(seat, message, ACK_VOTE, false)
-    } else {
-        let kind = if has_vote(seat, message) {
-            ACK_VOTE
+    // Whether the vote is the sender's already.
+    #[tactic(auto, unfolding(crate::specs::Requests::has_vote))]
+    fn has_vote(self, message: Message) -> bool
+        ensures { result ≡ has_vote self message }
+    {
+        message.election == self.vote && message.sender == self.leader
+    }
+
+    // PLEASEVOTE: a vote under a higher number is given; one that is given already is acknowledged again.
+    #[tactic(auto, unfolding(crate::specs::Requests::vote_answer, server::specs::Views::chosen))]
+    fn vote_answer(self, message: Message) -> Answered
+        ensures { result ≡ vote_answer self message }
+    {
+        if self.vote < message.election {
+            self.voted_answer(message, ACK_VOTE, false)
         } else {
-            NACK_VOTE
-        };
-        left_answer(seat, kind, steps_down(seat, seat.vote))
+            let kind = if self.has_vote(message) {
+                ACK_VOTE
+            } else {
+                NACK_VOTE
+            };
+            self.left_answer(kind, self.steps_down(self.vote))
+        }
     }
-}
 
-// REPLICAWRITE: the copy is stored only if its version is above that of the server's own.
-#[tactic(auto, unfolding(crate::specs::Requests::write_answer))]
-fn write_answer(seat: Seat, message: Message, own: Version) -> Answered
-    ensures { result ≡ write_answer seat message own }
-{
-    if message.election < seat.vote {
-        left_answer(seat, NACK_WRITE, false)
-    } else {
-        voted_answer(seat, message, ACK_WRITE, above(message.version, own))
+    // REPLICAWRITE: the copy is stored only if its version is above that of the server's own.
+    #[tactic(auto, unfolding(crate::specs::Requests::write_answer))]
+    fn write_answer(self, message: Message, own: Version) -> Answered
+        ensures { result ≡ write_answer self message own }
+    {
+        if message.election < self.vote {
+            self.left_answer(NACK_WRITE, false)
+        } else {
+            self.voted_answer(message, ACK_WRITE, above(message.version, own))
+        }
     }
-}
 
-// REPLICAREAD.
-#[tactic(auto, unfolding(crate::specs::Requests::read_answer))]
-fn read_answer(seat: Seat, message: Message) -> Answered
-    ensures { result ≡ read_answer seat message }
-{
-    if message.election < seat.vote {
-        left_answer(seat, NACK_READ, false)
-    } else {
-        voted_answer(seat, message, ACK_READ, false)
+    // REPLICAREAD.
+    #[tactic(auto, unfolding(crate::specs::Requests::read_answer))]
+    fn read_answer(self, message: Message) -> Answered
+        ensures { result ≡ read_answer self message }
+    {
+        if message.election < self.vote {
+            self.left_answer(NACK_READ, false)
+        } else {
+            self.voted_answer(message, ACK_READ, false)
+        }
     }
 }
 
@@ -100,9 +102,9 @@ pub fn answer_to(seat: Seat, message: Message, own: Version) -> Answered
     ensures { result ≡ answer_to seat message own }
 {
     match message.kind {
-        PLEASE_VOTE => vote_answer(seat, message),
-        REPLICA_WRITE => write_answer(seat, message, own),
-        _ => read_answer(seat, message),
+        PLEASE_VOTE => seat.vote_answer(message),
+        REPLICA_WRITE => seat.write_answer(message, own),
+        _ => seat.read_answer(message),
     }
 }
 
