@@ -1,3 +1,3 @@
--- Laws that belong to no one function.
-pub mod Testing
-pub mod Sounding
+-- Laws that the tests' proofs cite.
+mod Testing
+mod Sounding

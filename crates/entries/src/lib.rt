@@ -11,7 +11,7 @@ pub const VALUE_ROOM: usize = 16;
 
 pub const TABLE_ROOM: usize = 4;
 
-// The first `len` of ROOM bytes; all of them where `len` says more.
+// The first `len` of ROOM bytes; all of them where `len` says more. An array by value, since there is no heap: `as_slice` gives the bytes that count.
 #[derive(Clone, Copy)]
 pub struct Text<const ROOM: usize> {
     pub bytes: [u8; ROOM],
@@ -31,7 +31,7 @@ pub struct Slot {
     pub value: Value,
 }
 
-// A table: the first `count` of four slots.
+// A table: the first `count` of four slots. An array by value, since there is no heap: `used` gives the slots that count.
 #[derive(Clone, Copy)]
 pub struct Decoded {
     pub count: usize,

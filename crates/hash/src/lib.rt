@@ -9,7 +9,7 @@ const OFFSET_BASIS: u32 = 2166136261;
 
 const PRIME: u32 = 16777619;
 
-// The product of a and b modulo 2^32.
+// The product of a and b modulo 2^32. A function of its own, since the rules for code (docs/DECISIONS.md, "Forms of code") ask for it.
 fn wrapping_mul_u32(a: u32, b: u32) -> u32
     ensures { result ≡ a * b % 2 ^ 32 }
 {
