@@ -1,6 +1,5 @@
 -- The handling by kind number is the handling of the messages of crates/model.
-use Rattle.std.proofs.Common.{◌≡◌, ℕ, ◌<◌, ◌≤◌, true, false, refl, le-leb}
-use borrow.Author.Tests.{lt-leb}
+use Rattle.std.proofs.Common.{◌≡◌, ℕ, refl, sym, ap, ◌∙◌}
 use Rattle.model.specs.Cluster as cluster
 use Rattle.server.specs.Views.{among}
 use Rattle.rounds.specs.Kinds.{handling_in, handling_of}
@@ -17,10 +16,5 @@ handling_means cluster.replica_read = refl
 handling_means (cluster.ack_read c) = refl
 handling_means cluster.nack_read = refl
 
-pub among_votes : (k : ℕ) → 1 ≤ k → k ≤ 3 → among 3 k ≡ true
-unfolding among
-among_votes k lo hi = rw (among, le-leb _ _ lo, le-leb _ _ hi)
-
-pub past_votes : (k : ℕ) → 3 < k → 1 ≤ k → among 3 k ≡ false
-unfolding among
-past_votes k hi lo = rw (among, le-leb _ _ lo, lt-leb _ _ hi)
+pub handling_told : (kind : ℕ) (body : cluster.Body) → cluster.kind_number body ≡ kind → handling_of body ≡ handling_in kind
+handling_told kind body e = sym (handling_means body) ∙ ap handling_in e

@@ -140,10 +140,6 @@ counted_means n q mark report r t u =
 
 -- ---- which replies count
 
-pub matching_open : (n : ℕ) (r : Round) (t : List Entry) (e k : ℕ) → among 4 r.purpose ≡ true → matching e k (round_in n r t) ≡ elim (eqb e r.election) [ true ↦ eqb k r.number | false ↦ false ]
-unfolding round_in matching
-matching_open n r t e k live = ap (λ b. matching e k (elim b [ true ↦ some (open_in n r t) | false ↦ none ])) live
-
 pub matching_shut : (n : ℕ) (r : Round) (t : List Entry) (e k : ℕ) → among 4 r.purpose ≡ false → matching e k (round_in n r t) ≡ false
 unfolding round_in matching
 matching_shut n r t e k shut = ap (λ b. matching e k (elim b [ true ↦ some (open_in n r t) | false ↦ none ])) shut

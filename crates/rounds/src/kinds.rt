@@ -7,10 +7,12 @@ use server::Handling;
 use server::codes::{ACKNOWLEDGED, REFUSED};
 
 // Kinds 1 to 3 are votes, 4 and 7 requests, 5, 6, 8 and 9 replies; any other stands in foreign memory alone, and changes nothing.
+#[tactic(auto, using(crate::proofs::KindLaws::handling_told), unfolding(crate::specs::Kinds::handling_in, server::specs::Views::among))]
 pub fn kind_of_message(kind: u32) -> Handling
     ensures is { result ≡ handling_in kind }
     ensures means { (body : Body) → kind_number body ≡ kind → result ≡ handling_of body }
 {
+    // docs/DECISIONS.md, Forms of code: kinds are told apart by a match over kind numbers, with a range for the votes.
     match kind {
         1..=3 => Handling::Vote(kind),
         4 => Handling::Request { writes: true },
