@@ -1,1 +1,2 @@
 -- Laws that belong to no one function.
+pub mod Answering

@@ -44,7 +44,7 @@ pub struct KeyList {
 
 // The same bytes, their length within the array: a slot that is not in use may hold any.
 fn trimmed<const ROOM: usize>(text: Text<ROOM>) -> Text<ROOM>
-    ensures is { text_bytes result ≡ text_bytes text }
+    ensures is { text_bytes result ≡ text_bytes text.entry }
     ensures within { result.len ≤ ROOM }
 {
     Text {

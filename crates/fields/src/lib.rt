@@ -82,13 +82,6 @@ pub fn content_agrees(round: u32, version: Version, table: Decoded) -> bool
     1 <= round && settled(version, count_of(table))
 }
 
-// Whether a table has a bucket form.
-pub fn has_form(table: Decoded) -> bool
-    ensures { result ≡ (sound table && fits 4 16 (table_in table)) }
-{
-    checks::sound(table) && checks::fits(table)
-}
-
 // The ten bytes that every datagram begins with.
 pub fn put_header(out: &mut [u8], kind: u8, from: u8, to: u8, bucket: u8, election: u16, round: u32)
     requires { 10 ≤ length out.old }
