@@ -3,16 +3,17 @@ use mathlib.Core.Path.{◌≡◌, refl, sym, ap, ap₂, ◌∙◌}
 use mathlib.Core.List.{List, [], ◌∷◌, ◌++◌, map, append-nil}
 use mathlib.Core.Bool.{Bool, true, false}
 use mathlib.Core.Option.{Option, none, some}
-use Prim.Native.Nat.{ℕ, ◌≤◌, ◌<◌}
+use Prim.Native.Nat.{ℕ, suc, ◌≤◌, ◌<◌}
 use native.Mathlib.Omega.{arith}
-use lib.ListN.{length, take, drop, drop_of_length-le}
+use lib.ListN.{length, get_or, take, drop, drop_of_length-le}
 use lib.Seq.{take_all}
 use borrow.Author.Tests.{leb-true}
-use Rattle.std.specs.Prelude.{Ok, Err, None, IfSome}
+use Rattle.std.specs.Prelude.{Ok, Err, Some, None, IfSome, IsSomeAnd, MatchOption}
+use Rattle.entries.specs.declared.Text.{Text}
 use Rattle.entries.specs.declared.Slot.{Slot}
 use Rattle.entries.specs.declared.Decoded.{Decoded}
 use Rattle.entries.specs.Entries.{Entry, value_of, holds, remove, stored, keys_of}
-use Rattle.entries.specs.Decoded.{Item, Counted, key_bytes, item_in, entry_in, table_in}
+use Rattle.entries.specs.Decoded.{Key, Item, Counted, text_bytes, key_bytes, item_in, entry_in, table_in, blank}
 use Rattle.entries.proofs.Shifts.{map-take_lem}
 use Rattle.entries.proofs.Views.{table_whole}
 use Rattle.entries.proofs.Comparison.{order_same}
@@ -24,6 +25,11 @@ use Rattle.bucket.specs.declared.Malformed.{Malformed}
 use Rattle.bucket.specs.Answers.{numbered, Read}
 use Rattle.bucket_calls.specs.declared.KeyList.{KeyList}
 use Rattle.bucket_calls.specs.Answers.{LookedUp, look_of, full_number, storable, put_in, put_of, remove_of, keys_in, list_of, Short, KeysListed}
+
+-- the same bytes, their length within the array
+pub record Trimmed {room : ℕ} (t r : Text room) : Type 0 where
+  pub is : text_bytes r ≡ text_bytes t
+  pub within : r.len ≤ room
 
 -- ---- bytes that are taken
 
@@ -63,13 +69,22 @@ module _ {b : List ℕ} (k : List ℕ) where
   look_refused r = record { is = rw (look_of, ← r.is); within = tt }
 
   module _ {t : Decoded} (r : Read b (Ok t)) where
-    pub look_found : (i : Item) → item_in i ≡ value_of k (table_in t) → IfSome i (λ v. v.len ≤ 16) → LookedUp b k (Ok i)
+    found : (i : Item) → item_in i ≡ value_of k (table_in t) → IfSome i (λ v. v.len ≤ 16) → LookedUp b k (Ok i)
     unfolding look_of
-    look_found i e w = record { is = rw (look_of, ← r.is, e); within = w }
+    found i e w = record { is = rw (look_of, ← r.is, e); within = w }
 
     pub look_long : 8 < length k → LookedUp b k (Ok None)
     unfolding item_in
-    look_long h = look_found None (sym (absent_value k (table_in t) (long_not_held b k (table_in t) (sym r.is) h))) tt
+    look_long h = found None (sym (absent_value k (table_in t) (long_not_held b k (table_in t) (sym r.is) h))) tt
+
+    -- what is found of the key that is made of the lent bytes, with its length within the array
+    pub look_found : (x : List ℕ) (i j : Item) → length k ≤ 8 → x ≡ take 8 k → item_in i ≡ value_of x (table_in t) → MatchOption i (j ≡ None) (λ v. IsSomeAnd j (Trimmed v)) → LookedUp b k (Ok j)
+    unfolding item_in
+    look_found x None None h e f m = found None (f ∙ ap (λ y. value_of y (table_in t)) (e ∙ take_all 8 k h)) tt
+    look_found x None (Some w) h e f m = cc
+    look_found x (Some v) None h e f m = absurd m
+    look_found x (Some v) (Some w) h e f m =
+        found (Some w) (ap some m.is ∙ f ∙ ap (λ y. value_of y (table_in t)) (e ∙ take_all 8 k h)) m.within
 
 -- ---- changing
 
@@ -144,11 +159,23 @@ keys_in_use t n c =
     each [] = refl
     each (s ∷ l) = ap (λ r. key_bytes s.key ∷ r) (each l)
 
-pub list_done : {b : List ℕ} {t : Decoded} → Read b (Ok t) → (l : KeyList) → Counted t l.count → map key_bytes l.keys ≡ map (λ s. key_bytes s.key) t.slots → Short l.keys → KeysListed b (Ok l)
+-- each of some keys is that of a slot, its length within its array
+keys_taken : (l : List Slot) (r : List Key) → length l ≡ length r → ((i : ℕ) → i < length l → Trimmed (get_or l i blank).key (get_or r i blank.key)) → (map key_bytes r ≡ map (λ s. key_bytes s.key) l) × Short r
+keys_taken [] [] n h = (refl, tt)
+keys_taken [] (k ∷ r) n h = absurd (omega arith)
+keys_taken (s ∷ l) [] n h = absurd (omega arith)
+keys_taken (s ∷ l) (k ∷ r) n h =
+    let t : Trimmed s.key k = h 0 (omega arith) in
+    let m : length l ≡ length r = omega arith in
+    let (e, w) = keys_taken l r m (λ i q. h (suc i) (omega arith)) in
+    (ap₂ (λ x y. x ∷ y) t.is e, (t.within, w))
+
+pub list_done : {b : List ℕ} {t : Decoded} → Read b (Ok t) → (l : KeyList) → Counted t l.count → length l.keys ≡ 4 → ((i : ℕ) → i < 4 → Trimmed (get_or t.slots i blank).key (get_or l.keys i blank.key)) → KeysListed b (Ok l)
 unfolding list_of keys_in
-list_done {b} {t} r l n e s =
+list_done {b} {t} r l n m h =
+    let (e, w) = keys_taken t.slots l.keys (omega (arith, n.four)) (λ i q. h i (omega (arith, n.four))) in
     record {
       is = rw (list_of, ← r.is, keys_in, e, keys_in_use t l.count n);
       count = n.low;
-      lengths = s;
+      lengths = w;
     }

@@ -79,6 +79,7 @@ pub fn put(bucket: &mut [u8], key: &[u8], value: &[u8]) -> Result<(), ChangeErro
 }
 
 // Whether a bucket can hold a key and a value of these lengths.
+#[tactic(auto, unfolding(crate::specs::Answers::storable, table::specs::Form::within))]
 fn storable(key: &[u8], value: &[u8]) -> bool
     ensures { result ≡ storable key.now value.now }
 {
