@@ -34,6 +34,7 @@ pub fn bytes(text: &[u8], out: &mut [u8]) -> Option<usize>
 
 // What stands between commas: pairs, or a pair, a star and how often. The answer is where the next byte goes.
 fn put_piece(out: &mut [u8], at: usize, piece: &[u8]) -> Option<usize>
+    requires { at ≤ length out.old }
     ensures { IfSome result (λ end. end ≤ length out.new) }
 {
     match piece {
@@ -62,6 +63,7 @@ fn put_run(out: &mut [u8], at: usize, byte: u8, times: u32) -> Option<usize>
 
 // Pairs of digits, stored from `at` on.
 fn put_pairs(out: &mut [u8], at: usize, digits: &[u8]) -> Option<usize>
+    requires { at ≤ length out.old }
     ensures { IfSome result (λ end. end ≤ length out.new) }
 {
     let mut end = at;
