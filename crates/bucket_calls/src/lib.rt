@@ -35,7 +35,7 @@ impl From<Malformed> for ChangeError {
     }
 }
 
-// The first `count` keys, at most four. The length of each of the four is at most 8.
+// The first `count` keys, at most four, in an array since there is no heap. The length of each of the four is at most 8.
 #[derive(Clone, Copy)]
 pub struct KeyList {
     pub count: usize,

@@ -4,8 +4,6 @@
 ghost use Rattle.std.specs.Prelude.{◌≡◌, ◌∷◌, ◌++◌, ◌&&◌, ◌≤◌, eqb, leb, length};
 ghost use Rattle.std.proofs.lemmas.List.Edits.{sets};
 ghost use Rattle.entries.specs.Decoded.{table_in};
-ghost use Rattle.table.specs.Form.{fits};
-ghost use Rattle.checks.specs.Tests.{sound};
 ghost use Rattle.fields.specs.Form.{version_of, addressed, settled, big, version_bytes};
 
 use entries::Decoded;

@@ -24,7 +24,8 @@ fn main(rt: HostRuntime) -> io::Result<()> {
     cases(&mut rt.stdout(), &input[..len])
 }
 
-// Reads until `input` is full or there is no more, and answers how many bytes were read.
+// Reads until `input` is full or there is no more, and answers how many bytes were read. The library's `read_to_end` wants a
+// heap, and its `read_exact` a full buffer.
 fn read_full<R: Read>(reading: &mut R, input: &mut [u8]) -> io::Result<usize>
     ensures { IfOk result (λ len. len ≤ length input.new) }
 {
