@@ -5,20 +5,19 @@ use mathlib.Core.Option.{some}
 use Prim.Native.Nat.{ℕ, ◌≤◌, ◌<◌, ◌+◌}
 use native.Mathlib.Omega.{arith}
 use native.Mathlib.Numerals.{add-one}
-use lib.ListN.{length, take, drop, get_or, length-take, length-map, get_or-map}
-use lib.Seq.{drop-cons, get_or-take}
-use Rattle.entries.specs.declared.Key.{Key}
-use Rattle.entries.specs.Decoded.{key_bytes, value_bytes}
-use Rattle.entries.proofs.Lists.{take_as_many}
+use mathlib.Core.Bool.{true, false}
+use lib.Dec.{eqb}
+use lib.ListN.{length, drop, get_or, length-map, get_or-map}
+use lib.Seq.{drop-cons}
+use borrow.Author.Tests.{eqb-true}
+use Rattle.entries.specs.Decoded.{Key, key_bytes, value_bytes}
 use Rattle.model.specs.Text.{bytes}
 use Rattle.model.specs.Lines.{Tally, refusal}
 use Rattle.model.specs.Print.{decimal, hex_pairs, value_text, key_list, keys_text, word_of, data_of, answer_text, outcome_text, tally_text}
 use Rattle.print.specs.declared.ResultWord.{ResultWord}
 use Rattle.print.specs.declared.ResultWord.TheVariants as O
-use Rattle.print.specs.declared.KeyList.{KeyList}
 use Rattle.print.specs.declared.AnswerLine.{AnswerLine}
 use Rattle.print.specs.Answers.{keys_in, result_for, answer_in, word_for}
-use Rattle.print.specs.Counted.{Counted}
 use Rattle.print.proofs.Printing.{Next}
 
 -- ---- refusals and the tally
@@ -53,45 +52,30 @@ answer_text_lem a = rw (word_of_lem a.word (value_bytes a.value) (keys_in a.keys
 abbrev blank : Key
 blank = record { bytes = []; len = 0 }
 
--- the bytes of the first n keys
-abbrev pub first_keys : ℕ → List Key → List (List ℕ)
-first_keys n l = take n (map key_bytes l)
-
-pub length_keys : (n : ℕ) (l : List Key) → n ≤ length l → length (first_keys n l) ≡ n
-length_keys n l h = simp (length-take, length-map) (omega arith)
-
 pub key_text : (k : List ℕ) (l : List (List ℕ)) → key_list (k ∷ l) ≡ (bytes " " ++ hex_pairs k) ++ key_list l
 unfolding key_list
 key_text k l = simp append_assoc
 
-pub next_key : (n : ℕ) (l : List Key) (i : ℕ) → i < n → n ≤ length l → Next key_list (first_keys n l) i (bytes " " ++ hex_pairs (key_bytes (get_or l i blank)))
-next_key n l i h k = record { is = ap key_list first ∙ key_text (key_bytes (get_or l i blank)) (drop (i + 1) (first_keys n l)) }
+pub next_key : (l : List Key) (i : ℕ) → i < length l → Next key_list (map key_bytes l) i (bytes " " ++ hex_pairs (key_bytes (get_or l i blank)))
+next_key l i h = record { is = ap key_list first ∙ key_text (key_bytes (get_or l i blank)) (drop (i + 1) (map key_bytes l)) }
   where
-    first : drop i (first_keys n l) ≡ key_bytes (get_or l i blank) ∷ drop (i + 1) (first_keys n l)
-    first = rw (add-one i, drop-cons (first_keys n l) i (key_bytes blank) (rw (length_keys n l k) h), get_or-take n (map key_bytes l) i (key_bytes blank) h, get_or-map key_bytes l i blank)
+    first : drop i (map key_bytes l) ≡ key_bytes (get_or l i blank) ∷ drop (i + 1) (map key_bytes l)
+    first = rw (add-one i, drop-cons (map key_bytes l) i (key_bytes blank) (rw length-map h), get_or-map key_bytes l i blank)
 
 pub keys_end : key_list [] ≡ []
 unfolding key_list
 keys_end = refl
 
 -- no keys are `-`
-pub keys_none : (l : List (List ℕ)) → length l ≡ 0 → keys_text l ≡ bytes " -"
+pub keys_none : (l : List Key) → eqb (length l) 0 ≡ true → keys_text (map key_bytes l) ≡ bytes " -"
 unfolding keys_text
 keys_none [] h = refl
-keys_none (k ∷ l) h = absurd (omega arith)
+keys_none (k ∷ l) h = absurd (omega (arith, eqb-true _ _ h))
 
-pub keys_some : (l : List (List ℕ)) → (length l ≡ 0 → ⊥) → keys_text l ≡ key_list l
+pub keys_some : (l : List Key) → eqb (length l) 0 ≡ false → keys_text (map key_bytes l) ≡ key_list (map key_bytes l)
 unfolding keys_text
-keys_some [] h = absurd (h refl)
+keys_some [] h = absurd (cc)
 keys_some (k ∷ l) h = refl
-
--- as many of the keys as a list has are the list
-pub keys_whole : {l : KeyList} {n : ℕ} → Counted l n → first_keys n l.keys ≡ keys_in l
-unfolding keys_in
-keys_whole {l} {n} c = take_as_many n l.count (map key_bytes l.keys) c.is
-
-pub within : {l : KeyList} {n : ℕ} → Counted l n → n ≤ length l.keys
-within c = omega (arith, c.low, c.four)
 
 -- ---- the data of an answer
 

@@ -12,7 +12,7 @@ mod words;
 
 use std::io;
 use std::io::{Read, Write};
-use words::{ROOM, bytes, next, word};
+use words::{ROOM, bytes, word};
 
 // The most bytes of input that are read.
 const INPUT: usize = 65536;
@@ -24,7 +24,8 @@ fn main(rt: HostRuntime) -> io::Result<()> {
     cases(&mut rt.stdout(), &input[..len])
 }
 
-// Reads until `input` is full or there is no more, and answers how many bytes were read.
+// Reads until `input` is full or there is no more, and answers how many bytes were read. The library's `read_to_end` wants a
+// heap, and its `read_exact` a full buffer.
 fn read_full<R: Read>(reading: &mut R, input: &mut [u8]) -> io::Result<usize>
     ensures { IfOk result (λ len. len ≤ length input.new) }
 {
@@ -40,38 +41,30 @@ fn read_full<R: Read>(reading: &mut R, input: &mut [u8]) -> io::Result<usize>
 }
 
 fn cases<W: Write>(to: &mut W, input: &[u8]) -> io::Result<()> {
-    let mut at = 0;
-    while at < input.len() {
-        let end = next(input, at, b'\n');
-        case(to, &input[at..end])?;
-        at = end + 1;
+    for line in input.split_inclusive(|byte| *byte == b'\n') {
+        case(to, line.strip_suffix(b"\n").unwrap_or(line))?;
     }
     Ok(())
 }
 
 fn case<W: Write>(to: &mut W, line: &[u8]) -> io::Result<()> {
     let mut first = [0u8; ROOM];
-    let len = bytes(word(line, 1), &mut first);
-    if len <= ROOM {
-        return with_one(to, line, &first[0..len]);
-    }
-    showing::unknown(to)
-}
-
-fn with_one<W: Write>(to: &mut W, line: &[u8], first: &[u8]) -> io::Result<()> {
     let mut second = [0u8; ROOM];
-    let len = bytes(word(line, 2), &mut second);
-    if len <= ROOM {
-        return with_two(to, line, first, &second[0..len]);
-    }
-    showing::unknown(to)
-}
-
-fn with_two<W: Write>(to: &mut W, line: &[u8], first: &[u8], second: &[u8]) -> io::Result<()> {
     let mut out = [0u8; ROOM];
-    let len = bytes(word(line, 3), &mut out);
-    if len <= ROOM {
-        return calls::run(to, line, first, second, &mut out[0..len]);
-    }
-    showing::unknown(to)
+    let Some(first_len) = bytes(word(line, 1), &mut first) else {
+        return showing::unknown(to);
+    };
+    let Some(second_len) = bytes(word(line, 2), &mut second) else {
+        return showing::unknown(to);
+    };
+    let Some(out_len) = bytes(word(line, 3), &mut out) else {
+        return showing::unknown(to);
+    };
+    calls::run(
+        to,
+        line,
+        &first[..first_len],
+        &second[..second_len],
+        &mut out[..out_len],
+    )
 }

@@ -1,20 +1,20 @@
 -- `shapes::call_line` meets its contract.
-use mathlib.Core.Path.{sym, ap, ◌∙◌}
-use Rattle.parse.specs.Digits.{number_in}
-use Rattle.parse.specs.Meaning.{call_for}
-use Rattle.parse.proofs.Forms.{call_reads, call_fails}
+use mathlib.Core.Path.{refl, ◌∙◌}
+use mathlib.Core.Logic.{inl, inr}
+use Rattle.parse.proofs.Forms.{call_reads, no_call}
 use Rattle.parse.proofs.shapes.call_line.Goals as goal
 
-pub returns-then-all_readable : goal.returns-then-all_readable
-unfolding number_in
-returns-then-all_readable c =
-    c.of_words.ensures
-    ∙ rw (c.key_in-key_read.ensures, c.item_in-expected_read.ensures, c.item_in-value_read.ensures)
-    (call_reads _ _ _ _ (sym (ap number_in c.in-Is.is) ∙ c.number-reading.ensures) (sym c.all_readable.ensures ∙ c.if-all_readable.true))
+pub returns-in_err-number : goal.returns-in_err-number
+returns-in_err-number c = c.from_residual.ensures ∙ no_call _ _ _ _ _ _ refl (inl c.in_err-number.ensures)
 
-pub returns-in-Not : goal.returns-in-Not
-unfolding number_in call_for
-returns-in-Not c = c.malformed.ensures ∙ rw (← c.number-reading.ensures, c.in-Not.is)
+pub returns-in_err-key : goal.returns-in_err-key
+returns-in_err-key c = c.from_residual-in_err-key.ensures ∙ no_call _ _ _ _ _ _ refl (inr (inl c.in_err-key.ensures))
 
-pub returns-else-all_readable : goal.returns-else-all_readable
-returns-else-all_readable c = c.malformed-in-Is.ensures ∙ call_fails _ _ _ _ _ (sym c.all_readable.ensures ∙ c.if-all_readable.false)
+pub returns-in_err-item : goal.returns-in_err-item
+returns-in_err-item c = c.from_residual-in_err-item.ensures ∙ no_call _ _ _ _ _ _ refl (inr (inr (inl c.in_err-item.ensures)))
+
+pub returns-in_err-item-2 : goal.returns-in_err-item-2
+returns-in_err-item-2 c = c.from_residual-in_err-item-2.ensures ∙ no_call _ _ _ _ _ _ refl (inr (inr (inr c.in_err-item-2.ensures)))
+
+pub returns : goal.returns
+returns c = rw c.of_words.ensures (call_reads _ _ _ _ _ c.in_ok-number.ensures c.in_ok-key.ensures c.in_ok-item.ensures c.in_ok-item-2.ensures)

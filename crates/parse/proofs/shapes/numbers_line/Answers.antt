@@ -1,19 +1,13 @@
 -- `shapes::numbers_line` meets its contract.
 use mathlib.Core.Path.{◌∙◌}
-use Rattle.parse.specs.Digits.{number_in}
-use Rattle.parse.specs.Meaning.{numbers_for}
+use Rattle.parse.proofs.Forms.{numbers_read, first_fails, second_fails}
 use Rattle.parse.proofs.shapes.numbers_line.Goals as goal
 
-pub returns-in-Not : goal.returns-in-Not
-unfolding numbers_for number_in
-returns-in-Not c = c.malformed.ensures ∙ rw (← c.number-reading.ensures, c.in-Not.is)
+pub returns-in_err-number : goal.returns-in_err-number
+returns-in_err-number c = c.from_residual.ensures ∙ first_fails _ _ _ c.in_err-number.ensures
 
-pub returns-in-Not-second_reading : goal.returns-in-Not-second_reading
-unfolding numbers_for number_in
-returns-in-Not-second_reading c =
-    c.malformed-in-Not-second_reading.ensures ∙ rw (← c.number-reading.ensures, c.in-Is.is, ← c.number-second_reading.ensures, c.in-Not-second_reading.is)
+pub returns-in_err-number-2 : goal.returns-in_err-number-2
+returns-in_err-number-2 c = c.from_residual-in_err-number-2.ensures ∙ second_fails _ _ _ c.in_err-number-2.ensures
 
-pub returns-in-Is-second_reading : goal.returns-in-Is-second_reading
-unfolding numbers_for number_in
-returns-in-Is-second_reading c =
-    c.of_numbers.ensures ∙ rw (← c.number-reading.ensures, c.in-Is.is, ← c.number-second_reading.ensures, c.in-Is-second_reading.is)
+pub returns : goal.returns
+returns c = rw c.of_numbers.ensures (numbers_read _ _ _ c.in_ok-number.ensures c.in_ok-number-2.ensures)

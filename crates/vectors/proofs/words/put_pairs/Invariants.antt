@@ -1,11 +1,6 @@
--- `vectors::words::put_pairs` is safe and ends: a pair lies within the slice. The measure is what is left of it.
-use Prim.Native.Nat.{◌≤◌, ◌-◌}
-use mathlib.Core.Path.{◌≡◌}
-use lib.ListN.{length}
+-- `vectors::words::put_pairs` meets its contract: the next byte goes within the buffer or behind it.
+use Rattle.std.proofs.Common.{◌≤◌, length}
 use Rattle.vectors.proofs.words.put_pairs.Given as goal
 
-abbrev pub invariant-loop-i : goal.invariant-loop-i
-invariant-loop-i l = (l.i ≤ length l.digits) × (length l.out ≡ length l.initial.out)
-
-abbrev pub decreases-loop-i : goal.decreases-loop-i
-decreases-loop-i l = length l.digits - l.i
+abbrev pub invariant-loop-pair : goal.invariant-loop-pair
+invariant-loop-pair l = l.end ≤ length l.out
