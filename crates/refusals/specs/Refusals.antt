@@ -51,6 +51,9 @@ no_receiver c receiver h = elim (leb c.servers receiver) [ true ↦ true | false
 unfoldable pub send_count : ℕ → ℕ → ℕ
 send_count n kind = elim (eqb kind 0) [ true ↦ 0 | false ↦ elim (is_broadcast kind) [ true ↦ n - 1 | false ↦ 1 ] ]
 
--- 12: whether there is a place for each; the place of a message that is removed is free
+-- whether there is a place for each message, else 12; the place of a message that is removed is free
 abbrev pub places_left : Counts → Bool → ℕ → Bool
 places_left c removes kind = leb (c.messages - chosen removes 1 0 + send_count c.servers kind) max_messages
+
+unfoldable pub places_refusal : Counts → Bool → ℕ → Result (Unit {0}) Refusal
+places_refusal c removes kind = elim (places_left c removes kind) [ true ↦ Ok tt | false ↦ Err NoPlaces ]

@@ -4,7 +4,7 @@
 
 ghost use Rattle.std.specs.Prelude.{◌≡◌, ◌≤◌};
 ghost use Rattle.memory.specs.Layout.{server_room, message_room};
-ghost use Rattle.refusals.specs.Refusals.{number, send_count, places_left, server_refusal, start_refusal, no_receiver, inside, message_refusal};
+ghost use Rattle.refusals.specs.Refusals.{number, send_count, places_left, places_refusal, server_refusal, start_refusal, no_receiver, inside, message_refusal};
 
 use memory::Counts;
 use server::Head;
@@ -129,11 +129,24 @@ pub fn send_count(servers: u32, kind: u32) -> u32
 
 // Whether there is a place for each message; the place of one that is removed is free.
 #[tactic(auto, using(crate::proofs::Sending::few_sent))]
-pub fn places_left(cluster: Counts, removes: bool, kind: u32) -> bool
+fn places_left(cluster: Counts, removes: bool, kind: u32) -> bool
     requires { (cluster.servers ≤ server_room) × (cluster.messages ≤ message_room) }
     ensures { result ≡ places_left cluster removes kind }
 {
     let sends = send_count(cluster.servers, kind);
     let gone = chosen(removes, 1, 0);
     cluster.messages.saturating_sub(gone) + sends <= MAX_MESSAGES
+}
+
+// 12.
+#[tactic(auto, unfolding(crate::specs::Refusals::places_refusal))]
+pub fn places_refusal(cluster: Counts, removes: bool, kind: u32) -> Result<(), Refusal>
+    requires { (cluster.servers ≤ server_room) × (cluster.messages ≤ message_room) }
+    ensures { result ≡ places_refusal cluster removes kind }
+{
+    if places_left(cluster, removes, kind) {
+        Ok(())
+    } else {
+        Err(Refusal::NoPlaces)
+    }
 }
