@@ -8,7 +8,7 @@ use Rattle.refusals.specs.declared.Refusal.{Refusal}
 use Rattle.refusals.specs.declared.Refusal.TheVariants.{Malformed, ClusterWrong, NotThere, BadLength, LinesSpent, ServerStopped, NoSuchMessage, NotLeading, BucketOccupied, NoRoundOpen, LastElection, NoPlaces, BadCutOrStart}
 
 -- the number that is printed
-unfoldable pub number : Refusal → ℕ
+abbrev pub number : Refusal → ℕ
 number Malformed = 1
 number ClusterWrong = 2
 number NotThere = 3

@@ -33,7 +33,6 @@ pub enum Refusal {
 
 impl Refusal {
     // The number that is printed (RULES, Refusals 3).
-    #[tactic(auto, unfolding(crate::specs::Refusals::number))]
     pub fn number(self) -> u32
         ensures { result ≡ number self }
     {

@@ -64,15 +64,15 @@ pub record Possible (m : Memory) (c : Counts) (x : Step) (v : Move) (f : Effect)
 abbrev pub CarriesOut : Memory → List ℕ → lines.Tally → Counts → Step → Move → Effect → Type 0
 CarriesOut m l t c x v f =
     places_left c x.removes v.sends ≡ true →
-    lines.accept_line (state_in m t) (work_of m x (reaction_of m c x v f)) ≡ result_of t (carried_run m l c x v (table_in f.table)) f
+    lines.accept_line (state_in m t) (work_of m x (reaction_of m c x v f)) ≡ result_of t (carried_run m l c x v (table_in f.table) f)
 
 abbrev pub LacksRoom : Memory → lines.Tally → Counts → Step → Move → Effect → Type 0
 LacksRoom m t c x v f =
     places_left c x.removes v.sends ≡ false →
     lines.accept_line (state_in m t) (work_of m x (reaction_of m c x v f)) ≡ lines.refuse (state_in m t) 12
 
-abbrev pub LosesMessage : Memory → List ℕ → lines.Tally → Counts → Step → Effect → Type 0
-LosesMessage m l t c x f =
+abbrev pub LosesMessage : Memory → List ℕ → lines.Tally → Counts → Step → Type 0
+LosesMessage m l t c x =
     x.calls ≡ c.calls →
     (x.removes ≡ true → x.index < c.messages) →
-    lines.accept_line (state_in m t) (lines.lost_message (cluster_at m) (kept_messages x.removes x.index (cluster_at m).messages) x.copied) ≡ result_of t (lost_run m l c x) f
+    lines.accept_line (state_in m t) (lines.lost_message (cluster_at m) (kept_messages x.removes x.index (cluster_at m).messages) x.copied) ≡ result_of t (lost_run m l c x)
