@@ -11,28 +11,6 @@ use memory_messages::free_places;
 use memory_records::counters::store_counts;
 use memory_regions::{Bytes, COPIES_AT, HEADS_AT, QUEUE_AT, SLOTS_AT, WORKING_AT, Words};
 
-fn zero_words(dst: &mut [u32], len: usize)
-    requires { length dst.old ≡ len }
-    ensures { is dst ≡ replicate len 0 }
-{
-    let mut i = 0;
-    while i < len {
-        dst[i] = 0;
-        i += 1;
-    }
-}
-
-fn zero_bytes(dst: &mut [u8], len: usize)
-    requires { length dst.old ≡ len }
-    ensures { is dst ≡ replicate len 0 }
-{
-    let mut i = 0;
-    while i < len {
-        dst[i] = 0;
-        i += 1;
-    }
-}
-
 // The regions that are 0 in a new cluster; each array is lent as a slice, so that the region alone can be lent on.
 fn zero_heads(words: &mut [u32])
     requires { length words.old ≡ word_count }
