@@ -4,19 +4,18 @@ ghost use Rattle.rounds.specs.Rounds.{pick_version, new_round_of, opened_head};
 ghost use Rattle.open_calls.specs.Calls.{one_more_of};
 ghost use Rattle.moves.specs.Moves.{local_of, reading_move, writing_move, finished_move, own_write_move, after_read_move, recovery_move, closed_move, started_move, recovered_alone, read_alone, ready_alone, alone_move, begun_move, may_write, needs_effect};
 
-use crate::codes::{COPY_STAYS, FILLS_COPY, FILLS_TABLE, KEEPS_WORK, WORK_STAYS};
-use crate::parts::{plain, quiet, sending, with_call};
-use crate::{Local, Move};
+use crate::nothing::{no_call, no_round};
+use crate::parts::{plain, quiet, sending};
+use crate::{Filling, Keeping, Local, Move};
 use open_calls::{next_version, one_more, recovered};
-use rounds::opening::{new_round, no_version, opened};
+use rounds::opening::{new_round, opened};
 use rounds::replies::pick_version;
 use server::codes::{
-    CHECK, DEL, DONE, NO_CALL, NO_RESULT, NO_ROUND, OWN_WRITE, RECOVERY_READ, RECOVERY_WRITE,
-    REPLICA_READ, REPLICA_WRITE, SET,
+    CHECK, DEL, DONE, NO_RESULT, OWN_WRITE, RECOVERY_READ, RECOVERY_WRITE, REPLICA_READ,
+    REPLICA_WRITE, SET,
 };
-use server::measures::SERVERS;
-use server::numbers::{above, chosen};
-use server::{Answer, Call, Round, Version};
+use server::numbers::above;
+use server::{Answer, Call, Version};
 
 // What a broadcast leaves of its sender, whose copy is then of this version; `own` where it is the call's own write.
 fn after_broadcast(me: u32, purpose: u32, own: bool, version: Version, local: Local) -> Local
@@ -38,9 +37,15 @@ fn reading_move(me: u32, purpose: u32, local: Local) -> Move
     ensures { result ≡ reading_move me purpose local }
 {
     let after = after_broadcast(me, purpose, false, local.version, local);
-    let mut next = plain(REPLICA_READ, after);
-    next.fills = chosen(purpose == RECOVERY_READ, FILLS_COPY, WORK_STAYS);
-    next
+    let fills = if purpose == RECOVERY_READ {
+        Filling::Copy
+    } else {
+        Filling::Stays
+    };
+    Move {
+        fills,
+        ..plain(REPLICA_READ, after)
+    }
 }
 
 // What a write leaves of its sender, whose own copy takes the written version or not.
@@ -57,43 +62,41 @@ fn writing_move(me: u32, purpose: u32, version: Version, local: Local) -> Move
 {
     let stores = above(version, local.version);
     let after = after_write(me, purpose, stores, version, local);
-    let mut next = sending(REPLICA_WRITE, version, after);
-    next.fills = chosen(purpose == OWN_WRITE, FILLS_TABLE, WORK_STAYS);
-    next.keeps = chosen(stores, KEEPS_WORK, COPY_STAYS);
-    next
+    let fills = if purpose == OWN_WRITE {
+        Filling::Table
+    } else {
+        Filling::Stays
+    };
+    let keeps = if stores {
+        Keeping::Working
+    } else {
+        Keeping::Stays
+    };
+    Move {
+        fills,
+        keeps,
+        ..sending(REPLICA_WRITE, version, after)
+    }
 }
 
 // The call ends with a result.
 fn finished_move(res: u32, local: Local) -> Move
     ensures { result ≡ finished_move res local }
 {
-    let best = no_version();
-    let marks = [0u32; SERVERS];
-    let round = Round {
-        purpose: NO_ROUND,
-        number: 0,
-        election: 0,
-        best,
-        marks,
-    };
-    let call = Call {
-        kind: NO_CALL,
-        number: 0,
-        rounds: 0,
-        sent: 0,
-    };
-    let old = local.call;
     let answer = Answer {
-        call: old.number,
+        call: local.call.number,
         result: res,
-        rounds: old.rounds,
+        rounds: local.call.rounds,
     };
-    let mut after = local;
-    after.round = round;
-    after.call = call;
-    let mut next = quiet(after);
-    next.answer = answer;
-    next
+    let after = Local {
+        round: no_round(),
+        call: no_call(),
+        ..local
+    };
+    Move {
+        answer,
+        ..quiet(after)
+    }
 }
 
 // The call's own write, under the next version.
@@ -194,10 +197,12 @@ fn alone_move(me: u32, res: u32, local: Local) -> Move
 {
     if res == NO_RESULT {
         let written = own_write_move(me, ready_alone(me, local));
-        let mut next = finished_move(DONE, written.local);
-        next.fills = written.fills;
-        next.keeps = written.keeps;
-        return next;
+        let ended = finished_move(DONE, written.local);
+        return Move {
+            fills: written.fills,
+            keeps: written.keeps,
+            ..ended
+        };
     }
     finished_move(res, read_alone(me, local))
 }
@@ -212,7 +217,7 @@ pub fn begun_move(servers: u32, me: u32, number: u32, kind: u32, res: u32, local
         rounds: 0,
         sent: 0,
     };
-    let after = with_call(call, local);
+    let after = Local { call, ..local };
     if servers <= 1 {
         return alone_move(me, res, after);
     }

@@ -4,9 +4,8 @@ ghost use Rattle.model.specs.Leader.{acts};
 ghost use Rattle.server.specs.Views.{role_in};
 ghost use Rattle.moves.specs.Moves.{stepped_down, vote_move, read_request_move, write_request_move, request_move, voting_move};
 
-use crate::codes::{COPY_STAYS, KEEPS_MESSAGE};
-use crate::parts::{ceasing, headed, plain, quiet, sending, with_head};
-use crate::{Local, Move};
+use crate::parts::{ceasing, headed, plain, quiet, sending};
+use crate::{Keeping, Local, Move};
 use rounds::replies::pick_version;
 use server::Message;
 use server::codes::{
@@ -60,8 +59,8 @@ fn vote_move(message: Message, local: Local) -> Move
 fn read_request_move(message: Message, local: Local) -> Move
     ensures { result ≡ read_request_move message local }
 {
-    let voted = voting(message.election, message.sender, local.head);
-    sending(ACK_READ, local.version, with_head(voted, local))
+    let head = voting(message.election, message.sender, local.head);
+    sending(ACK_READ, local.version, Local { head, ..local })
 }
 
 // A write that is accepted is stored only if its version is above the stored one.
@@ -71,12 +70,20 @@ fn write_request_move(message: Message, local: Local) -> Move
     let stores = above(message.version, local.version);
     let version = pick_version(stores, message.version, local.version);
     let head = voting(message.election, message.sender, local.head);
-    let mut after = local;
-    after.head = head;
-    after.version = version;
-    let mut next = plain(ACK_WRITE, after);
-    next.keeps = chosen(stores, KEEPS_MESSAGE, COPY_STAYS);
-    next
+    let keeps = if stores {
+        Keeping::Message
+    } else {
+        Keeping::Stays
+    };
+    let after = Local {
+        head,
+        version,
+        ..local
+    };
+    Move {
+        keeps,
+        ..plain(ACK_WRITE, after)
+    }
 }
 
 // A request that is accepted.

@@ -5,24 +5,27 @@ ghost use Rattle.server.specs.declared.Handling.TheVariants.{Reply};
 ghost use Rattle.server.specs.Views.{open_in};
 ghost use Rattle.moves.specs.Moves.{ceased_move, quiet, with_round, fetching, counted_move, reply_move, handling_move, reads_by};
 
-use crate::codes::FILLS_MESSAGE;
 use crate::leading::closed_move;
-use crate::parts::{quiet, with_round};
+use crate::parts::quiet;
 use crate::roles::ceased_move;
-use crate::{Local, Move};
+use crate::{Filling, Local, Move};
 use rounds::opening::no_version;
 use rounds::replies::{closes, counted, fails, matches, pick_version};
 use server::codes::CHECK;
-use server::numbers::chosen;
 use server::{Counted, Message, Version};
 
 // The same step, with the message's content as working content where it is the best one reported.
 fn fetching(better: bool, next: Move) -> Move
     ensures { result ≡ fetching better next }
 {
-    let mut after = next;
-    after.fills = chosen(better, FILLS_MESSAGE, next.fills);
-    after
+    if better {
+        Move {
+            fills: Filling::Message,
+            ..next
+        }
+    } else {
+        next
+    }
 }
 
 // A round that does not close fails or waits for more replies.
@@ -32,7 +35,13 @@ fn waiting_move(servers: u32, after: Counted, local: Local) -> Move
     if fails(servers, after.round) {
         return ceased_move(local);
     }
-    fetching(after.better, quiet(with_round(after.round, local)))
+    fetching(
+        after.better,
+        quiet(Local {
+            round: after.round,
+            ..local
+        }),
+    )
 }
 
 // A round with a reply counted: it closes, fails or stays open.
@@ -40,7 +49,14 @@ fn counted_move(servers: u32, me: u32, res: u32, after: Counted, local: Local) -
     ensures { result ≡ counted_move servers me res after local }
 {
     if closes(servers, after.round) {
-        let next = closed_move(me, res, with_round(after.round, local));
+        let next = closed_move(
+            me,
+            res,
+            Local {
+                round: after.round,
+                ..local
+            },
+        );
         return fetching(after.better, next);
     }
     waiting_move(servers, after, local)
