@@ -10,9 +10,8 @@ use lib.ListN.{length, take, drop}
 use lib.Dec.{ltb}
 use lib.Seq.{paste, length-paste}
 use borrow.Author.Tests.{lt-ltb}
-use Rattle.entries.specs.declared.Key.{Key}
-use Rattle.entries.specs.declared.Value.{Value}
-use Rattle.entries.specs.Decoded.{key_bytes, value_bytes, item_in}
+use Rattle.std.specs.Prelude.{Some, None}
+use Rattle.entries.specs.Decoded.{Key, Value, Item, text_bytes, key_bytes, value_bytes, item_in}
 use Rattle.entries.proofs.Lists.{take_as_many}
 use Rattle.server.specs.Views.{words_in}
 use Rattle.server.proofs.WordLaws.{words_alike}
@@ -20,7 +19,7 @@ use Rattle.server.specs.declared.Version.{Version}
 use Rattle.server.specs.declared.Round.{Round}
 use Rattle.server.specs.declared.Call.{Call}
 use Rattle.server.specs.declared.Words.{Words}
-use Rattle.memory.specs.Layout.{slot_size, text_size, key_room, value_room, key_place, expected_place, value_place, version_at, put_version, round_at, put_round, call_at, put_call, item_word, numbers_in, words_at, put_words, put_texts, Whole}
+use Rattle.memory.specs.Layout.{slot_size, text_size, key_room, value_room, key_place, expected_place, value_place, version_at, put_version, round_at, put_round, call_at, put_call, item_word, item_from, stored_value, numbers_in, words_at, put_words, put_texts, Whole}
 use Rattle.memory.proofs.Parts.{part_pasted, part_before, part_elsewhere}
 use Rattle.memory.proofs.Records.{length-put_numbers, numbers_put_numbers, numbers_elsewhere, version_put_numbers, round_put_numbers, call_put_numbers, numbers_put_version, numbers_put_round, numbers_put_call}
 
@@ -32,7 +31,7 @@ module _ (m : List ℕ) (i : ℕ) (w : Words) (fits : (i + 1) * text_size ≤ le
   one = paste m (i * text_size + key_place) w.key.bytes key_room
 
   two : List ℕ
-  two = paste one (i * text_size + expected_place) w.expected.value.bytes value_room
+  two = paste one (i * text_size + expected_place) (stored_value w.expected).bytes value_room
 
   length_one : length one ≡ length m
   unfolding one
@@ -43,35 +42,35 @@ module _ (m : List ℕ) (i : ℕ) (w : Words) (fits : (i + 1) * text_size ≤ le
   length_two =
       let h = whole.expected_length in
       let l = length_one in
-      length-paste one (i * text_size + expected_place) w.expected.value.bytes value_room (omega arith) (omega arith) ∙ length_one
+      length-paste one (i * text_size + expected_place) (stored_value w.expected).bytes value_room (omega arith) (omega arith) ∙ length_one
 
   pub length-put_texts : length (put_texts m i w) ≡ length m
   unfolding put_texts one two
   length-put_texts =
       let h = whole.value_length in
       let l = length_two in
-      length-paste two (i * text_size + value_place) w.value.value.bytes value_room (omega arith) (omega arith) ∙ length_two
+      length-paste two (i * text_size + value_place) (stored_value w.value).bytes value_room (omega arith) (omega arith) ∙ length_two
 
   key_bytes_lem : take key_room (drop (i * text_size + key_place) (put_texts m i w)) ≡ w.key.bytes
   unfolding put_texts one two
   key_bytes_lem =
       let l = length_one in
       let k = length_two in
-      part_before two (i * text_size + value_place) w.value.value.bytes value_room (omega arith) whole.value_length (i * text_size + key_place) key_room (omega arith)
-      ∙ part_before one (i * text_size + expected_place) w.expected.value.bytes value_room (omega arith) whole.expected_length (i * text_size + key_place) key_room (omega arith)
+      part_before two (i * text_size + value_place) (stored_value w.value).bytes value_room (omega arith) whole.value_length (i * text_size + key_place) key_room (omega arith)
+      ∙ part_before one (i * text_size + expected_place) (stored_value w.expected).bytes value_room (omega arith) whole.expected_length (i * text_size + key_place) key_room (omega arith)
       ∙ part_pasted m (i * text_size + key_place) w.key.bytes key_room (omega arith) whole.key_length
 
-  expected_bytes : take value_room (drop (i * text_size + expected_place) (put_texts m i w)) ≡ w.expected.value.bytes
+  expected_bytes : take value_room (drop (i * text_size + expected_place) (put_texts m i w)) ≡ (stored_value w.expected).bytes
   unfolding put_texts one two
   expected_bytes =
       let l = length_one in
       let k = length_two in
-      part_before two (i * text_size + value_place) w.value.value.bytes value_room (omega arith) whole.value_length (i * text_size + expected_place) value_room (omega arith)
-      ∙ part_pasted one (i * text_size + expected_place) w.expected.value.bytes value_room (omega arith) whole.expected_length
+      part_before two (i * text_size + value_place) (stored_value w.value).bytes value_room (omega arith) whole.value_length (i * text_size + expected_place) value_room (omega arith)
+      ∙ part_pasted one (i * text_size + expected_place) (stored_value w.expected).bytes value_room (omega arith) whole.expected_length
 
-  value_bytes_lem : take value_room (drop (i * text_size + value_place) (put_texts m i w)) ≡ w.value.value.bytes
+  value_bytes_lem : take value_room (drop (i * text_size + value_place) (put_texts m i w)) ≡ (stored_value w.value).bytes
   unfolding put_texts one two
-  value_bytes_lem = let k = length_two in part_pasted two (i * text_size + value_place) w.value.value.bytes value_room (omega arith) whole.value_length
+  value_bytes_lem = let k = length_two in part_pasted two (i * text_size + value_place) (stored_value w.value).bytes value_room (omega arith) whole.value_length
 
   -- any bytes of another block
   texts_elsewhere : (k r n : ℕ) → r + n ≤ text_size → k ≢ i → take n (drop (k * text_size + r) (put_texts m i w)) ≡ take n (drop (k * text_size + r) m)
@@ -79,40 +78,38 @@ module _ (m : List ℕ) (i : ℕ) (w : Words) (fits : (i + 1) * text_size ≤ le
   texts_elsewhere k r n inside different =
       let l = length_one in
       let l2 = length_two in
-      part_elsewhere text_size k i r n value_place two w.value.value.bytes value_room inside (omega arith) (omega arith) whole.value_length different
-      ∙ part_elsewhere text_size k i r n expected_place one w.expected.value.bytes value_room inside (omega arith) (omega arith) whole.expected_length different
+      part_elsewhere text_size k i r n value_place two (stored_value w.value).bytes value_room inside (omega arith) (omega arith) whole.value_length different
+      ∙ part_elsewhere text_size k i r n expected_place one (stored_value w.expected).bytes value_room inside (omega arith) (omega arith) whole.expected_length different
       ∙ part_elsewhere text_size k i r n key_place m w.key.bytes key_room inside (omega arith) fits whole.key_length different
 
 -- ---- the words
 
 -- a key by its length and its bytes, and a value by its word and its bytes
 key_back : (k : Key) (l : List ℕ) → l ≡ k.bytes → key_bytes (record { bytes = l; len = length (key_bytes k) }) ≡ key_bytes k
-unfolding key_bytes
+unfolding text_bytes
 key_back k l e = rw e (take_as_many _ k.len k.bytes refl)
 
 value_back : (v : Value) (l : List ℕ) (n : ℕ) → l ≡ v.bytes → n ≡ length (value_bytes v) → value_bytes (record { bytes = l; len = n }) ≡ value_bytes v
-unfolding value_bytes
+unfolding text_bytes
 value_back v l n e h = rw e (take_as_many n v.len v.bytes h)
 
 -- whether it is there or not
-item_back : (b : Bool) (v : Value) (l : List ℕ) → l ≡ v.bytes
-    → let x = item_word (record { value = v; there = b }) in
-    item_in (record { value = record { bytes = l; len = x - 1 }; there = ltb 0 x }) ≡ item_in (record { value = v; there = b })
+item_back : (i : Item) (m : List ℕ) (p : ℕ) → take value_room (drop p m) ≡ (stored_value i).bytes → item_in (item_from m p (item_word i)) ≡ item_in i
 unfolding item_in item_word
-item_back true v l e =
+item_back (Some v) m p e =
     let n = length (value_bytes v) in
-    rw (lt-ltb 0 (n + 1) (omega arith)) (ap some (value_back v l (n + 1 - 1) e (omega arith)))
-item_back false v l e = refl
+    rw (lt-ltb 0 (n + 1) (omega arith)) (ap some (value_back v _ (n + 1 - 1) e (omega arith)))
+item_back None m p e = refl
 
 module _ (l m : List ℕ) (i : ℕ) (w : Words) (whole : Whole w) where
   pub words_put_words : (i + 1) * slot_size ≤ length l → (i + 1) * text_size ≤ length m → words_in (words_at (put_words l i w) (put_texts m i w) i) ≡ words_in w
   unfolding words_at put_words
   words_put_words slots texts =
-      rw (numbers_put_numbers l i (numbers_in w) slots)
+      rw (numbers_put_numbers l i (numbers_in w) slots, item_from)
       (words_alike _ w refl refl
       (key_back w.key _ (key_bytes_lem m i w texts whole))
-      (item_back w.expected.there w.expected.value _ (expected_bytes m i w texts whole))
-      (item_back w.value.there w.value.value _ (value_bytes_lem m i w texts whole)))
+      (item_back w.expected _ _ (expected_bytes m i w texts whole))
+      (item_back w.value _ _ (value_bytes_lem m i w texts whole)))
 
   pub words_elsewhere : (k : ℕ) → (i + 1) * text_size ≤ length m → k ≢ i → words_at (put_words l i w) (put_texts m i w) k ≡ words_at l m k
   unfolding words_at put_words
@@ -122,6 +119,7 @@ module _ (l m : List ℕ) (i : ℕ) (w : Words) (whole : Whole w) where
         texts_elsewhere m i w texts whole k key_place key_room (omega arith) different,
         texts_elsewhere m i w texts whole k expected_place value_room (omega arith) different,
         texts_elsewhere m i w texts whole k value_place value_room (omega arith) different,
+        item_from,
       )
 
 -- ---- the other records of the slots
@@ -146,12 +144,12 @@ module _ (l : List ℕ) (i : ℕ) (w : Words) where
 module _ (l m : List ℕ) (i k : ℕ) where
   pub words_put_version : (v : Version) → words_at (put_version l i v) m k ≡ words_at l m k
   unfolding words_at
-  words_put_version v = rw (numbers_put_version l i v k)
+  words_put_version v = rw (numbers_put_version l i v k, item_from)
 
   pub words_put_round : (r : Round) → words_at (put_round l i r) m k ≡ words_at l m k
   unfolding words_at
-  words_put_round r = rw (numbers_put_round l i r k)
+  words_put_round r = rw (numbers_put_round l i r k, item_from)
 
   pub words_put_call : (c : Call) → words_at (put_call l i c) m k ≡ words_at l m k
   unfolding words_at
-  words_put_call c = rw (numbers_put_call l i c k)
+  words_put_call c = rw (numbers_put_call l i c k, item_from)
