@@ -2,14 +2,12 @@
 use mathlib.Core.Path.{◌≡◌, refl, ap, ◌∙◌}
 use mathlib.Core.Logic.{◌≢◌}
 use mathlib.Core.List.{List}
-use mathlib.Core.Bool.{Bool, true, false}
 use mathlib.Core.Option.{some}
-use Prim.Native.Nat.{ℕ, ◌+◌, ◌-◌, ◌*◌, ◌≤◌}
+use Prim.Native.Nat.{ℕ, zero, suc, ◌+◌, ◌-◌, ◌*◌, ◌≤◌, ◌<◌}
+use native.Mathlib.Numerals.{add-one}
 use native.Mathlib.Omega.{arith}
 use lib.ListN.{length, take, drop}
-use lib.Dec.{ltb}
 use lib.Seq.{paste, length-paste}
-use borrow.Author.Tests.{lt-ltb}
 use Rattle.std.specs.Prelude.{Some, None}
 use Rattle.entries.specs.Decoded.{Key, Value, Item, text_bytes, key_bytes, value_bytes, item_in}
 use Rattle.entries.proofs.Lists.{take_as_many}
@@ -19,7 +17,7 @@ use Rattle.server.specs.declared.Version.{Version}
 use Rattle.server.specs.declared.Round.{Round}
 use Rattle.server.specs.declared.Call.{Call}
 use Rattle.server.specs.declared.Words.{Words}
-use Rattle.memory.specs.Layout.{slot_size, text_size, key_room, value_room, key_place, expected_place, value_place, version_at, put_version, round_at, put_round, call_at, put_call, item_word, item_from, stored_value, numbers_in, words_at, put_words, put_texts, Whole}
+use Rattle.memory.specs.Layout.{slot_size, text_size, key_room, value_room, key_place, expected_place, value_place, version_at, put_version, round_at, put_round, call_at, put_call, item_word, value_from, item_from, stored_value, numbers_in, words_at, put_words, put_texts, Whole}
 use Rattle.memory.proofs.Parts.{part_pasted, part_before, part_elsewhere}
 use Rattle.memory.proofs.Records.{length-put_numbers, numbers_put_numbers, numbers_elsewhere, version_put_numbers, round_put_numbers, call_put_numbers, numbers_put_version, numbers_put_round, numbers_put_call}
 
@@ -93,19 +91,26 @@ value_back : (v : Value) (l : List ℕ) (n : ℕ) → l ≡ v.bytes → n ≡ le
 unfolding text_bytes
 value_back v l n e h = rw e (take_as_many n v.len v.bytes h)
 
--- whether it is there or not
 item_back : (i : Item) (m : List ℕ) (p : ℕ) → take value_room (drop p m) ≡ (stored_value i).bytes → item_in (item_from m p (item_word i)) ≡ item_in i
 unfolding item_in item_word
-item_back (Some v) m p e =
-    let n = length (value_bytes v) in
-    rw (lt-ltb 0 (n + 1) (omega arith)) (ap some (value_back v _ (n + 1 - 1) e (omega arith)))
+item_back (Some v) m p e = rw add-one (ap some (value_back v _ (length (value_bytes v)) e refl))
 item_back None m p e = refl
+
+-- a value of the same bytes by the same word
+item_alike : (m m' : List ℕ) (p x : ℕ) → take value_room (drop p m') ≡ take value_room (drop p m) → item_from m' p x ≡ item_from m p x
+item_alike m m' p zero e = refl
+item_alike m m' p (suc len) e = rw e
+
+-- a value whose word is not 0 is there
+pub item_there : (m : List ℕ) (p x : ℕ) → 0 < x → item_from m p x ≡ Some (value_from m p (x - 1))
+item_there m p zero h = absurd (omega arith)
+item_there m p (suc len) h = let e : suc len - 1 ≡ len = omega arith in rw e
 
 module _ (l m : List ℕ) (i : ℕ) (w : Words) (whole : Whole w) where
   pub words_put_words : (i + 1) * slot_size ≤ length l → (i + 1) * text_size ≤ length m → words_in (words_at (put_words l i w) (put_texts m i w) i) ≡ words_in w
   unfolding words_at put_words
   words_put_words slots texts =
-      rw (numbers_put_numbers l i (numbers_in w) slots, item_from)
+      rw (numbers_put_numbers l i (numbers_in w) slots)
       (words_alike _ w refl refl
       (key_back w.key _ (key_bytes_lem m i w texts whole))
       (item_back w.expected _ _ (expected_bytes m i w texts whole))
@@ -117,9 +122,8 @@ module _ (l m : List ℕ) (i : ℕ) (w : Words) (whole : Whole w) where
       rw (
         numbers_elsewhere l i (numbers_in w) k different,
         texts_elsewhere m i w texts whole k key_place key_room (omega arith) different,
-        texts_elsewhere m i w texts whole k expected_place value_room (omega arith) different,
-        texts_elsewhere m i w texts whole k value_place value_room (omega arith) different,
-        item_from,
+        item_alike m (put_texts m i w) (k * text_size + expected_place) _ (texts_elsewhere m i w texts whole k expected_place value_room (omega arith) different),
+        item_alike m (put_texts m i w) (k * text_size + value_place) _ (texts_elsewhere m i w texts whole k value_place value_room (omega arith) different),
       )
 
 -- ---- the other records of the slots
@@ -144,12 +148,12 @@ module _ (l : List ℕ) (i : ℕ) (w : Words) where
 module _ (l m : List ℕ) (i k : ℕ) where
   pub words_put_version : (v : Version) → words_at (put_version l i v) m k ≡ words_at l m k
   unfolding words_at
-  words_put_version v = rw (numbers_put_version l i v k, item_from)
+  words_put_version v = rw (numbers_put_version l i v k)
 
   pub words_put_round : (r : Round) → words_at (put_round l i r) m k ≡ words_at l m k
   unfolding words_at
-  words_put_round r = rw (numbers_put_round l i r k, item_from)
+  words_put_round r = rw (numbers_put_round l i r k)
 
   pub words_put_call : (c : Call) → words_at (put_call l i c) m k ≡ words_at l m k
   unfolding words_at
-  words_put_call c = rw (numbers_put_call l i c k, item_from)
+  words_put_call c = rw (numbers_put_call l i c k)

@@ -56,6 +56,7 @@ fn text_from<const ROOM: usize>(texts: &TextBytes, at: usize, len: usize) -> Tex
 }
 
 // A value by its word: none for 0, else of a length one below it.
+#[tactic(auto, using(memory::proofs::Texts::item_there))]
 fn item_from(texts: &TextBytes, at: usize, word: usize) -> Option<Value>
     requires { at + value_room ≤ slot_room * text_size }
     ensures { result ≡ item_from texts.now at word }
@@ -77,6 +78,7 @@ pub fn store_words(slots: &mut SlotWords, texts: &mut TextBytes, slot: usize, wo
 }
 
 // The word of a value: 0 where there is none, else one above its length.
+#[tactic(auto, unfolding(memory::specs::Layout::item_word))]
 fn item_word(item: Option<Value>) -> u32
     ensures { result ≡ item_word item }
 {
@@ -112,14 +114,15 @@ fn numbers_stores(slots: &mut SlotWords, slot: usize, numbers: Numbers)
 }
 
 // The bytes of the key and of both values; those of an absent value are zeros.
+#[tactic(auto, unfolding(memory::specs::Layout::put_texts))]
 fn store_texts(texts: &mut TextBytes, slot: usize, words: Words)
     requires { slot < slot_room }
     ensures { is texts ≡ put_texts (was texts) slot words }
 {
     let base = slot * TEXT_SIZE;
-    put_text(texts, base + KEY_TEXT, words.key);
-    put_text(texts, base + EXPECTED_TEXT, stored_value(words.expected));
-    put_text(texts, base + VALUE_TEXT, stored_value(words.value));
+    put_text(texts, base + KEY_TEXT, &words.key);
+    put_text(texts, base + EXPECTED_TEXT, &stored_value(words.expected));
+    put_text(texts, base + VALUE_TEXT, &stored_value(words.value));
 }
 
 // The value whose bytes are stored.
@@ -130,9 +133,9 @@ fn stored_value(item: Option<Value>) -> Value
 }
 
 // The bytes of a key, or of a value, are stored from this place on.
-fn put_text<const ROOM: usize>(texts: &mut TextBytes, at: usize, text: Text<ROOM>)
+fn put_text<const ROOM: usize>(texts: &mut TextBytes, at: usize, text: &Text<ROOM>)
     requires { at + ROOM ≤ slot_room * text_size }
-    ensures { is texts ≡ paste (was texts) at text.bytes ROOM }
+    ensures { is texts ≡ paste (was texts) at text.now.bytes ROOM }
 {
     texts[at..at + ROOM].copy_from_slice(&text.bytes);
 }
