@@ -113,8 +113,8 @@ module _ (l m : List ℕ) (i : ℕ) (w : Words) (whole : Whole w) where
       rw (numbers_put_numbers l i (numbers_in w) slots)
       (words_alike _ w refl refl
       (key_back w.key _ (key_bytes_lem m i w texts whole))
-      (item_back w.expected _ _ (expected_bytes m i w texts whole))
-      (item_back w.value _ _ (value_bytes_lem m i w texts whole)))
+      (item_back w.expected (put_texts m i w) (i * text_size + expected_place) (expected_bytes m i w texts whole))
+      (item_back w.value (put_texts m i w) (i * text_size + value_place) (value_bytes_lem m i w texts whole)))
 
   pub words_elsewhere : (k : ℕ) → (i + 1) * text_size ≤ length m → k ≢ i → words_at (put_words l i w) (put_texts m i w) k ≡ words_at l m k
   unfolding words_at put_words

@@ -24,7 +24,7 @@ pub fn load_words(words: &memory_regions::Words, bytes: &Bytes, slot: usize) -> 
 {
     let numbers = load_numbers(words, slot);
     let base = slot * TEXT_SIZE;
-    let key = key_from(bytes, base + KEY_TEXT, numbers.key as usize);
+    let key = text_from(bytes, base + KEY_TEXT, numbers.key as usize);
     let expected = item_from(bytes, base + EXPECTED_TEXT, numbers.expected as usize);
     let value = item_from(bytes, base + VALUE_TEXT, numbers.value as usize);
     Words {
