@@ -10,6 +10,7 @@ use rounds::kinds::kind_of_message;
 use server::{Handling, Message};
 
 // A message whose kind is none of the nine changes nothing.
+#[tactic(auto, unfolding(crate::specs::Moves::handled_move))]
 pub fn handled_move(servers: u32, me: u32, res: u32, message: Message, local: Local) -> Move
     ensures { result ≡ handled_move servers me res message local }
 {
@@ -24,6 +25,7 @@ pub fn handled_move(servers: u32, me: u32, res: u32, message: Message, local: Lo
 }
 
 // Whether a message closes the checking round of the slot, so that the call's effect on the table is asked for.
+#[tactic(auto, unfolding(crate::specs::Moves::reads_table))]
 pub fn reads_table(servers: u32, message: Message, local: Local) -> bool
     ensures { result ≡ reads_table servers message local }
 {

@@ -33,6 +33,7 @@ fn after_broadcast(me: u32, purpose: u32, own: bool, version: Version, local: Lo
 }
 
 // A round that reads: a recovery read works on the sender's own content at first.
+#[tactic(auto, unfolding(crate::specs::Moves::reading_move))]
 fn reading_move(me: u32, purpose: u32, local: Local) -> Move
     ensures { result ≡ reading_move me purpose local }
 {
@@ -57,6 +58,7 @@ fn after_write(me: u32, purpose: u32, stores: bool, written: Version, local: Loc
 }
 
 // A round that writes the working content under this version; a call's own write works on its new table.
+#[tactic(auto, unfolding(crate::specs::Moves::writing_move))]
 fn writing_move(me: u32, purpose: u32, version: Version, local: Local) -> Move
     ensures { result ≡ writing_move me purpose version local }
 {
@@ -80,6 +82,7 @@ fn writing_move(me: u32, purpose: u32, version: Version, local: Local) -> Move
 }
 
 // The call ends with a result.
+#[tactic(auto, unfolding(crate::specs::Moves::finished_move))]
 fn finished_move(res: u32, local: Local) -> Move
     ensures { result ≡ finished_move res local }
 {
@@ -109,6 +112,7 @@ fn own_write_move(me: u32, local: Local) -> Move
 }
 
 // What follows the checking round: a new table is written, or the call is answered.
+#[tactic(auto, unfolding(crate::specs::Moves::after_read_move))]
 fn after_read_move(me: u32, res: u32, local: Local) -> Move
     ensures { result ≡ after_read_move me res local }
 {
@@ -131,6 +135,7 @@ fn recovery_move(me: u32, local: Local) -> Move
 }
 
 // What follows the round of the slot, once it closed.
+#[tactic(auto, unfolding(crate::specs::Moves::closed_move))]
 pub fn closed_move(me: u32, res: u32, local: Local) -> Move
     ensures { result ≡ closed_move me res local }
 {
@@ -149,6 +154,7 @@ pub fn closed_move(me: u32, res: u32, local: Local) -> Move
 
 // The first round of a call among several servers: a copy that is not recovered is recovered first; on one that is, a new
 // table is written at once, and what is to be answered is checked first.
+#[tactic(auto, unfolding(crate::specs::Moves::started_move))]
 fn started_move(me: u32, res: u32, local: Local) -> Move
     ensures { result ≡ started_move me res local }
 {
@@ -162,6 +168,7 @@ fn started_move(me: u32, res: u32, local: Local) -> Move
 }
 
 // A server alone recovers its copy at once.
+#[tactic(auto, unfolding(crate::specs::Moves::recovered_alone))]
 fn recovered_alone(me: u32, local: Local) -> Local
     ensures { result ≡ recovered_alone me local }
 {
@@ -182,6 +189,7 @@ fn read_alone(me: u32, local: Local) -> Local
 }
 
 // What a server alone does before its own write: nothing where its copy is recovered, otherwise it reads.
+#[tactic(auto, unfolding(crate::specs::Moves::ready_alone))]
 fn ready_alone(me: u32, local: Local) -> Local
     ensures { result ≡ ready_alone me local }
 {
@@ -192,6 +200,7 @@ fn ready_alone(me: u32, local: Local) -> Local
 }
 
 // The whole call of a server alone: of its rounds only what they store is left.
+#[tactic(auto, unfolding(crate::specs::Moves::alone_move))]
 fn alone_move(me: u32, res: u32, local: Local) -> Move
     ensures { result ≡ alone_move me res local }
 {
@@ -208,6 +217,7 @@ fn alone_move(me: u32, res: u32, local: Local) -> Move
 }
 
 // The call of this number, of words of this kind, is taken.
+#[tactic(auto, unfolding(crate::specs::Moves::begun_move))]
 pub fn begun_move(servers: u32, me: u32, number: u32, kind: u32, res: u32, local: Local) -> Move
     ensures { result ≡ begun_move servers me number kind res local }
 {
@@ -225,6 +235,7 @@ pub fn begun_move(servers: u32, me: u32, number: u32, kind: u32, res: u32, local
 }
 
 // The kinds of calls that may write: `set`, `setif` and `del`.
+#[tactic(auto, unfolding(crate::specs::Moves::may_write))]
 fn may_write(kind: u32) -> bool
     ensures { result ≡ may_write kind }
 {
@@ -235,6 +246,7 @@ fn may_write(kind: u32) -> bool
 }
 
 // Whether the line of a call needs the call's effect: with one server, and on a recovered copy for a call that may write.
+#[tactic(auto, unfolding(crate::specs::Moves::needs_effect))]
 pub fn needs_effect(servers: u32, kind: u32, local: Local) -> bool
     ensures { result ≡ needs_effect servers kind local }
 {

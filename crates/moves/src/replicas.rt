@@ -27,6 +27,7 @@ pub fn role_acts(role: u32) -> bool
 
 // A leader or candidate whose vote rises above its own number is one no more. Most requests reach a follower, which is left
 // alone, so that nobody walks over its slots.
+#[tactic(auto, unfolding(crate::specs::Moves::stepped_down))]
 fn stepped_down(next: Move) -> Move
     ensures { result ≡ stepped_down next }
 {
@@ -42,6 +43,7 @@ fn stepped_down(next: Move) -> Move
 }
 
 // PLEASEVOTE is answered by ACKVOTE or NACKVOTE.
+#[tactic(auto, unfolding(crate::specs::Moves::vote_move))]
 fn vote_move(message: Message, local: Local) -> Move
     ensures { result ≡ vote_move message local }
 {
@@ -97,6 +99,7 @@ fn accepted_move(writes: bool, message: Message, local: Local) -> Move
 }
 
 // A request under a number below the server's vote is refused.
+#[tactic(auto, unfolding(crate::specs::Moves::request_move))]
 pub fn request_move(writes: bool, message: Message, local: Local) -> Move
     ensures { result ≡ request_move writes message local }
 {
@@ -107,6 +110,7 @@ pub fn request_move(writes: bool, message: Message, local: Local) -> Move
 }
 
 // PLEASEVOTE is answered, ACKVOTE counts for a candidate, NACKVOTE is ignored.
+#[tactic(auto, unfolding(crate::specs::Moves::voting_move))]
 pub fn voting_move(servers: u32, kind: u32, message: Message, local: Local) -> Move
     ensures { result ≡ voting_move servers kind message local }
 {

@@ -15,6 +15,7 @@ use server::codes::CHECK;
 use server::{Counted, Message, Version};
 
 // The same step, with the message's content as working content where it is the best one reported.
+#[tactic(auto, unfolding(crate::specs::Moves::fetching))]
 fn fetching(better: bool, next: Move) -> Move
     ensures { result ≡ fetching better next }
 {
@@ -45,6 +46,7 @@ fn waiting_move(servers: u32, after: Counted, local: Local) -> Move
 }
 
 // A round with a reply counted: it closes, fails or stays open.
+#[tactic(auto, unfolding(crate::specs::Moves::counted_move))]
 fn counted_move(servers: u32, me: u32, res: u32, after: Counted, local: Local) -> Move
     ensures { result ≡ counted_move servers me res after local }
 {
@@ -63,6 +65,7 @@ fn counted_move(servers: u32, me: u32, res: u32, after: Counted, local: Local) -
 }
 
 // A reply that does not belong to the round of the slot changes nothing.
+#[tactic(auto, unfolding(crate::specs::Moves::reply_move))]
 fn reply_move(
     servers: u32,
     me: u32,

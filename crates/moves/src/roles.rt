@@ -9,6 +9,7 @@ use server::codes::{NO_MESSAGE, PLEASE_VOTE, STOPPED};
 use server::votes::elected;
 
 // An election: PLEASEVOTE is sent under the server's next number.
+#[tactic(auto, unfolding(crate::specs::Moves::elected_move))]
 pub fn elected_move(servers: u32, me: u32, local: Local) -> Move
     ensures { result ≡ elected_move servers me local }
 {
