@@ -9,7 +9,6 @@ use crate::parts::{plain, quiet, sending};
 use crate::{Filling, Keeping, Local, Move};
 use open_calls::{next_version, one_more, recovered};
 use rounds::opening::{new_round, opened};
-use rounds::replies::pick_version;
 use server::codes::{
     CHECK, DEL, DONE, NO_RESULT, OWN_WRITE, RECOVERY_READ, RECOVERY_WRITE, REPLICA_READ,
     REPLICA_WRITE, SET,
@@ -50,10 +49,11 @@ fn reading_move(me: u32, purpose: u32, local: Local) -> Move
 }
 
 // What a write leaves of its sender, whose own copy takes the written version or not.
+#[tactic(auto, unfolding(rounds::specs::Rounds::pick_version))]
 fn after_write(me: u32, purpose: u32, stores: bool, written: Version, local: Local) -> Local
     ensures { result ≡ local_of (opened_head me local.head) (pick_version stores written local.version) (new_round_of me purpose local.head local.version) (one_more_of (eqb purpose 4) local.call) }
 {
-    let version = pick_version(stores, written, local.version);
+    let version = if stores { written } else { local.version };
     after_broadcast(me, purpose, purpose == OWN_WRITE, version, local)
 }
 
@@ -106,8 +106,7 @@ fn finished_move(res: u32, local: Local) -> Move
 fn own_write_move(me: u32, local: Local) -> Move
     ensures { result ≡ own_write_move me local }
 {
-    let head = local.head;
-    let next = next_version(head.number, local.version);
+    let next = next_version(local.head.number, local.version);
     writing_move(me, OWN_WRITE, next, local)
 }
 
@@ -117,18 +116,18 @@ fn after_read_move(me: u32, res: u32, local: Local) -> Move
     ensures { result ≡ after_read_move me res local }
 {
     if res == NO_RESULT {
-        return own_write_move(me, local);
+        own_write_move(me, local)
+    } else {
+        finished_move(res, local)
     }
-    finished_move(res, local)
 }
 
 // What a recovery read found is written under the leader's number.
 fn recovery_move(me: u32, local: Local) -> Move
     ensures { result ≡ recovery_move me local }
 {
-    let head = local.head;
     let version = Version {
-        election: head.number,
+        election: local.head.number,
         counter: 1,
     };
     writing_move(me, RECOVERY_WRITE, version, local)
@@ -139,17 +138,12 @@ fn recovery_move(me: u32, local: Local) -> Move
 pub fn closed_move(me: u32, res: u32, local: Local) -> Move
     ensures { result ≡ closed_move me res local }
 {
-    let round = local.round;
-    if round.purpose == RECOVERY_READ {
-        return recovery_move(me, local);
+    match local.round.purpose {
+        RECOVERY_READ => recovery_move(me, local),
+        RECOVERY_WRITE => reading_move(me, CHECK, local),
+        CHECK => after_read_move(me, res, local),
+        _ => finished_move(DONE, local),
     }
-    if round.purpose == RECOVERY_WRITE {
-        return reading_move(me, CHECK, local);
-    }
-    if round.purpose == CHECK {
-        return after_read_move(me, res, local);
-    }
-    finished_move(DONE, local)
 }
 
 // The first round of a call among several servers: a copy that is not recovered is recovered first; on one that is, a new
@@ -158,13 +152,13 @@ pub fn closed_move(me: u32, res: u32, local: Local) -> Move
 fn started_move(me: u32, res: u32, local: Local) -> Move
     ensures { result ≡ started_move me res local }
 {
-    if recovered(local.head, local.version) {
-        if res == NO_RESULT {
-            return own_write_move(me, local);
-        }
-        return reading_move(me, CHECK, local);
+    if !recovered(local.head, local.version) {
+        reading_move(me, RECOVERY_READ, local)
+    } else if res == NO_RESULT {
+        own_write_move(me, local)
+    } else {
+        reading_move(me, CHECK, local)
     }
-    reading_move(me, RECOVERY_READ, local)
 }
 
 // A server alone recovers its copy at once.
@@ -173,19 +167,17 @@ fn recovered_alone(me: u32, local: Local) -> Local
     ensures { result ≡ recovered_alone me local }
 {
     if recovered(local.head, local.version) {
-        return local;
+        local
+    } else {
+        recovery_move(me, reading_move(me, RECOVERY_READ, local).local).local
     }
-    let read = reading_move(me, RECOVERY_READ, local);
-    let written = recovery_move(me, read.local);
-    written.local
 }
 
 // A server alone reads at once.
 fn read_alone(me: u32, local: Local) -> Local
     ensures { result ≡ read_alone me local }
 {
-    let read = reading_move(me, CHECK, recovered_alone(me, local));
-    read.local
+    reading_move(me, CHECK, recovered_alone(me, local)).local
 }
 
 // What a server alone does before its own write: nothing where its copy is recovered, otherwise it reads.
@@ -194,26 +186,28 @@ fn ready_alone(me: u32, local: Local) -> Local
     ensures { result ≡ ready_alone me local }
 {
     if recovered(local.head, local.version) {
-        return local;
+        local
+    } else {
+        read_alone(me, local)
     }
-    read_alone(me, local)
 }
 
 // The whole call of a server alone: of its rounds only what they store is left.
-#[tactic(auto, unfolding(crate::specs::Moves::alone_move))]
+#[tactic(auto, unfolding(crate::specs::Moves::alone_move, crate::specs::Moves::finished_move))]
 fn alone_move(me: u32, res: u32, local: Local) -> Move
     ensures { result ≡ alone_move me res local }
 {
     if res == NO_RESULT {
         let written = own_write_move(me, ready_alone(me, local));
         let ended = finished_move(DONE, written.local);
-        return Move {
+        Move {
             fills: written.fills,
             keeps: written.keeps,
             ..ended
-        };
+        }
+    } else {
+        finished_move(res, read_alone(me, local))
     }
-    finished_move(res, read_alone(me, local))
 }
 
 // The call of this number, of words of this kind, is taken.
@@ -229,9 +223,10 @@ pub fn begun_move(servers: u32, me: u32, number: u32, kind: u32, res: u32, local
     };
     let after = Local { call, ..local };
     if servers <= 1 {
-        return alone_move(me, res, after);
+        alone_move(me, res, after)
+    } else {
+        started_move(me, res, after)
     }
-    started_move(me, res, after)
 }
 
 // The kinds of calls that may write: `set`, `setif` and `del`.
@@ -239,10 +234,7 @@ pub fn begun_move(servers: u32, me: u32, number: u32, kind: u32, res: u32, local
 fn may_write(kind: u32) -> bool
     ensures { result ≡ may_write kind }
 {
-    if kind < SET {
-        return false;
-    }
-    kind <= DEL
+    matches!(kind, SET..=DEL)
 }
 
 // Whether the line of a call needs the call's effect: with one server, and on a recovered copy for a call that may write.
@@ -250,11 +242,5 @@ fn may_write(kind: u32) -> bool
 pub fn needs_effect(servers: u32, kind: u32, local: Local) -> bool
     ensures { result ≡ needs_effect servers kind local }
 {
-    if servers <= 1 {
-        return true;
-    }
-    if recovered(local.head, local.version) {
-        return may_write(kind);
-    }
-    false
+    servers <= 1 || (recovered(local.head, local.version) && may_write(kind))
 }
