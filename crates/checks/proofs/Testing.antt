@@ -6,8 +6,8 @@ use Prim.Native.Nat.{ℕ, ◌≤◌, ◌<◌, ◌+◌}
 use native.Mathlib.Omega.{arith}
 use lib.ListN.{length, drop, get_or, drop_of_length-le, length-drop}
 use Rattle.entries.specs.declared.Slot.{Slot}
-use Rattle.entries.specs.declared.Order.{Order}
-use Rattle.entries.specs.declared.Order.TheVariants.{Before}
+use Rattle.std.specs.declared.cmp.Ordering.{Ordering}
+use Rattle.std.specs.declared.cmp.Ordering.TheVariants.{Less}
 use Rattle.entries.specs.Entries.{Entry, order}
 use Rattle.entries.specs.Decoded.{key_bytes, entry_in, blank}
 use Rattle.entries.proofs.Views.{entries_in, length_entries, next_entry}
@@ -54,7 +54,7 @@ module _ {n : ℕ} {l : List Slot} {i : ℕ} (c : Testing rising n l i) where
       next_entry n l i (omega arith) (omega (arith, c.low, c.four))
       ∙ ap (λ x. entry_in (get_or l i blank) ∷ x) (next_entry n l (i + 1) h (omega (arith, c.low, c.four)))
 
-  pub rising_goes_on : i + 1 < n → order (key_bytes (get_or l i blank).key) (key_bytes (get_or l (i + 1) blank).key) ≡ Before → Testing rising n l (i + 1)
+  pub rising_goes_on : i + 1 < n → order (key_bytes (get_or l i blank).key) (key_bytes (get_or l (i + 1) blank).key) ≡ Less → Testing rising n l (i + 1)
   unfolding entry_in rising
   rising_goes_on h e =
       record {
@@ -67,7 +67,7 @@ module _ {n : ℕ} {l : List Slot} {i : ℕ} (c : Testing rising n l i) where
             ∙ rw (rising, e) (ap rising (sym (next_entry n l (i + 1) h (omega (arith, c.low, c.four)))));
       }
 
-  pub rising_fails : (o : Order) → i + 1 < n → order (key_bytes (get_or l i blank).key) (key_bytes (get_or l (i + 1) blank).key) ≡ o → (o ≡ Before → ⊥) → rising (entries_in n l) ≡ false
+  pub rising_fails : (o : Ordering) → i + 1 < n → order (key_bytes (get_or l i blank).key) (key_bytes (get_or l (i + 1) blank).key) ≡ o → (o ≡ Less → ⊥) → rising (entries_in n l) ≡ false
   unfolding entry_in
   rising_fails o h e f = c.same ∙ ap rising (two h) ∙ not_rising _ _ _ o e f
 

@@ -9,8 +9,8 @@ use native.Mathlib.Decide.{dec_lt}
 use lib.Dec.{ltb}
 use lib.ListN.{length}
 use borrow.Author.Tests.{lt-ltb, le-ltb, eq-eqb, ne_eqb}
-use Rattle.entries.specs.declared.Order.{Order}
-use Rattle.entries.specs.declared.Order.TheVariants.{Before, Same, After}
+use Rattle.std.specs.declared.cmp.Ordering.{Ordering}
+use Rattle.std.specs.declared.cmp.Ordering.TheVariants.{Less, Equal, Greater}
 use Rattle.entries.specs.Entries.{Entry, entry, order, value_of, holds, put, remove, stored, keys_of}
 use Rattle.entries.proofs.Comparison.{order_less, order_more, order_next, order_refl, order_same, before_trans}
 use Rattle.entries.proofs.Changes.{by_order, absent_remove}
@@ -23,15 +23,15 @@ use Rattle.consistency.proofs.OneBucket.{left, said}
 
 -- ---- the tests on bytes
 
-abbrev is_same : Order → Bool
-is_same Before = false
-is_same Same = true
-is_same After = false
+abbrev is_same : Ordering → Bool
+is_same Less = false
+is_same Equal = true
+is_same Greater = false
 
-abbrev is_after : Order → Bool
-is_after Before = false
-is_after Same = false
-is_after After = true
+abbrev is_after : Ordering → Bool
+is_after Less = false
+is_after Equal = false
+is_after Greater = true
 
 -- both tests say what the order says
 abbrev TestsAgree : List ℕ → List ℕ → Type 0
@@ -53,10 +53,10 @@ tests (a ∷ l) (b ∷ m) = go (dec_lt a b) (dec_lt b a) (tests l m)
         let e : a ≡ b = omega arith in
         rw (order_next a b l m (omega arith) (omega arith), same, after, eq-eqb a b e, le-ltb b a (omega arith)) ih
 
-same_as : (l m : List ℕ) {o : Order} → order l m ≡ o → same l m ≡ is_same o
+same_as : (l m : List ℕ) {o : Ordering} → order l m ≡ o → same l m ≡ is_same o
 same_as l m e = (tests l m).0 ∙ ap is_same e
 
-after_as : (l m : List ℕ) {o : Order} → order l m ≡ o → after l m ≡ is_after o
+after_as : (l m : List ℕ) {o : Ordering} → order l m ≡ o → after l m ≡ is_after o
 after_as l m e = (tests l m).1 ∙ ap is_after e
 
 -- a goal is shown for both values of a test
@@ -73,19 +73,19 @@ same_equal l m h =
     by_order l m (λ o. not_both h (same_as l m o)) (order_same l m) (λ o. not_both h (same_as l m o))
 
 -- two lists that are not the same stand in one of two ways
-by_other : {P : Type 0} (l m : List ℕ) → same l m ≡ false → (order l m ≡ Before → P) → (order l m ≡ After → P) → P
+by_other : {P : Type 0} (l m : List ℕ) → same l m ≡ false → (order l m ≡ Less → P) → (order l m ≡ Greater → P) → P
 by_other l m n before behind = by_order l m before (λ o. not_both (same_as l m o) n) behind
 
-after_order : (l m : List ℕ) → after l m ≡ true → order l m ≡ After
+after_order : (l m : List ℕ) → after l m ≡ true → order l m ≡ Greater
 after_order l m h =
     by_order l m (λ o. not_both h (after_as l m o)) (λ o. not_both h (after_as l m o)) (λ o. o)
 
 -- where l is not after m, what is before l is before m too, and what m is before, l is not after
-before_too : (k l m : List ℕ) → order k l ≡ Before → after l m ≡ false → order k m ≡ Before
+before_too : (k l m : List ℕ) → order k l ≡ Less → after l m ≡ false → order k m ≡ Less
 before_too k l m h n =
     by_order l m (before_trans k l m h) (λ o. rw (← order_same l m o) h) (λ o. not_both (after_as l m o) n)
 
-not_after_too : (l m n : List ℕ) → after l m ≡ false → order m n ≡ Before → after l n ≡ false
+not_after_too : (l m n : List ℕ) → after l m ≡ false → order m n ≡ Less → after l n ≡ false
 not_after_too l m n h b =
     by_order l m (λ o. after_as l n (before_trans l m n o b)) (λ o. rw (order_same l m o) (after_as m n b))
     (λ o. not_both (after_as l m o) h)
@@ -244,10 +244,10 @@ remove_past k e (f ∷ t) n r =
         (λ o. rw (insert, a, remove, o))
         (λ o. rw (insert, a, remove, o, insert, a) (ap (λ u. f ∷ u) ih))
 
-    before-both : after e.key f.key ≡ false → order k e.key ≡ Before → Past (f ∷ t)
+    before-both : after e.key f.key ≡ false → order k e.key ≡ Less → Past (f ∷ t)
     before-both a o = rw (insert, a, remove, o, before_too k e.key f.key o a, insert, a)
 
-    between : after e.key f.key ≡ false → order k e.key ≡ After → Past (f ∷ t)
+    between : after e.key f.key ≡ false → order k e.key ≡ Greater → Past (f ∷ t)
     between a o =
         by_order k f.key
         (λ q. rw (insert, a, remove, o, q, insert, a))

@@ -7,19 +7,19 @@ use Prim.Native.Nat.{ℕ, suc, ◌≤◌, ◌<◌, ◌+◌}
 use native.Mathlib.Omega.{arith}
 use lib.ListN.{length}
 use borrow.Author.Tests.{lt-ltb, le-ltb}
-use Rattle.entries.specs.declared.Order.{Order}
-use Rattle.entries.specs.declared.Order.TheVariants.{Before, Same, After}
+use Rattle.std.specs.declared.cmp.Ordering.{Ordering}
+use Rattle.std.specs.declared.cmp.Ordering.TheVariants.{Less, Equal, Greater}
 use Rattle.entries.specs.Entries.{Entry, order, value_of, holds, put, remove, stored}
 use Rattle.entries.proofs.Comparison.{order_refl}
 
 -- a goal about a key and a first entry is shown for each of the three ways in which the key stands to the entry's
-pub by_order : {P : Type 0} (l m : List ℕ) → (order l m ≡ Before → P) → (order l m ≡ Same → P) → (order l m ≡ After → P) → P
+pub by_order : {P : Type 0} (l m : List ℕ) → (order l m ≡ Less → P) → (order l m ≡ Equal → P) → (order l m ≡ Greater → P) → P
 by_order {P} l m before same after = go (order l m) refl
   where
-    go : (o : Order) → order l m ≡ o → P
-    go Before h = before h
-    go Same h = same h
-    go After h = after h
+    go : (o : Ordering) → order l m ≡ o → P
+    go Less h = before h
+    go Equal h = same h
+    go Greater h = after h
 
 -- ---- lengths
 

@@ -1,4 +1,4 @@
--- The order of byte lists: it is reflexive, reversed by After, transitive, and Same only of equal lists.
+-- The order of byte lists: it is reflexive, reversed by Greater, transitive, and Equal only of equal lists.
 use mathlib.Core.Path.{◌≡◌, refl, sym, ◌∙◌}
 use mathlib.Core.List.{List, [], ◌∷◌}
 use Prim.Native.Nat.{ℕ, ◌≤◌, ◌<◌, ◌+◌}
@@ -9,15 +9,18 @@ use native.Mathlib.Numerals.{add-one}
 use lib.ListN.{length, take, drop, get_or, length-take, drop_of_length-le}
 use lib.Seq.{drop-cons, get_or-take}
 use borrow.Author.Tests.{lt-ltb, le-ltb}
-use Rattle.entries.specs.declared.Order.TheVariants.{Before, Same, After}
+use Rattle.std.specs.Cmp.{nat_cmp_is}
+use Rattle.std.specs.Cmp.Lexicographic.{slice_cmp}
+use Rattle.std.specs.Ordering.{nat_cmp}
+use Rattle.std.specs.declared.cmp.Ordering.TheVariants.{Less, Equal, Greater}
 use Rattle.entries.specs.Entries.{order}
 
 -- what the order of two lists that begin with a and b goes by
-pub order_less : (a b : ℕ) (l m : List ℕ) → a < b → order (a ∷ l) (b ∷ m) ≡ Before
+pub order_less : (a b : ℕ) (l m : List ℕ) → a < b → order (a ∷ l) (b ∷ m) ≡ Less
 unfolding order
 order_less a b l m h = rw (order, lt-ltb a b h)
 
-pub order_more : (a b : ℕ) (l m : List ℕ) → b < a → order (a ∷ l) (b ∷ m) ≡ After
+pub order_more : (a b : ℕ) (l m : List ℕ) → b < a → order (a ∷ l) (b ∷ m) ≡ Greater
 unfolding order
 order_more a b l m h =
     let k : b ≤ a = omega arith in
@@ -42,38 +45,38 @@ bytes a b = go (dec_lt a b) (dec_lt b a)
     go (no h) (no k) = equal (omega arith) (omega arith)
 
 -- no list stands before, or after, itself
-pub order_refl : (l : List ℕ) → order l l ≡ Same
+pub order_refl : (l : List ℕ) → order l l ≡ Equal
 unfolding order
 order_refl [] = refl
 order_refl (a ∷ l) = order_next a a l l (le_refl a) (le_refl a) ∙ order_refl l
 
 -- lists that are the same in the order are equal
-pub order_same : (l m : List ℕ) → order l m ≡ Same → l ≡ m
+pub order_same : (l m : List ℕ) → order l m ≡ Equal → l ≡ m
 unfolding order
 order_same [] [] h = refl
 order_same [] (b ∷ m) h = cc
 order_same (a ∷ l) [] h = cc
 order_same (a ∷ l) (b ∷ m) h = go (bytes a b) (order_same l m)
   where
-    go : Bytes a b → (order l m ≡ Same → l ≡ m) → a ∷ l ≡ b ∷ m
+    go : Bytes a b → (order l m ≡ Equal → l ≡ m) → a ∷ l ≡ b ∷ m
     go (less k) ih = cc (order_less a b l m k)
     go (more k) ih = cc (order_more a b l m k)
     go (equal h₁ h₂) ih = cc (ih (sym (order_next a b l m h₁ h₂) ∙ h), le_antisymm h₁ h₂)
 
 -- the order seen from the other side
-pub after_before : (l m : List ℕ) → order l m ≡ After → order m l ≡ Before
+pub after_before : (l m : List ℕ) → order l m ≡ Greater → order m l ≡ Less
 unfolding order
 after_before [] [] h = cc
 after_before [] (b ∷ m) h = cc
 after_before (a ∷ l) [] h = refl
 after_before (a ∷ l) (b ∷ m) h = go (bytes a b) (after_before l m)
   where
-    go : Bytes a b → (order l m ≡ After → order m l ≡ Before) → order (b ∷ m) (a ∷ l) ≡ Before
+    go : Bytes a b → (order l m ≡ Greater → order m l ≡ Less) → order (b ∷ m) (a ∷ l) ≡ Less
     go (less k) ih = cc (order_less a b l m k)
     go (more k) ih = order_less b a m l k
     go (equal h₁ h₂) ih = order_next b a m l h₂ h₁ ∙ ih (sym (order_next a b l m h₁ h₂) ∙ h)
 
-pub before_trans : (l m n : List ℕ) → order l m ≡ Before → order m n ≡ Before → order l n ≡ Before
+pub before_trans : (l m n : List ℕ) → order l m ≡ Less → order m n ≡ Less → order l n ≡ Less
 unfolding order
 before_trans [] [] n h k = cc
 before_trans [] (b ∷ m) [] h k = cc
@@ -82,7 +85,7 @@ before_trans (a ∷ l) [] n h k = cc
 before_trans (a ∷ l) (b ∷ m) [] h k = cc
 before_trans (a ∷ l) (b ∷ m) (c ∷ n) h k = go (bytes a b) (bytes b c) (before_trans l m n)
   where
-    go : Bytes a b → Bytes b c → (order l m ≡ Before → order m n ≡ Before → order l n ≡ Before) → order (a ∷ l) (c ∷ n) ≡ Before
+    go : Bytes a b → Bytes b c → (order l m ≡ Less → order m n ≡ Less → order l n ≡ Less) → order (a ∷ l) (c ∷ n) ≡ Less
     go (less p) (less q) ih = order_less a c l n (omega arith)
     go (less p) (equal q₁ q₂) ih = order_less a c l n (omega arith)
     go (less p) (more q) ih = cc (order_more b c m n q)
@@ -94,6 +97,19 @@ before_trans (a ∷ l) (b ∷ m) (c ∷ n) h k = go (bytes a b) (bytes b c) (bef
         order_next a c l n (omega arith) (omega arith)
         ∙ ih (sym (order_next a b l m p₁ p₂) ∙ h) (sym (order_next b c m n q₁ q₂) ∙ k)
     go (equal p₁ p₂) (more q) ih = cc (order_more b c m n q)
+
+-- std's order of slices is this one
+pub order_cmp : (l m : List ℕ) → slice_cmp nat_cmp l m ≡ order l m
+unfolding order
+order_cmp [] [] = refl
+order_cmp [] (b ∷ m) = refl
+order_cmp (a ∷ l) [] = refl
+order_cmp (a ∷ l) (b ∷ m) = go (bytes a b) (order_cmp l m)
+  where
+    go : Bytes a b → slice_cmp nat_cmp l m ≡ order l m → slice_cmp nat_cmp (a ∷ l) (b ∷ m) ≡ order (a ∷ l) (b ∷ m)
+    go (less k) ih = cc (order_less a b l m k, nat_cmp_is a b Less k)
+    go (more k) ih = cc (order_more a b l m k, nat_cmp_is a b Greater k)
+    go (equal h₁ h₂) ih = cc (order_next a b l m h₁ h₂, nat_cmp_is a b Equal (le_antisymm h₁ h₂))
 
 -- ---- a comparison byte by byte: the first n bytes of x and the first m of y agree up to i
 pub record Comparing (n m : ℕ) (x y : List ℕ) (i : ℕ) : Type 0 where
@@ -114,10 +130,10 @@ no_byte : (n : ℕ) (x : List ℕ) (i : ℕ) → n ≤ i → drop i (take n x) �
 no_byte n x i h = drop_of_length-le (take n x) {i = i} (rw length-take (omega arith))
 
 module _ {n m : ℕ} {x y : List ℕ} {i : ℕ} (c : Comparing n m x y i) where
-  pub comparing_less : i < n → i < m → get_or x i 0 < get_or y i 0 → order (take n x) (take m y) ≡ Before
+  pub comparing_less : i < n → i < m → get_or x i 0 < get_or y i 0 → order (take n x) (take m y) ≡ Less
   comparing_less h k l = c.rest ∙ rw (next_byte n x i h c.all_x, next_byte m y i k c.all_y) (order_less _ _ _ _ l)
 
-  pub comparing_more : i < n → i < m → get_or y i 0 < get_or x i 0 → order (take n x) (take m y) ≡ After
+  pub comparing_more : i < n → i < m → get_or y i 0 < get_or x i 0 → order (take n x) (take m y) ≡ Greater
   comparing_more h k l = c.rest ∙ rw (next_byte n x i h c.all_x, next_byte m y i k c.all_y) (order_more _ _ _ _ l)
 
   pub comparing_goes_on : i < n → i < m → get_or x i 0 ≤ get_or y i 0 → get_or y i 0 ≤ get_or x i 0 → Comparing n m x y (i + 1)
@@ -130,14 +146,14 @@ module _ {n m : ℕ} {x y : List ℕ} {i : ℕ} (c : Comparing n m x y i) where
         rest = c.rest ∙ rw (next_byte n x i h c.all_x, next_byte m y i k c.all_y) (order_next _ _ _ _ l g);
       }
 
-  pub comparing_longer : i < n → m ≤ i → order (take n x) (take m y) ≡ After
+  pub comparing_longer : i < n → m ≤ i → order (take n x) (take m y) ≡ Greater
   unfolding order
   comparing_longer h k = c.rest ∙ rw (next_byte n x i h c.all_x, no_byte m y i k)
 
-  pub comparing_shorter : n ≤ i → i < m → order (take n x) (take m y) ≡ Before
+  pub comparing_shorter : n ≤ i → i < m → order (take n x) (take m y) ≡ Less
   unfolding order
   comparing_shorter h k = c.rest ∙ rw (no_byte n x i h, next_byte m y i k c.all_y)
 
-  pub comparing_ends : n ≤ i → m ≤ i → order (take n x) (take m y) ≡ Same
+  pub comparing_ends : n ≤ i → m ≤ i → order (take n x) (take m y) ≡ Equal
   unfolding order
   comparing_ends h k = c.rest ∙ rw (no_byte n x i h, no_byte m y i k)

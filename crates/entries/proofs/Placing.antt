@@ -6,12 +6,9 @@ use mathlib.Core.Option.{some}
 use Prim.Native.Nat.{ℕ, suc, ◌≤◌, ◌<◌, ◌+◌}
 use native.Mathlib.Omega.{arith}
 use lib.ListN.{length, take, drop, get_or, set, drop_of_length-le}
-use Rattle.entries.specs.declared.Order.TheVariants.{Before, Same, After}
+use Rattle.std.specs.declared.cmp.Ordering.TheVariants.{Less, Equal, Greater}
 use Rattle.entries.specs.Entries.{Entry, entry, order, value_of, holds, put, remove}
-use Rattle.entries.specs.Places.{leading, Placed}
-use Rattle.entries.specs.declared.Slot.{Slot}
-use Rattle.entries.specs.Decoded.{key_bytes, entry_in, blank}
-use Rattle.entries.proofs.Views.{entries_in, length_entries, next_entry}
+use Rattle.entries.specs.Places.{leading, Leads}
 use Rattle.entries.proofs.Changes.{by_order}
 
 pub leading_within : (k : List ℕ) (t : List Entry) → leading k t ≤ length t
@@ -66,60 +63,52 @@ held_value k (e ∷ t) d h =
     by_order k e.key (λ o. clash h (rw (holds, o))) (λ o. rw (value_of, leading, o))
     (λ o. rw (value_of, leading, o) (ih (rw (holds, o) at h)))
 
--- ---- the search: the keys of the first i of n slots stand before k
-pub record Placing (k : List ℕ) (n : ℕ) (l : List Slot) (i : ℕ) : Type 0 where
-  pub inside : i ≤ n
-  pub low : n ≤ 4
-  pub four : length l ≡ 4
-  pub passed : leading k (entries_in n l) ≡ i + leading k (drop i (entries_in n l))
-  pub same : holds k (entries_in n l) ≡ holds k (drop i (entries_in n l))
+-- ---- the search: the keys of the first i entries stand before k
+pub record Placing (k : List ℕ) (t : List Entry) (i : ℕ) : Type 0 where
+  pub inside : i ≤ length t
+  pub low : length t ≤ 4
+  pub passed : leading k t ≡ i + leading k (drop i t)
+  pub same : holds k t ≡ holds k (drop i t)
 
-pub placing_starts : {k : List ℕ} {n : ℕ} {l : List Slot} → n ≤ 4 → length l ≡ 4 → Placing k n l 0
-placing_starts h e = record { inside = omega arith; low = h; four = e; passed = omega arith; same = refl }
+pub placing_starts : {k : List ℕ} {t : List Entry} → length t ≤ 4 → Placing k t 0
+placing_starts h = record { inside = omega arith; low = h; passed = omega arith; same = refl }
 
-module _ {k : List ℕ} {n : ℕ} {l : List Slot} {i : ℕ} (c : Placing k n l i) where
-  few : length (entries_in n l) ≤ 4
-  few = omega (arith, length_entries n l (omega (arith, c.low, c.four)), c.low)
+module _ {k : List ℕ} {t : List Entry} {i : ℕ} (c : Placing k t i) where
+  module _ (e : Entry) (next : drop i t ≡ e ∷ drop (i + 1) t) where
+    pub placing_before : order k e.key ≡ Less → Leads k t i false
+    unfolding leading holds
+    placing_before o =
+        record {
+          at_is = sym (c.passed ∙ rw (next, leading, o) (omega arith));
+          held_is = sym (c.same ∙ rw (next, holds, o));
+          low = c.low;
+        }
 
-  -- the entry at i, with its key
-  next : i < n → drop i (entries_in n l) ≡ entry_in (get_or l i blank) ∷ drop (i + 1) (entries_in n l)
-  next h = next_entry n l i h (omega (arith, c.low, c.four))
+    pub placing_same : order k e.key ≡ Equal → Leads k t i true
+    unfolding leading holds
+    placing_same o =
+        record {
+          at_is = sym (c.passed ∙ rw (next, leading, o) (omega arith));
+          held_is = sym (c.same ∙ rw (next, holds, o));
+          low = c.low;
+        }
 
-  pub placing_before : i < n → order k (key_bytes (get_or l i blank).key) ≡ Before → Placed k (entries_in n l) (record { at = i; held = false })
-  unfolding leading holds entry_in
-  placing_before h o =
-      record {
-        at_is = sym (c.passed ∙ rw (next h, leading, o) (omega arith));
-        held_is = sym (c.same ∙ rw (next h, holds, o));
-        low = few;
-      }
+    pub placing_goes_on : i < length t → order k e.key ≡ Greater → Placing k t (i + 1)
+    unfolding leading holds
+    placing_goes_on h o =
+        record {
+          inside = omega arith;
+          low = c.low;
+          passed = c.passed ∙ rw (next, leading, o) (omega arith);
+          same = c.same ∙ rw (next, holds, o);
+        }
 
-  pub placing_same : i < n → order k (key_bytes (get_or l i blank).key) ≡ Same → Placed k (entries_in n l) (record { at = i; held = true })
-  unfolding leading holds entry_in
-  placing_same h o =
-      record {
-        at_is = sym (c.passed ∙ rw (next h, leading, o) (omega arith));
-        held_is = sym (c.same ∙ rw (next h, holds, o));
-        low = few;
-      }
-
-  pub placing_goes_on : i < n → order k (key_bytes (get_or l i blank).key) ≡ After → Placing k n l (i + 1)
-  unfolding leading holds entry_in
-  placing_goes_on h o =
-      record {
-        inside = omega arith;
-        low = c.low;
-        four = c.four;
-        passed = c.passed ∙ rw (next h, leading, o) (omega arith);
-        same = c.same ∙ rw (next h, holds, o);
-      }
-
-  pub placing_ends : n ≤ i → Placed k (entries_in n l) (record { at = n; held = false })
+  pub placing_ends : length t ≤ i → Leads k t (length t) false
   unfolding leading holds
   placing_ends h =
-      let e : drop i (entries_in n l) ≡ [] = drop_of_length-le (entries_in n l) {i = i} (omega (arith, length_entries n l (omega (arith, c.low, c.four)))) in
+      let e : drop i t ≡ [] = drop_of_length-le t {i = i} h in
       record {
         at_is = sym (c.passed ∙ rw e (omega (arith, c.inside)));
         held_is = sym (c.same ∙ rw e);
-        low = few;
+        low = c.low;
       }

@@ -1,32 +1,45 @@
 -- What decoded keys, values and tables stand for, whatever numbers they hold: a length or a count above the room counts as all of it.
-use Rattle.std.specs.Prelude.{◌≡◌, List, [], map, true, false, ℕ, ◌≤◌, length, take, replicate}
+use Rattle.std.specs.Prelude.{◌≡◌, List, [], map, ℕ, ◌≤◌, length, take, replicate}
+use Rattle.std.specs.Prelude.{Option as Maybe, Some, None}
 use Rattle.std.proofs.Math.Option.{Option, none, some}
-use Rattle.entries.specs.declared.Key.{Key}
-use Rattle.entries.specs.declared.Value.{Value}
-use Rattle.entries.specs.declared.Item.{Item}
+use Rattle.entries.specs.declared.Text.{Text}
 use Rattle.entries.specs.declared.Slot.{Slot}
 use Rattle.entries.specs.declared.Decoded.{Decoded}
 use Rattle.entries.specs.Entries.{Entry, entry}
 
-unfoldable pub key_bytes : Key → List ℕ
-key_bytes k = take k.len k.bytes
+-- a key has room for eight bytes, a value for sixteen
+abbrev pub Key : Type 0
+Key = Text 8
 
-unfoldable pub value_bytes : Value → List ℕ
-value_bytes v = take v.len v.bytes
+abbrev pub Value : Type 0
+Value = Text 16
 
--- an absent value is none, whatever its bytes
+-- a value, or none where it is absent
+abbrev pub Item : Type 0
+Item = Maybe Value
+
+unfoldable pub text_bytes : {room : ℕ} → Text room → List ℕ
+text_bytes t = take t.len t.bytes
+
+abbrev pub key_bytes : Key → List ℕ
+key_bytes k = text_bytes k
+
+abbrev pub value_bytes : Value → List ℕ
+value_bytes v = text_bytes v
+
 unfoldable pub item_in : Item → Option (List ℕ)
-item_in i = elim i.there [ true ↦ some (value_bytes i.value) | false ↦ none ]
+item_in (Some v) = some (value_bytes v)
+item_in None = none
 
--- what the code makes where there is no key, no value, an absent value, or nothing in a slot
+-- what the code makes where there is no key, no value, or nothing in a slot
+abbrev pub empty_text : (room : ℕ) → Text room
+empty_text room = record { bytes = replicate room 0; len = 0 }
+
 abbrev pub no_key : Key
-no_key = record { bytes = replicate 8 0; len = 0 }
+no_key = empty_text 8
 
 abbrev pub no_value : Value
-no_value = record { bytes = replicate 16 0; len = 0 }
-
-abbrev pub absent_item : Item
-absent_item = record { value = no_value; there = false }
+no_value = empty_text 16
 
 abbrev pub no_slot : Slot
 no_slot = record { key = no_key; value = no_value }

@@ -1,28 +1,28 @@
 -- Where a key stands among the entries of a table, and what a change of a decoded table gives.
-use Rattle.std.specs.Prelude.{◌≡◌, List, [], ◌∷◌, true, false, ℕ, suc, ◌≤◌, length}
+use Rattle.std.specs.Prelude.{◌≡◌, List, [], ◌∷◌, Bool, true, false, ℕ, suc, ◌≤◌, length, Result, Ok, Err}
+use Rattle.std.specs.declared.cmp.Ordering.TheVariants.{Less, Equal, Greater}
 use Rattle.std.proofs.Math.Option.{Option, none, some}
-use Rattle.entries.specs.declared.Order.TheVariants.{Before, Same, After}
-use Rattle.entries.specs.declared.Place.{Place}
 use Rattle.entries.specs.declared.Decoded.{Decoded}
-use Rattle.entries.specs.declared.Stored.{Stored}
-use Rattle.entries.specs.Entries.{Entry, order, holds, stored}
+use Rattle.entries.specs.declared.Full.{Full}
+use Rattle.entries.specs.Entries.{Entry, order, holds}
 use Rattle.entries.specs.Decoded.{table_in}
 
 -- how many entries, from the first on, have keys before k
 unfoldable pub leading : List ℕ → List Entry → ℕ
 leading k [] = 0
-leading k (e ∷ t) = elim (order k e.key) [ Before ↦ 0 | Same ↦ 0 | After ↦ suc (leading k t) ]
+leading k (e ∷ t) = elim (order k e.key) [ Less ↦ 0 | Equal ↦ 0 | Greater ↦ suc (leading k t) ]
 
-pub record Placed (k : List ℕ) (t : List Entry) (p : Place) : Type 0 where
-  pub at_is : p.at ≡ leading k t
-  pub held_is : p.held ≡ holds k t
+-- a number of keys that stand before k, and whether k is the next
+pub record Leads (k : List ℕ) (t : List Entry) (at : ℕ) (held : Bool) : Type 0 where
+  pub at_is : at ≡ leading k t
+  pub held_is : held ≡ holds k t
   pub low : length t ≤ 4
 
--- the table of a change, none where there was no room
-unfoldable pub stored_in : Stored → Option (List Entry)
-stored_in r = elim r.full [ true ↦ none | false ↦ some (table_in r.table) ]
+abbrev pub Placed : List ℕ → List Entry → Result ℕ ℕ → Type 0
+Placed k t (Ok at) = Leads k t at true
+Placed k t (Err at) = Leads k t at false
 
--- `set K V` on a decoded table; where there is no room, the table is the one that was passed
-pub record Storing (k : List ℕ) (v : Option (List ℕ)) (t : Decoded) (r : Stored) : Type 0 where
-  pub is : stored_in r ≡ stored 4 k v (table_in t)
-  pub kept : r.full ≡ true → r.table ≡ t
+-- the table of a change, none where there was no room
+abbrev pub stored_in : Result Decoded Full → Option (List Entry)
+stored_in (Ok t) = some (table_in t)
+stored_in (Err _) = none

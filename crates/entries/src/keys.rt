@@ -1,106 +1,65 @@
 // Keys and values by value: how long they are, how keys stand to each other, and how they are made of lent bytes.
-ghost use Rattle.std.specs.Prelude.{◌≡◌, min, length, take};
+ghost use Rattle.std.specs.Prelude.{◌≡◌, ◌≤◌, min, take};
 ghost use Rattle.entries.specs.Entries.{order};
-ghost use Rattle.entries.specs.Decoded.{Cut, key_bytes, value_bytes, no_key, no_value};
+ghost use Rattle.entries.specs.Decoded.{Cut, key_bytes, text_bytes, empty_text};
 
-use crate::{KEY_ROOM, Key, Order, VALUE_ROOM, Value};
+use crate::{Key, Text};
+use std::cmp::Ordering;
 
 // A number, or `top` where it is above.
 pub fn at_most(number: usize, top: usize) -> usize
     ensures { result ≡ min top number }
 {
-    if number < top { number } else { top }
+    number.min(top)
 }
 
 // A byte as a number to count with.
 pub fn wide(byte: u8) -> usize
     ensures { result ≡ byte }
 {
-    byte as usize
+    usize::from(byte)
 }
 
-// How many bytes of a key count: all eight where its length says more.
-pub fn key_length(key: Key) -> usize
-    ensures { Cut 8 (key_bytes key) result }
-{
-    at_most(key.len, KEY_ROOM)
-}
-
-// How many bytes of a value count: all sixteen where its length says more.
-pub fn value_length(value: Value) -> usize
-    ensures { Cut 16 (value_bytes value) result }
-{
-    at_most(value.len, VALUE_ROOM)
-}
-
-// The key of the lent bytes, of the first eight where there are more.
-pub fn key_of(bytes: &[u8]) -> Key
-    ensures { key_bytes result ≡ take 8 bytes.now }
-{
-    let len = at_most(bytes.len(), KEY_ROOM);
-    let mut kept = [0u8; KEY_ROOM];
-    let mut i = 0;
-    while i < len {
-        kept[i] = bytes[i];
-        i += 1;
+impl<const ROOM: usize> Text<ROOM> {
+    // The text of the lent bytes, of the first ROOM where there are more.
+    pub fn of(bytes: &[u8]) -> Self
+        ensures bytes { text_bytes result ≡ take ROOM bytes.now }
+        ensures low { result.len ≤ ROOM }
+    {
+        let len = bytes.len().min(ROOM);
+        let mut kept = [0u8; ROOM];
+        kept[..len].copy_from_slice(&bytes[..len]);
+        Text { bytes: kept, len }
     }
-    Key { bytes: kept, len }
-}
 
-// The value of the lent bytes, of the first sixteen where there are more.
-pub fn value_of(bytes: &[u8]) -> Value
-    ensures { value_bytes result ≡ take 16 bytes.now }
-{
-    let len = at_most(bytes.len(), VALUE_ROOM);
-    let mut kept = [0u8; VALUE_ROOM];
-    let mut i = 0;
-    while i < len {
-        kept[i] = bytes[i];
-        i += 1;
+    // The text of no bytes.
+    pub fn empty() -> Self
+        ensures { result ≡ empty_text ROOM }
+    {
+        Text {
+            bytes: [0; ROOM],
+            len: 0,
+        }
     }
-    Value { bytes: kept, len }
-}
 
-// A key of no bytes.
-pub fn no_key() -> Key
-    ensures { result ≡ no_key }
-{
-    let bytes = [0u8; KEY_ROOM];
-    Key { bytes, len: 0 }
-}
+    // How many bytes count.
+    pub fn length(&self) -> usize
+        ensures { Cut ROOM (text_bytes self.now) result }
+    {
+        self.len.min(ROOM)
+    }
 
-// A value of no bytes.
-pub fn no_value() -> Value
-    ensures { result ≡ no_value }
-{
-    let bytes = [0u8; VALUE_ROOM];
-    Value { bytes, len: 0 }
+    // The bytes that count.
+    pub fn as_slice(&self) -> &[u8]
+        ensures { result.now ≡ text_bytes self.now }
+    {
+        &self.bytes[..self.length()]
+    }
 }
 
 // How key a stands to key b: by the first byte that differs; a shorter key before its extensions.
-pub fn compare(a: Key, b: Key) -> Order
+pub fn compare(a: Key, b: Key) -> Ordering
     ensures { result ≡ order (key_bytes a) (key_bytes b) }
 {
-    let a_len = key_length(a);
-    let b_len = key_length(b);
-    let a_bytes = a.bytes;
-    let b_bytes = b.bytes;
-    let mut i = 0;
-    while i < a_len {
-        if b_len <= i {
-            return Order::After;
-        }
-        if a_bytes[i] < b_bytes[i] {
-            return Order::Before;
-        }
-        if b_bytes[i] < a_bytes[i] {
-            return Order::After;
-        }
-        i += 1;
-    }
-    if a_len < b_len {
-        Order::Before
-    } else {
-        Order::Same
-    }
+    a.as_slice().cmp(b.as_slice())
 }

@@ -11,34 +11,18 @@ pub const VALUE_ROOM: usize = 16;
 
 pub const TABLE_ROOM: usize = 4;
 
-// How one key stands to another.
+// The first `len` of ROOM bytes; all of them where `len` says more.
 #[derive(Clone, Copy)]
-pub enum Order {
-    Before,
-    Same,
-    After,
+pub struct Text<const ROOM: usize> {
+    pub bytes: [u8; ROOM],
+    pub len: usize,
 }
 
 // A key: the first `len` of eight bytes.
-#[derive(Clone, Copy)]
-pub struct Key {
-    pub bytes: [u8; KEY_ROOM],
-    pub len: usize,
-}
+pub type Key = Text<KEY_ROOM>;
 
-// A value: the first `len` of sixteen bytes.
-#[derive(Clone, Copy)]
-pub struct Value {
-    pub bytes: [u8; VALUE_ROOM],
-    pub len: usize,
-}
-
-// A value, or its absence: `value` counts where `there` holds. A value that is there may have no bytes.
-#[derive(Clone, Copy)]
-pub struct Item {
-    pub value: Value,
-    pub there: bool,
-}
+// A value: the first `len` of sixteen bytes. It may have none.
+pub type Value = Text<VALUE_ROOM>;
 
 // A key with its value.
 #[derive(Clone, Copy)]
@@ -54,16 +38,6 @@ pub struct Decoded {
     pub slots: [Slot; TABLE_ROOM],
 }
 
-// Where a key stands in a table, or would stand.
+// The refusal of a new key where four others stand.
 #[derive(Clone, Copy)]
-pub struct Place {
-    pub at: usize,
-    pub held: bool,
-}
-
-// A table after a change, and whether there was no room for it.
-#[derive(Clone, Copy)]
-pub struct Stored {
-    pub full: bool,
-    pub table: Decoded,
-}
+pub struct Full;

@@ -1,12 +1,13 @@
 // Decoded tables by value: a key is looked up, stored and removed.
-ghost use Rattle.std.specs.Prelude.{◌≡◌, [], ◌++◌, ◌∷◌, ◌<◌, ◌+◌, take, drop, set};
+ghost use Rattle.std.specs.Prelude.{◌≡◌, [], ◌++◌, ◌∷◌, ◌<◌, ◌+◌, ◌≤◌, length, map, take, drop, set};
 ghost use Rattle.std.proofs.Math.Option.{some};
-ghost use Rattle.entries.specs.Entries.{value_of, remove};
-ghost use Rattle.entries.specs.Decoded.{Counted, key_bytes, value_bytes, item_in, absent_item, no_slot, table_in};
-ghost use Rattle.entries.specs.Places.{Placed, Storing};
+ghost use Rattle.entries.specs.Entries.{value_of, remove, stored};
+ghost use Rattle.entries.specs.Decoded.{Counted, key_bytes, value_bytes, item_in, no_slot, entry_in, table_in};
+ghost use Rattle.entries.specs.Places.{Placed, stored_in};
 
-use crate::keys::{at_most, compare, no_key, no_value};
-use crate::{Decoded, Item, Key, Order, Place, Slot, Stored, TABLE_ROOM, Value};
+use crate::keys::compare;
+use crate::{Decoded, Full, Key, Slot, TABLE_ROOM, Text, Value};
+use std::cmp::Ordering;
 
 // The last slot of a table.
 const LAST: usize = TABLE_ROOM - 1;
@@ -15,58 +16,42 @@ const LAST: usize = TABLE_ROOM - 1;
 pub fn count_of(table: Decoded) -> usize
     ensures { Counted table result }
 {
-    at_most(table.count, TABLE_ROOM)
+    table.count.min(TABLE_ROOM)
 }
 
-// How many keys of a table stand before this key, and whether it is the next.
-fn place(table: Decoded, key: Key) -> Place
+impl Decoded {
+    // The slots that count.
+    pub fn used(&self) -> &[Slot]
+        ensures entries { map entry_in result.now ≡ table_in self.now }
+        ensures low { length result.now ≤ 4 }
+    {
+        &self.slots[..count_of(*self)]
+    }
+}
+
+// How many keys of a table stand before this key: `Ok` where it is the next, `Err` where the table doesn't hold it.
+// The search ends at the first key that is not before it, in a table out of order too.
+fn place(table: Decoded, key: Key) -> Result<usize, usize>
     ensures { Placed (key_bytes key) (table_in table) result }
 {
-    let count = count_of(table);
-    let slots = table.slots;
-    let mut i = 0;
-    while i < count {
-        let slot = slots[i];
-        let other = slot.key;
-        let order = compare(key, other);
-        match order {
-            Order::Before => return Place { at: i, held: false },
-            Order::Same => return Place { at: i, held: true },
-            Order::After => {
-                i += 1;
-            }
+    for (at, slot) in table.used().iter().enumerate() {
+        match compare(key, slot.key) {
+            Ordering::Less => return Err(at),
+            Ordering::Equal => return Ok(at),
+            Ordering::Greater => {}
         }
     }
-    Place {
-        at: count,
-        held: false,
-    }
-}
-
-// An absent value.
-pub fn absent() -> Item
-    ensures { result ≡ absent_item }
-{
-    let value = no_value();
-    Item {
-        value,
-        there: false,
-    }
+    Err(count_of(table))
 }
 
 // The value of a key, none where it is absent.
-pub fn find(table: Decoded, key: Key) -> Item
+pub fn find(table: Decoded, key: Key) -> Option<Value>
     ensures { item_in result ≡ value_of (key_bytes key) (table_in table) }
 {
-    let found = place(table, key);
-    if found.held {
-        let at = found.at;
-        let slots = table.slots;
-        let slot = slots[at];
-        let value = slot.value;
-        return Item { there: true, value };
+    match place(table, key) {
+        Ok(at) => Some(table.slots[at].value),
+        Err(_) => None,
     }
-    absent()
 }
 
 // The slots with this one at `at`; those from there on move up by one, and the last falls out.
@@ -75,14 +60,8 @@ fn inserted(slots: [Slot; TABLE_ROOM], at: usize, slot: Slot) -> [Slot; TABLE_RO
     ensures { result ≡ take 4 (take at slots ++ (slot ∷ drop at slots)) }
 {
     let mut out = slots;
-    let mut carried = slot;
-    let mut i = at;
-    while i < TABLE_ROOM {
-        let next = out[i];
-        out[i] = carried;
-        carried = next;
-        i += 1;
-    }
+    out.copy_within(at..LAST, at + 1);
+    out[at] = slot;
     out
 }
 
@@ -92,21 +71,7 @@ fn removed(slots: [Slot; TABLE_ROOM], at: usize) -> [Slot; TABLE_ROOM]
     ensures { take 3 result ≡ take at slots ++ drop (at + 1) slots }
 {
     let mut out = slots;
-    let mut i = at;
-    while i < LAST {
-        out[i] = out[i + 1];
-        i += 1;
-    }
-    out
-}
-
-// The slots with this one in the place of that at `at`.
-fn replaced(slots: [Slot; TABLE_ROOM], at: usize, slot: Slot) -> [Slot; TABLE_ROOM]
-    requires { at < 4 }
-    ensures { result ≡ set slots at slot }
-{
-    let mut out = slots;
-    out[at] = slot;
+    out.copy_within(at + 1.., at);
     out
 }
 
@@ -114,77 +79,61 @@ fn replaced(slots: [Slot; TABLE_ROOM], at: usize, slot: Slot) -> [Slot; TABLE_RO
 pub fn remove(table: Decoded, key: Key) -> Decoded
     ensures { table_in result ≡ remove (key_bytes key) (table_in table) }
 {
-    let found = place(table, key);
-    if found.held {
-        let count = count_of(table);
-        let slots = table.slots;
-        let left = removed(slots, found.at);
-        return Decoded {
-            count: count - 1,
-            slots: left,
-        };
+    match place(table, key) {
+        Ok(at) => Decoded {
+            count: count_of(table) - 1,
+            slots: removed(table.slots, at),
+        },
+        Err(_) => table,
     }
-    table
 }
 
 // The table in which the key has this value; an absent one takes the key away. A new key is refused where four others stand.
-pub fn store(table: Decoded, key: Key, item: Item) -> Stored
-    ensures { Storing (key_bytes key) (item_in item) table result }
+pub fn store(table: Decoded, key: Key, item: Option<Value>) -> Result<Decoded, Full>
+    ensures { stored_in result ≡ stored 4 (key_bytes key) (item_in item) (table_in table) }
 {
-    if item.there {
-        return put(table, key, item.value);
-    }
-    let without = remove(table, key);
-    Stored {
-        full: false,
-        table: without,
+    match item {
+        Some(value) => put(table, key, value),
+        None => Ok(remove(table, key)),
     }
 }
 
 // The same, for a value that is there. It may have no bytes.
-fn put(table: Decoded, key: Key, value: Value) -> Stored
-    ensures { Storing (key_bytes key) (some (value_bytes value)) table result }
+fn put(table: Decoded, key: Key, value: Value) -> Result<Decoded, Full>
+    ensures { stored_in result ≡ stored 4 (key_bytes key) (some (value_bytes value)) (table_in table) }
 {
-    let found = place(table, key);
-    let count = count_of(table);
-    let slots = table.slots;
     let slot = Slot { key, value };
-    if found.held {
-        let same = replaced(slots, found.at, slot);
-        let changed = Decoded { count, slots: same };
-        return Stored {
-            full: false,
-            table: changed,
-        };
-    }
-    if count < TABLE_ROOM {
-        let more = inserted(slots, found.at, slot);
-        let changed = Decoded {
+    let count = count_of(table);
+    let mut slots = table.slots;
+    match place(table, key) {
+        Ok(at) => {
+            slots[at] = slot;
+            Ok(Decoded { count, slots })
+        }
+        Err(at) if count < TABLE_ROOM => Ok(Decoded {
             count: count + 1,
-            slots: more,
-        };
-        return Stored {
-            full: false,
-            table: changed,
-        };
+            slots: inserted(slots, at, slot),
+        }),
+        Err(_) => Err(Full),
     }
-    Stored { full: true, table }
 }
 
 // A slot that holds nothing.
 pub fn blank_slot() -> Slot
     ensures { result ≡ no_slot }
 {
-    let key = no_key();
-    let value = no_value();
-    Slot { key, value }
+    Slot {
+        key: Text::empty(),
+        value: Text::empty(),
+    }
 }
 
 // A table of no entries; its slots hold nothing.
 pub fn no_table() -> Decoded
     ensures { (result.count ≡ 0) × (table_in result ≡ []) }
 {
-    let blank = blank_slot();
-    let slots = [blank; TABLE_ROOM];
-    Decoded { count: 0, slots }
+    Decoded {
+        count: 0,
+        slots: [blank_slot(); TABLE_ROOM],
+    }
 }

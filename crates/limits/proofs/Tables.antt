@@ -6,8 +6,8 @@ use mathlib.Core.Option.{Option, none, some}
 use Prim.Native.Nat.{ℕ}
 use native.Mathlib.Omega.{arith}
 use lib.ListN.{length-map}
-use Rattle.entries.specs.declared.Order.{Order}
-use Rattle.entries.specs.declared.Order.TheVariants.{Before, Same, After}
+use Rattle.std.specs.declared.cmp.Ordering.{Ordering}
+use Rattle.std.specs.declared.cmp.Ordering.TheVariants.{Less, Equal, Greater}
 use Rattle.entries.specs.Entries.{Entry, order, value_of, stored, keys_of}
 use Rattle.table.specs.Form.{sized, rising, ValueAtMost, fits, same_value}
 use Rattle.table.proofs.Fitting.{sized_parts, fits_parts}
@@ -23,10 +23,10 @@ unfolding value_of
 value_sized long k [] h = tt
 value_sized long k (e ∷ t) h = go (order k e.key) refl (value_sized long k t (sized_parts long e t h).others)
   where
-    go : (o : Order) → order k e.key ≡ o → ValueAtMost long (value_of k t) → ValueAtMost long (value_of k (e ∷ t))
-    go Before d ih = rw (value_of, d) tt
-    go Same d ih = rw (value_of, d) (sized_parts long e t h).value_top
-    go After d ih = rw (value_of, d) ih
+    go : (o : Ordering) → order k e.key ≡ o → ValueAtMost long (value_of k t) → ValueAtMost long (value_of k (e ∷ t))
+    go Less d ih = rw (value_of, d) tt
+    go Equal d ih = rw (value_of, d) (sized_parts long e t h).value_top
+    go Greater d ih = rw (value_of, d) ih
 
 keys_sized : (long : ℕ) (t : List Entry) → sized long t ≡ true → All KeySized (keys_of t)
 keys_sized long [] h = nil

@@ -1,12 +1,12 @@
--- Two words are the same, or not: by their lengths, and then byte by byte.
-use mathlib.Core.Path.{◌≡◌, refl, ap}
+-- Two words are the same, or not.
+use mathlib.Core.Path.{◌≡◌, refl, sym, ◌∙◌}
 use mathlib.Core.List.{List}
-use mathlib.Core.Bool.{true, false}
-use Prim.Native.Nat.{ℕ, ◌≤◌, ◌<◌, ◌+◌}
-use native.Mathlib.Omega.{arith}
-use native.Mathlib.Numerals.{add-one}
-use lib.ListN.{length, drop, get_or, drop_of_length-le}
-use lib.Seq.{drop-cons}
+use mathlib.Core.Bool.{Bool, true, false}
+use Prim.Native.Nat.{ℕ}
+use lib.Dec.{eqb}
+use Rattle.std.specs.Bool.{Decides}
+use Rattle.std.specs.Cmp.Lexicographic.{pointwise}
+use Rattle.std.proofs.lemmas.Slice.Eq.{bytes_eq-Decides}
 use Rattle.entries.specs.declared.Order.{Order}
 use Rattle.entries.specs.declared.Order.TheVariants.{Before, Same, After}
 use Rattle.entries.specs.Entries.{order}
@@ -34,21 +34,15 @@ same_true l m h = go (order l m) refl h
     go Same e k = order_same l m e
     go After e k = cc
 
--- ---- the comparison: the bytes before i are the same
-pub record Matching (l m : List ℕ) (i : ℕ) : Type 0 where
-  pub size : length l ≡ length m
-  pub inside : i ≤ length l
-  pub agree : (drop i l ≡ drop i m) → l ≡ m
+-- so it is what `==` on slices answers
+pub same_pointwise : (l m : List ℕ) → same_bytes l m ≡ pointwise eqb l m
+same_pointwise l m = go (same_bytes l m) refl (pointwise eqb l m) refl
+  where
+    means : Decides (pointwise eqb l m) (l ≡ m)
+    means = bytes_eq-Decides l m
 
-pub matching_starts : (l m : List ℕ) → length l ≡ length m → Matching l m 0
-matching_starts l m h = record { size = h; inside = omega arith; agree = λ e. e }
-
-module _ {l m : List ℕ} {i : ℕ} (c : Matching l m i) where
-  pub matching_goes_on : i < length l → get_or l i 0 ≡ get_or m i 0 → Matching l m (i + 1)
-  matching_goes_on h e = record { size = c.size; inside = omega arith; agree = λ r. c.agree (rw (drop-cons l i 0 h, drop-cons m i 0 (omega (arith, c.size)), e, ← add-one i, r)) }
-
-  pub matching_fails : i < length l → (get_or l i 0 ≡ get_or m i 0 → ⊥) → same_bytes l m ≡ false
-  matching_fails h n = same_different l m (λ e. n (ap (λ x. get_or x i 0) e))
-
-  pub matching_ends : length l ≤ i → same_bytes l m ≡ true
-  matching_ends h = same_equal l m (c.agree (rw (drop_of_length-le l {i = i} h, drop_of_length-le m {i = i} (omega (arith, c.size)))))
+    go : (s : Bool) → same_bytes l m ≡ s → (t : Bool) → pointwise eqb l m ≡ t → same_bytes l m ≡ pointwise eqb l m
+    go true e true f = cc
+    go true e false f = absurd (cc (means.1 (same_true l m e)))
+    go false e true f = absurd (cc (same_equal l m (means.0 f)))
+    go false e false f = cc

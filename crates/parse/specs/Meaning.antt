@@ -1,6 +1,7 @@
 -- The line by value that reading gives, every byte of it (`parsed`), and what a line by value stands for (`line_in`): of a key or
 -- value that is too long the last bytes are lost. No rule can see the difference (`performed` of proofs/Keeping.antt).
 use Rattle.std.specs.Prelude.{true, false, List, [], ℕ}
+use Rattle.std.specs.Prelude as O
 use Rattle.std.proofs.Math.Option.{Option, none, some}
 use Rattle.table.specs.Form.{same_bytes}
 use Rattle.model.specs.Text.{bytes}
@@ -94,18 +95,18 @@ parsed (some l) = parsed_line l
 
 -- ---- a line of one or two numbers, or of a number, a key and two values, where all of them could be read
 
-unfoldable pub number_for : Kind → Option ℕ → Parsed
-number_for c none = parsed none
-number_for c (some a) = line_with_numbers c a 0
+unfoldable pub number_for : Kind → Option ℕ → O.Option Parsed
+number_for c none = O.None
+number_for c (some a) = O.Some (line_with_numbers c a 0)
 
-unfoldable pub numbers_for : Kind → Option ℕ → Option ℕ → Parsed
-numbers_for c none y = parsed none
-numbers_for c (some a) none = parsed none
-numbers_for c (some a) (some b) = line_with_numbers c a b
+unfoldable pub numbers_for : Kind → Option ℕ → Option ℕ → O.Option Parsed
+numbers_for c none y = O.None
+numbers_for c (some a) none = O.None
+numbers_for c (some a) (some b) = O.Some (line_with_numbers c a b)
 
-unfoldable pub call_for : Kind → Option ℕ → Option (List ℕ) → Option (Option (List ℕ)) → Option (Option (List ℕ)) → Parsed
-call_for c none k e v = parsed none
-call_for c (some s) none e v = parsed none
-call_for c (some s) (some k) none v = parsed none
-call_for c (some s) (some k) (some e) none = parsed none
-call_for c (some s) (some k) (some e) (some v) = line_with c s 0 k e v
+unfoldable pub call_for : Kind → Option ℕ → Option (List ℕ) → Option (Option (List ℕ)) → Option (Option (List ℕ)) → O.Option Parsed
+call_for c none k e v = O.None
+call_for c (some s) none e v = O.None
+call_for c (some s) (some k) none v = O.None
+call_for c (some s) (some k) (some e) none = O.None
+call_for c (some s) (some k) (some e) (some v) = O.Some (line_with c s 0 k e v)

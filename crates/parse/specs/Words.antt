@@ -1,6 +1,5 @@
--- Where the first word of a line ends: at the first space, or at the line's end.
-use Rattle.std.specs.Prelude.{List, [], ◌∷◌, true, false, ℕ, suc, eqb}
+-- Where the first word of a line ends: at the first space, if there is one.
+use Rattle.std.specs.Prelude.{List, ℕ, ◌==◌, Option, position}
 
-unfoldable pub word_end : List ℕ → ℕ
-word_end [] = 0
-word_end (b ∷ l) = elim (eqb b 32) [ true ↦ 0 | false ↦ suc (word_end l) ]
+abbrev pub first_space : List ℕ → Option ℕ
+first_space l = position (λ b. b == 32) l

@@ -3,23 +3,17 @@
 
 ghost use Rattle.std.specs.Prelude.{◌≡◌};
 ghost use Rattle.model.specs.Parse.{parse};
-ghost use Rattle.parse.specs.Meaning.{parsed};
+ghost use Rattle.parse.specs.Digits.{optional_by};
+ghost use Rattle.parse.specs.Meaning.{parsed_line, parsed};
 
-use crate::shapes::{malformed, with_word};
-use crate::words::word_end;
+use crate::shapes::{of_numbers, with_word};
+use crate::words::first_space;
 use entries::{Key, Value};
 
 pub mod digits;
 mod hexadecimals;
 mod shapes;
 pub mod words;
-
-// A number that was read, or none.
-#[derive(Clone, Copy)]
-pub enum Number {
-    Is(u32),
-    Not,
-}
 
 // The first word of a line, or that the line is malformed (RULES, Lines 2).
 #[derive(Clone, Copy)]
@@ -60,17 +54,20 @@ pub struct Line {
 // The most bytes of a line (RULES, Lines 2).
 pub const MAX_LINE: usize = 120;
 
+// The words of a line, whose first ends at a space; none where the line is malformed (RULES, Lines 2).
+fn well_formed(line: &[u8]) -> Option<Line>
+    ensures { result ≡ optional_by parsed_line (parse line.now) }
+{
+    if MAX_LINE < line.len() {
+        return None;
+    }
+    let end = first_space(line)?;
+    with_word(&line[..end], &line[end + 1..])
+}
+
 // The line of these bytes, which end before its line feed.
 pub fn parse_line(line: &[u8]) -> Line
     ensures { result ≡ parsed (parse line.now) }
 {
-    if MAX_LINE < line.len() {
-        return malformed();
-    }
-    let end = word_end(line);
-    if end < line.len() {
-        let next = end + 1;
-        return with_word(&line[..end], &line[next..]);
-    }
-    malformed()
+    well_formed(line).unwrap_or(of_numbers(Kind::Malformed, 0, 0))
 }

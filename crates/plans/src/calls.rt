@@ -12,13 +12,12 @@ ghost use Rattle.views.specs.Memory.{table_at};
 ghost use Rattle.plans.specs.Plans.{bad_key, bad_item, bad_lengths, call_bucket, call_step, leader_refusal, call_plan};
 ghost use Rattle.plans.specs.Arrays.{Measured, Called, CallPlanned};
 
-use crate::parts::{no_effect, no_message};
+use crate::parts::{line_step, no_effect};
 use crate::servers::load_local;
 use crate::{Carried, Plan, Step};
 use decoding::decode;
 use effects::effect;
-use entries::keys::key_length;
-use entries::{Item, KEY_ROOM, Key, VALUE_ROOM};
+use entries::{KEY_ROOM, Key, VALUE_ROOM, Value};
 use hash::bucket_of;
 use memory::{CONTENT_SIZE, CopyBytes, Counts, HeadWords, SlotWords, slot_of};
 use moves::Local;
@@ -38,11 +37,13 @@ fn bad_key(len: usize) -> bool
 
 // A value that is there and too long.
 #[tactic(auto, unfolding(crate::specs::Plans::bad_item))]
-fn bad_item(item: Item) -> bool
+fn bad_item(item: Option<Value>) -> bool
     ensures { result ≡ bad_item item }
 {
-    let value = item.value;
-    item.there && VALUE_ROOM < value.len
+    match item {
+        Some(value) => VALUE_ROOM < value.len,
+        None => false,
+    }
 }
 
 // 4: a key or value of wrong length.
@@ -50,18 +51,14 @@ fn bad_item(item: Item) -> bool
 fn bad_lengths(words: Words) -> bool
     ensures { result ≡ bad_lengths words }
 {
-    let key = words.key;
-    let expected = words.expected;
-    let value = words.value;
-    words.kind != KEYS && (bad_key(key.len) || bad_item(expected) || bad_item(value))
+    words.kind != KEYS
+        && (bad_key(words.key.len) || bad_item(words.expected) || bad_item(words.value))
 }
 
 fn key_bucket(key: Key, buckets: u32) -> u32
     ensures { result ≡ bucket_of buckets (key_bytes key) }
 {
-    let len = key_length(key);
-    let bytes = key.bytes;
-    bucket_of(&bytes[..len], buckets)
+    bucket_of(key.as_slice(), buckets)
 }
 
 // A key's bucket, or the one named.
@@ -81,30 +78,21 @@ fn call_bucket(cluster: Counts, words: Words) -> u32
 fn leader_refusal(local: Local) -> Result<(), Refusal>
     ensures { result ≡ leader_refusal local }
 {
-    let head = local.head;
-    let call = local.call;
-    if head.role != LEADING {
-        return Err(Refusal::NotLeading);
+    if local.head.role != LEADING {
+        Err(Refusal::NotLeading)
+    } else if is_open_call(local.call.kind) {
+        Err(Refusal::BucketOccupied)
+    } else {
+        Ok(())
     }
-    if is_open_call(call.kind) {
-        return Err(Refusal::BucketOccupied);
-    }
-    Ok(())
 }
 
 fn call_step(cluster: Counts, server: u32, bucket: u32) -> Step
     ensures { result ≡ call_step cluster server bucket }
 {
     Step {
-        server,
-        bucket,
-        index: 0,
-        removes: false,
-        asked: no_message(),
-        copied: 0,
-        delivered: 0,
-        lost: 0,
         calls: cluster.calls.wrapping_add(1),
+        ..line_step(cluster, server, bucket)
     }
 }
 

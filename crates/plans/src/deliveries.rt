@@ -9,7 +9,7 @@ ghost use Rattle.plans.specs.Plans.{message_step, lost_step, gone, lose_at};
 ghost use Rattle.plans.specs.Arrays.{asked_at};
 
 use crate::calls::effect_of;
-use crate::parts::{no_effect, no_message};
+use crate::parts::{line_step, no_effect};
 use crate::servers::load_local;
 use crate::{Plan, Step};
 use memory::{CopyBytes, Counts, HeadWords, SlotWords, TextBytes, slot_of};
@@ -18,20 +18,20 @@ use moves::handling::reads_table;
 use records::words::load_words;
 use refusals::{Refusal, has_no_receiver, message_refusal};
 use server::measures::{LAST_BUCKET, LAST_SERVER};
-use server::numbers::chosen;
 use server::{Effect, Message};
 
 // A message that is handed over; `copy` leaves it in the list.
+#[tactic(auto, unfolding(server::specs::Views::chosen))]
 pub fn message_step(cluster: Counts, index: u32, removes: bool, message: Message) -> Step
     ensures { result ≡ message_step cluster index removes message }
 {
     Step {
-        server: LAST_SERVER.min(message.receiver),
-        bucket: LAST_BUCKET.min(message.bucket),
+        server: message.receiver.min(LAST_SERVER),
+        bucket: message.bucket.min(LAST_BUCKET),
         index,
         removes,
         asked: message,
-        copied: chosen(removes, 0, 1),
+        copied: u32::from(!removes),
         delivered: 1,
         lost: 0,
         calls: cluster.calls,
@@ -39,19 +39,16 @@ pub fn message_step(cluster: Counts, index: u32, removes: bool, message: Message
 }
 
 // A message that is lost; what happens is at no server.
+#[tactic(auto, unfolding(server::specs::Views::chosen))]
 fn lost_step(cluster: Counts, index: u32, removes: bool) -> Step
     ensures { result ≡ lost_step cluster index removes }
 {
     Step {
-        server: 0,
-        bucket: 0,
         index,
         removes,
-        asked: no_message(),
-        copied: chosen(removes, 0, 1),
-        delivered: 0,
+        copied: u32::from(!removes),
         lost: 1,
-        calls: cluster.calls,
+        ..line_step(cluster, 0, 0)
     }
 }
 
@@ -70,8 +67,7 @@ pub fn receiver(heads: &HeadWords, slots: &SlotWords, step: Step) -> Local
 pub fn is_gone(cluster: Counts, step: Step, local: Local) -> bool
     ensures { result ≡ gone cluster step local }
 {
-    let message = step.asked;
-    has_no_receiver(cluster, message.receiver, local.head)
+    has_no_receiver(cluster, step.asked.receiver, local.head)
 }
 
 // What the call does that stands where a message is handed over.

@@ -4,9 +4,7 @@ ghost use Rattle.memory.specs.Layout.{server_room, message_room};
 ghost use Rattle.plans.specs.Plans.{no_words, no_message, no_effect, line_step, move_plan};
 
 use crate::{Carried, Plan, Step};
-use entries::keys::{no_key, no_value};
-use entries::slots::absent;
-use entries::{Decoded, Slot, TABLE_ROOM};
+use entries::{Decoded, Key, Slot, TABLE_ROOM, Value};
 use memory::Counts;
 use moves::Move;
 use refusals::{Refusal, places_refusal};
@@ -18,14 +16,12 @@ use server::{Effect, Message, Words};
 pub fn no_words() -> Words
     ensures { result ≡ no_words }
 {
-    let key = no_key();
-    let none = absent();
     Words {
         kind: NO_CALL,
         bucket: 0,
-        key,
-        expected: none,
-        value: none,
+        key: Key::empty(),
+        expected: None,
+        value: None,
     }
 }
 
@@ -48,18 +44,17 @@ pub fn no_message() -> Message
 pub fn no_effect() -> Effect
     ensures { result ≡ no_effect }
 {
-    let value = no_value();
-    let slot = Slot {
-        key: no_key(),
-        value,
+    let empty = Slot {
+        key: Key::empty(),
+        value: Value::empty(),
     };
     Effect {
-        value,
+        result: NO_RESULT,
+        value: Value::empty(),
         table: Decoded {
             count: 0,
-            slots: [slot; TABLE_ROOM],
+            slots: [empty; TABLE_ROOM],
         },
-        result: NO_RESULT,
     }
 }
 
@@ -70,13 +65,8 @@ pub fn line_step(cluster: Counts, server: u32, bucket: u32) -> Step
     Step {
         server,
         bucket,
-        index: 0,
-        removes: false,
-        asked: no_message(),
-        copied: 0,
-        delivered: 0,
-        lost: 0,
         calls: cluster.calls,
+        ..no_step()
     }
 }
 

@@ -11,7 +11,6 @@ use server::Head;
 use server::codes::{NO_MESSAGE, STOPPED};
 use server::kinds::is_broadcast;
 use server::measures::{MAX_ACCEPTED, MAX_MESSAGES};
-use server::numbers::chosen;
 
 // Why a line is refused.
 #[derive(Clone, Copy, Debug, PartialEq, Eq)]
@@ -67,13 +66,13 @@ pub fn inside(cluster: Counts, server: u32, bucket: u32) -> bool
 pub fn server_refusal(cluster: Counts, head: Head) -> Result<(), Refusal>
     ensures { result ≡ server_refusal cluster head }
 {
-    if MAX_ACCEPTED <= cluster.lines {
-        return Err(Refusal::LinesSpent);
+    if cluster.lines >= MAX_ACCEPTED {
+        Err(Refusal::LinesSpent)
+    } else if head.stopped == STOPPED {
+        Err(Refusal::ServerStopped)
+    } else {
+        Ok(())
     }
-    if head.stopped == STOPPED {
-        return Err(Refusal::ServerStopped);
-    }
-    Ok(())
 }
 
 // 5 and 18: a server that runs cannot be started.
@@ -81,13 +80,13 @@ pub fn server_refusal(cluster: Counts, head: Head) -> Result<(), Refusal>
 pub fn start_refusal(cluster: Counts, head: Head) -> Result<(), Refusal>
     ensures { result ≡ start_refusal cluster head }
 {
-    if MAX_ACCEPTED <= cluster.lines {
-        return Err(Refusal::LinesSpent);
+    if cluster.lines >= MAX_ACCEPTED {
+        Err(Refusal::LinesSpent)
+    } else if head.stopped != STOPPED {
+        Err(Refusal::BadCutOrStart)
+    } else {
+        Ok(())
     }
-    if head.stopped != STOPPED {
-        return Err(Refusal::BadCutOrStart);
-    }
-    Ok(())
 }
 
 // Whether a message has no receiver: it names no server, or one whose head says that it is stopped.
@@ -95,7 +94,7 @@ pub fn start_refusal(cluster: Counts, head: Head) -> Result<(), Refusal>
 pub fn has_no_receiver(cluster: Counts, receiver: u32, head: Head) -> bool
     ensures { result ≡ no_receiver cluster receiver head }
 {
-    cluster.servers <= receiver || head.stopped == STOPPED
+    receiver >= cluster.servers || head.stopped == STOPPED
 }
 
 // 5 and 7.
@@ -103,13 +102,13 @@ pub fn has_no_receiver(cluster: Counts, receiver: u32, head: Head) -> bool
 pub fn message_refusal(cluster: Counts, index: u32) -> Result<(), Refusal>
     ensures { result ≡ message_refusal cluster index }
 {
-    if MAX_ACCEPTED <= cluster.lines {
-        return Err(Refusal::LinesSpent);
+    if cluster.lines >= MAX_ACCEPTED {
+        Err(Refusal::LinesSpent)
+    } else if index >= cluster.messages {
+        Err(Refusal::NoSuchMessage)
+    } else {
+        Ok(())
     }
-    if cluster.messages <= index {
-        return Err(Refusal::NoSuchMessage);
-    }
-    Ok(())
 }
 
 // How many messages are sent among so many servers.
@@ -127,14 +126,14 @@ pub fn send_count(servers: u32, kind: u32) -> u32
 }
 
 // Whether there is a place for each message; the place of one that is removed is free.
-#[tactic(auto, using(crate::proofs::Sending::few_sent))]
+#[tactic(auto, using(crate::proofs::Sending::few_sent), unfolding(server::specs::Views::chosen))]
 fn places_left(cluster: Counts, removes: bool, kind: u32) -> bool
     requires { (cluster.servers ≤ server_room) × (cluster.messages ≤ message_room) }
     ensures { result ≡ places_left cluster removes kind }
 {
     let sends = send_count(cluster.servers, kind);
-    let gone = chosen(removes, 1, 0);
-    cluster.messages.saturating_sub(gone) + sends <= MAX_MESSAGES
+    let kept = cluster.messages.saturating_sub(u32::from(removes));
+    kept + sends <= MAX_MESSAGES
 }
 
 // 12.

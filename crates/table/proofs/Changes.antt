@@ -8,7 +8,7 @@ use native.Mathlib.Omega.{arith}
 use lib.ListN.{length}
 use borrow.Author.Tests.{ltb-true}
 use lib.Dec.{ltb}
-use Rattle.entries.specs.declared.Order.TheVariants.{Before, Same}
+use Rattle.std.specs.declared.cmp.Ordering.TheVariants.{Less, Equal}
 use Rattle.entries.specs.Entries.{Entry, entry, order, value_of, holds, put, remove, stored}
 use Rattle.table.specs.Form.{max_key, rising, sized, ValueAtMost, fits}
 use Rattle.entries.proofs.Comparison.{order_same, after_before, before_trans}
@@ -43,12 +43,12 @@ sized_remove long k (e ∷ t) s =
 -- ---- rising order
 
 -- the key is put after an entry that stands before it
-rising_put_after : (e : Entry) (k v : List ℕ) (t : List Entry) → order e.key k ≡ Before → rising (e ∷ t) ≡ true → rising (e ∷ put k v t) ≡ true
+rising_put_after : (e : Entry) (k v : List ℕ) (t : List Entry) → order e.key k ≡ Less → rising (e ∷ t) ≡ true → rising (e ∷ put k v t) ≡ true
 unfolding put rising
 rising_put_after e k v [] b r = rising_from e (entry k v) [] b refl
 rising_put_after e k v (f ∷ t) b r =
     let (ef, rf) = rising_parts e f t r in
-    let ih : order f.key k ≡ Before → rising (f ∷ put k v t) ≡ true = λ x. rising_put_after f k v t x rf in
+    let ih : order f.key k ≡ Less → rising (f ∷ put k v t) ≡ true = λ x. rising_put_after f k v t x rf in
     by_order k f.key
     (λ o. rw (put, o) (rising_from e (entry k v) (f ∷ t) b (rising_from (entry k v) f t o rf)))
     (λ o. rw (put, o) (rising_from e (entry k v) t b (rising_key (entry k v) f t (order_same k f.key o) ∙ rf)))
@@ -64,7 +64,7 @@ rising_put k v (e ∷ t) r =
     (λ o. rw (put, o) (rising_put_after e k v t (after_before k e.key o) r))
 
 -- an entry out of the middle leaves its neighbours in order
-pub rising_skip : (e f : Entry) (t : List Entry) → order e.key f.key ≡ Before → rising (f ∷ t) ≡ true → rising (e ∷ t) ≡ true
+pub rising_skip : (e f : Entry) (t : List Entry) → order e.key f.key ≡ Less → rising (f ∷ t) ≡ true → rising (e ∷ t) ≡ true
 unfolding rising
 rising_skip e f [] b r = refl
 rising_skip e f (g ∷ t) b r =
@@ -94,7 +94,7 @@ removed_absent k (e ∷ t) r =
     by_order k e.key (λ o. rw (remove, o, value_of, o)) (λ o. rw (remove, o) (behind t r o))
     (λ o. rw (remove, o, value_of, o) (removed_absent k t (rising_tail e t r)))
   where
-    behind : (u : List Entry) → rising (e ∷ u) ≡ true → order k e.key ≡ Same → value_of k u ≡ none
+    behind : (u : List Entry) → rising (e ∷ u) ≡ true → order k e.key ≡ Equal → value_of k u ≡ none
     behind [] h o = refl
     behind (f ∷ u) h o = rw (value_of, order_same k e.key o, (rising_parts e f u h).0)
 

@@ -7,8 +7,8 @@ use native.Mathlib.Omega.{arith}
 use lib.Dec.{leb}
 use lib.ListN.{length}
 use borrow.Author.Tests.{le-leb, leb-true}
-use Rattle.entries.specs.declared.Order.{Order}
-use Rattle.entries.specs.declared.Order.TheVariants.{Before, Same, After}
+use Rattle.std.specs.declared.cmp.Ordering.{Ordering}
+use Rattle.std.specs.declared.cmp.Ordering.TheVariants.{Less, Equal, Greater}
 use Rattle.entries.specs.Entries.{Entry, order}
 use Rattle.table.specs.Form.{max_key, within, rising, sized, fits}
 
@@ -77,24 +77,24 @@ unfolding sized within
 no_key long e t h = rw (sized, h)
 
 -- a rising table's first two keys, and the table after the first
-pub rising_parts : (e f : Entry) (t : List Entry) → rising (e ∷ (f ∷ t)) ≡ true → (order e.key f.key ≡ Before) × (rising (f ∷ t) ≡ true)
+pub rising_parts : (e f : Entry) (t : List Entry) → rising (e ∷ (f ∷ t)) ≡ true → (order e.key f.key ≡ Less) × (rising (f ∷ t) ≡ true)
 unfolding rising
 rising_parts e f t h = go (order e.key f.key) refl
   where
-    go : (o : Order) → order e.key f.key ≡ o → (order e.key f.key ≡ Before) × (rising (f ∷ t) ≡ true)
-    go Before k = (k, rw (rising, k) at h)
-    go Same k = let z : ◌≡◌ {A = ℕ} 0 1 = cc (rw (rising, k) at h) in absurd (omega arith)
-    go After k = let z : ◌≡◌ {A = ℕ} 0 1 = cc (rw (rising, k) at h) in absurd (omega arith)
+    go : (o : Ordering) → order e.key f.key ≡ o → (order e.key f.key ≡ Less) × (rising (f ∷ t) ≡ true)
+    go Less k = (k, rw (rising, k) at h)
+    go Equal k = let z : ◌≡◌ {A = ℕ} 0 1 = cc (rw (rising, k) at h) in absurd (omega arith)
+    go Greater k = let z : ◌≡◌ {A = ℕ} 0 1 = cc (rw (rising, k) at h) in absurd (omega arith)
 
-pub rising_from : (e f : Entry) (t : List Entry) → order e.key f.key ≡ Before → rising (f ∷ t) ≡ true → rising (e ∷ (f ∷ t)) ≡ true
+pub rising_from : (e f : Entry) (t : List Entry) → order e.key f.key ≡ Less → rising (f ∷ t) ≡ true → rising (e ∷ (f ∷ t)) ≡ true
 unfolding rising
 rising_from e f t h k = rw (rising, h) k
 
-pub not_rising : (e f : Entry) (t : List Entry) (o : Order) → order e.key f.key ≡ o → (o ≡ Before → ⊥) → rising (e ∷ (f ∷ t)) ≡ false
+pub not_rising : (e f : Entry) (t : List Entry) (o : Ordering) → order e.key f.key ≡ o → (o ≡ Less → ⊥) → rising (e ∷ (f ∷ t)) ≡ false
 unfolding rising
-not_rising e f t Before h n = absurd (n refl)
-not_rising e f t Same h n = rw (rising, h)
-not_rising e f t After h n = rw (rising, h)
+not_rising e f t Less h n = absurd (n refl)
+not_rising e f t Equal h n = rw (rising, h)
+not_rising e f t Greater h n = rw (rising, h)
 
 -- only keys count for whether a table is rising
 pub rising_key : (e f : Entry) (t : List Entry) → e.key ≡ f.key → rising (e ∷ t) ≡ rising (f ∷ t)

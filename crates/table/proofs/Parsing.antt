@@ -7,12 +7,9 @@ use native.Mathlib.Numerals.{add-one}
 use lib.ListN.{length, take, drop, get_or, set, length-set, length-take, length-drop}
 use lib.Seq.{take-suc-set, get_or-drop, drop-drop, take_all, append_snoc}
 use Rattle.entries.specs.declared.Slot.{Slot}
-use Rattle.entries.specs.declared.Key.{Key}
-use Rattle.entries.specs.declared.Value.{Value}
 use Rattle.entries.specs.Entries.{entry}
-use Rattle.entries.specs.Decoded.{key_bytes, value_bytes, entry_in, table_in}
+use Rattle.entries.specs.Decoded.{Key, Value, key_bytes, value_bytes, entry_in, table_in}
 use Rattle.entries.proofs.Shifts.{map-take_lem}
-use Rattle.entries.proofs.Views.{key_whole, value_whole}
 use Rattle.table.specs.Form.{entries_of, table_of}
 use Rattle.table.specs.Steps.{CutOut, Bounded, Decodes}
 
@@ -81,16 +78,10 @@ module _ {b : List ℕ} {n : ℕ} {l : List Slot} {at i : ℕ} (c : Decoding b n
       }
 
 -- the key and the value that are cut out of the bytes
-pub slot_cut : (b : List ℕ) (at k v : ℕ) (x : Key) (y : Value) → k ≤ 8 → v ≤ 16 → at + k + v ≤ length b → key_bytes x ≡ take 8 (take k (drop at b)) → value_bytes y ≡ take 16 (take v (drop (at + k) b)) → CutOut b at k v (record { key = record { bytes = x.bytes; len = k }; value = record { bytes = y.bytes; len = v } })
-unfolding entry_in key_bytes value_bytes
-slot_cut b at k v x y h g l p q =
+pub slot_cut : (b : List ℕ) (at k v : ℕ) (x : Key) (y : Value) → k ≤ 8 → v ≤ 16 → at + k + v ≤ length b → key_bytes x ≡ take 8 (take k (drop at b)) → value_bytes y ≡ take 16 (take v (drop (at + k) b)) → x.len ≤ 8 → y.len ≤ 16 → CutOut b at k v (record { key = x; value = y })
+unfolding entry_in
+slot_cut b at k v x y h g l p q m n =
     let key : key_bytes x ≡ take k (drop at b) = p ∙ take_all 8 (take k (drop at b)) (rw length-take (omega arith)) in
     let value : value_bytes y ≡ take v (drop k (drop at b)) =
     q ∙ take_all 16 (take v (drop (at + k) b)) (rw length-take (omega arith)) ∙ ap (take v) (sym (drop-drop k at b)) in
-    let m : k ≡ length (key_bytes x) = rw key (simp (length-take, length-drop) (omega arith)) in
-    let n : v ≡ length (value_bytes y) = rw value (simp (length-take, length-drop) (omega arith)) in
-    record {
-      is = rw (key_whole x (record { is = m; low = h }), value_whole y (record { is = n; low = g }), key, value);
-      key_top = h;
-      value_top = g;
-    }
+    record { is = rw (entry_in, key, value); key_top = m; value_top = n }

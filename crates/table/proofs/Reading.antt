@@ -9,8 +9,8 @@ use native.Mathlib.Nat.{mul-le-mul_right}
 use native.Mathlib.Numerals.{one-add}
 use lib.ListN.{length, replicate, length-append, length-replicate}
 use lib.Seq.{take-append_seam, drop-append_seam, drop-append-add, drop_at}
-use Rattle.entries.specs.declared.Order.{Order}
-use Rattle.entries.specs.declared.Order.TheVariants.{Before, Same, After}
+use Rattle.std.specs.declared.cmp.Ordering.{Ordering}
+use Rattle.std.specs.declared.cmp.Ordering.TheVariants.{Less, Equal, Greater}
 use Rattle.entries.specs.Entries.{Entry, order}
 use Rattle.table.specs.Form.{max_key, bucket_size, sized, fits, header, body, packed, bucket_bytes, entries_of, table_of, same_bytes, read_bucket}
 use Rattle.entries.proofs.Comparison.{order_refl, order_same}
@@ -85,10 +85,10 @@ pub bytes_same : (a b : List ℕ) → same_bytes a b ≡ true → a ≡ b
 unfolding same_bytes
 bytes_same a b h = go (order a b) refl
   where
-    go : (o : Order) → order a b ≡ o → a ≡ b
-    go Before k = cc (rw (same_bytes, k) at h)
-    go Same k = order_same a b k
-    go After k = cc (rw (same_bytes, k) at h)
+    go : (o : Ordering) → order a b ≡ o → a ≡ b
+    go Less k = cc (rw (same_bytes, k) at h)
+    go Equal k = order_same a b k
+    go Greater k = cc (rw (same_bytes, k) at h)
 
 -- what is read of bytes, as the two tests say
 pub read_taken : (most long : ℕ) (b : List ℕ) → fits most long (table_of most long b) ≡ true → b ≡ bucket_bytes most long (table_of most long b) → read_bucket most long b ≡ some (table_of most long b)

@@ -2,7 +2,7 @@
 -- and `long` the greatest length of a value: 4 and 16 in the rules, which makes 113 bytes.
 use Rattle.std.specs.Prelude.{List, [], ◌∷◌, ◌++◌, Bool, true, false, ℕ, zero, suc, ◌+◌, ◌-◌, ◌*◌, ◌≤◌, min, leb, length, get_or, take, drop, replicate}
 use Rattle.std.proofs.Math.Option.{Option, none, some}
-use Rattle.entries.specs.declared.Order.TheVariants.{Before, Same, After}
+use Rattle.std.specs.declared.cmp.Ordering.TheVariants.{Less, Equal, Greater}
 use Rattle.entries.specs.Entries.{Entry, entry, order}
 
 -- the greatest length of a key
@@ -23,7 +23,7 @@ within top n = elim (leb 1 n) [ true ↦ leb n top | false ↦ false ]
 unfoldable pub rising : List Entry → Bool
 rising [] = true
 rising (e ∷ []) = true
-rising (e ∷ (f ∷ t)) = elim (order e.key f.key) [ Before ↦ rising (f ∷ t) | Same ↦ false | After ↦ false ]
+rising (e ∷ (f ∷ t)) = elim (order e.key f.key) [ Less ↦ rising (f ∷ t) | Equal ↦ false | Greater ↦ false ]
 
 -- keys of 1 to 8 bytes, values of at most long
 unfoldable pub sized : ℕ → List Entry → Bool
@@ -89,7 +89,7 @@ table_of most long b =
     entries_of long n (drop 1 b) (drop (1 + 4 * n) b)
 
 unfoldable pub same_bytes : List ℕ → List ℕ → Bool
-same_bytes a b = elim (order a b) [ Before ↦ false | Same ↦ true | After ↦ false ]
+same_bytes a b = elim (order a b) [ Less ↦ false | Equal ↦ true | Greater ↦ false ]
 
 -- whether two values are the same; absent is the same as absent alone
 unfoldable pub same_value : Option (List ℕ) → Option (List ℕ) → Bool

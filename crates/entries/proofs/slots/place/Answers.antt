@@ -1,26 +1,33 @@
 -- `slots::place` meets its contract: the keys passed stand before k.
+use lib.ListN.{length-map}
 use mathlib.Core.Path.{sym, ◌∙◌}
+use Rattle.entries.specs.Decoded.{entry_in}
 use Rattle.entries.proofs.Placing.{placing_starts, placing_before, placing_same, placing_goes_on, placing_ends}
-use Rattle.entries.proofs.Views.{table_whole}
+use Rattle.entries.proofs.Views.{next_slot}
 use Rattle.entries.proofs.slots.place.Goals as goal
 
-pub loop-i-init : goal.loop-i-init
-loop-i-init c = placing_starts c.count_of-count.ensures.low c.count_of-count.ensures.four
+pub loop-at-init : goal.loop-at-init
+loop-at-init c = placing_starts (rw length-map c.used-slot-items.ensures.low)
 
-pub returns-in-Before : goal.returns-in-Before
-returns-in-Before c =
-    rw (table_whole c.args.table c.count_of-count.ensures) at
-    (placing_before c.loop-i.invariant c.loop-i-test.true (sym c.compare-order.ensures ∙ c.in-Before.is))
+pub returns-in-Less : goal.returns-in-Less
+unfolding entry_in
+returns-in-Less c =
+    rw c.used-slot-items.ensures.entries at
+    (placing_before c.loop-at.invariant _ (next_slot _ _ c.loop-at-test.true) (sym c.compare.ensures ∙ c.in-Less.is))
 
-pub returns-in-Same : goal.returns-in-Same
-returns-in-Same c =
-    rw (table_whole c.args.table c.count_of-count.ensures) at
-    (placing_same c.loop-i.invariant c.loop-i-test.true (sym c.compare-order.ensures ∙ c.in-Same.is))
+pub returns-in-Equal : goal.returns-in-Equal
+unfolding entry_in
+returns-in-Equal c =
+    rw c.used-slot-items.ensures.entries at
+    (placing_same c.loop-at.invariant _ (next_slot _ _ c.loop-at-test.true) (sym c.compare.ensures ∙ c.in-Equal.is))
 
-pub loop-i-preserved : goal.loop-i-preserved
-loop-i-preserved c = placing_goes_on c.loop-i.invariant c.loop-i-test.true (sym c.compare-order.ensures ∙ c.in-After.is)
+pub loop-at-preserved : goal.loop-at-preserved
+unfolding entry_in
+loop-at-preserved c =
+    placing_goes_on c.loop-at.invariant _ (next_slot _ _ c.loop-at-test.true) (rw length-map c.loop-at-test.true)
+    (sym c.compare.ensures ∙ c.in-Greater.is)
 
 pub returns : goal.returns
 returns c =
-    rw (table_whole c.args.table c.count_of-count.ensures) at
-    (placing_ends c.loop-i.invariant c.loop-i-test.false)
+    rw c.count_of.ensures.is
+    (rw c.used-slot-items.ensures.entries at (placing_ends c.loop-at.invariant (rw length-map c.loop-at-test.false)))

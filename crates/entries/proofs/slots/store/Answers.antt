@@ -1,12 +1,14 @@
 -- `slots::store` meets its contract: an absent value takes the key away.
-use Rattle.entries.proofs.Edits.{storing_removed}
+use mathlib.Core.Path.{ap}
+use mathlib.Core.Option.{some}
 use Rattle.entries.specs.Decoded.{item_in}
+use Rattle.entries.specs.Entries.{stored}
 use Rattle.entries.proofs.slots.store.Goals as goal
 
-pub returns-then-item : goal.returns-then-item
+pub returns-in-Some : goal.returns-in-Some
 unfolding item_in
-returns-then-item c = rw (item_in, c.if-item.true) c.put.ensures
+returns-in-Some c = rw c.in-Some.is c.put.ensures
 
-pub returns : goal.returns
-unfolding item_in
-returns c = rw (item_in, c.if-item.false) (storing_removed c.args.table c.remove-without.result c.remove-without.ensures)
+pub returns-in-None : goal.returns-in-None
+unfolding item_in stored
+returns-in-None c = rw c.in-None.is (ap some c.remove.ensures)

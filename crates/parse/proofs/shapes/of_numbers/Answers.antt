@@ -1,8 +1,0 @@
--- `shapes::of_numbers` meets its contract.
-use mathlib.Core.Path.{◌∙◌}
-use Rattle.parse.specs.Kept.{padded, key_for, item_for}
-use Rattle.parse.proofs.shapes.of_numbers.Goals as goal
-
-pub returns : goal.returns
-unfolding padded key_for item_for
-returns c = c.of_words.ensures ∙ rw (c.no_key.ensures, c.absent.ensures, c.absent-2.ensures)
