@@ -65,8 +65,13 @@ pub fn line_step(cluster: Counts, server: u32, bucket: u32) -> Step
     Step {
         server,
         bucket,
+        index: 0,
+        removes: false,
+        asked: no_message(),
+        copied: 0,
+        delivered: 0,
+        lost: 0,
         calls: cluster.calls,
-        ..no_step()
     }
 }
 
