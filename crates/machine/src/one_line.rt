@@ -43,6 +43,7 @@ fn words(kind: u32, bucket: u32, key: Key, expected: Option<Value>, value: Optio
 }
 
 // The words of a call: what its kind does not use is none.
+#[tactic(auto, unfolding(runs::specs::Runs::words_of))]
 fn words_of(line: Line) -> Words
     ensures { result ≡ words_of line.kind line }
 {

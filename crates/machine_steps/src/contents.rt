@@ -14,7 +14,7 @@ use memory_regions::Bytes;
 use moves::{Filling, Keeping};
 
 // The working content of this slot, by what fills it; `place` is that of the message handed over.
-#[tactic(auto, unfolding(views::specs::Changes::filled_from))]
+#[tactic(auto, unfolding(views::specs::Changes::filled_from, views::specs::Changes::put_table))]
 pub fn fill_work(bytes: &mut Bytes, slot: usize, place: usize, fills: Filling, table: Decoded)
     requires { (slot < slot_room) × (place < message_room) }
     ensures { new_contents bytes ≡ filled_contents (old_contents bytes) slot place (table_in table) fills }
