@@ -7,7 +7,7 @@ ghost use Rattle.runs.specs.Runs.{words_with, words_of};
 ghost use Rattle.machine.specs.Steps.{LinePlanned, is_planned};
 ghost use Rattle.machine.specs.Lent.{RunsPlan, RunsLine, Clusters};
 
-use crate::carrying::{bare_report, execute};
+use crate::carrying::execute;
 use crate::cutting::plan_cut;
 use crate::fresh::create;
 use crate::handing::hand_line;
@@ -21,11 +21,11 @@ use parse::{Kind, Line};
 use plans::Plan;
 use plans::calls::plan_call;
 use plans::deliveries::plan_lose;
-use plans::parts::{no_effect, no_words};
+use plans::parts::no_words;
 use plans::servers::{plan_elect, plan_start, plan_stop, plan_timeout};
 use records::counters::load_counts;
-use refusals::codes::{CLUSTER_WRONG, MALFORMED, NONE};
-use runs::Report;
+use refusals::Refusal;
+use runs::{Report, bare_report};
 use server::Words;
 use server::codes::{DEL, GET, KEYS, SET, SETIF};
 use server::measures::{MAX_BUCKETS, MAX_SERVERS};
@@ -70,7 +70,7 @@ fn plan_line(
     queue: &QueueWords,
     cluster: Counts,
     line: Line,
-) -> Plan
+) -> Result<Plan, Refusal>
     requires { Measured cluster × (is_planned line.kind ≡ true) }
     ensures { LinePlanned heads.now slots.now copies.now queue.now cluster line result }
 {
@@ -95,17 +95,15 @@ fn cluster_line(
     queue: &mut QueueWords,
     servers: u32,
     buckets: u32,
-) -> u32
+) -> Result<(), Refusal>
     ensures { Clusters counts heads slots copies queue servers buckets result }
 {
-    if standing(load_counts(counts)) {
-        return CLUSTER_WRONG;
+    let stands = standing(load_counts(counts));
+    if stands || !within(MAX_SERVERS, servers) || !within(MAX_BUCKETS, buckets) {
+        return Err(Refusal::ClusterWrong);
     }
-    if within(MAX_SERVERS, servers) && within(MAX_BUCKETS, buckets) {
-        create(counts, heads, slots, copies, queue, servers, buckets);
-        return NONE;
-    }
-    CLUSTER_WRONG
+    create(counts, heads, slots, copies, queue, servers, buckets);
+    Ok(())
 }
 
 // A line that needs a cluster and hands no message over.
@@ -120,18 +118,18 @@ fn planned_line(
     payloads: &mut PayloadBytes,
     answers: &mut AnswerWords,
     line: Line,
-) -> Report
+) -> Result<Report, Refusal>
     requires { is_planned line.kind ≡ true }
     ensures { RunsPlan (lent counts heads slots copies working texts queue payloads answers) line result }
 {
     let cluster = load_counts(counts);
-    if standing(cluster) {
-        let plan = plan_line(heads, slots, copies, queue, cluster, line);
-        return execute(
-            counts, heads, slots, copies, working, texts, queue, payloads, answers, cluster, plan,
-        );
+    if !standing(cluster) {
+        return Err(Refusal::ClusterWrong);
     }
-    bare_report(CLUSTER_WRONG, no_effect())
+    let plan = plan_line(heads, slots, copies, queue, cluster, line)?;
+    Ok(execute(
+        counts, heads, slots, copies, working, texts, queue, payloads, answers, cluster, plan,
+    ))
 }
 
 // One line of a script.
@@ -146,15 +144,14 @@ pub fn run_line(
     payloads: &mut PayloadBytes,
     answers: &mut AnswerWords,
     line: Line,
-) -> Report
+) -> Result<Report, Refusal>
     ensures { RunsLine (lent counts heads slots copies working texts queue payloads answers) line result }
 {
     match line.kind {
-        Kind::Malformed => bare_report(MALFORMED, no_effect()),
+        Kind::Malformed => Err(Refusal::Malformed),
         Kind::Cluster => {
-            let refusal =
-                cluster_line(counts, heads, slots, copies, queue, line.first, line.second);
-            bare_report(refusal, no_effect())
+            cluster_line(counts, heads, slots, copies, queue, line.first, line.second)?;
+            Ok(bare_report())
         }
         Kind::Deliver => hand_line(
             counts, heads, slots, copies, working, texts, queue, payloads, answers, line.first,
