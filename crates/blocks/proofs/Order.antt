@@ -2,13 +2,13 @@
 -- is named twice then.
 use mathlib.Core.Path.{◌≡◌, refl, sym, ap, subst, ◌∙◌}
 use mathlib.Core.Logic.{◌≢◌}
-use mathlib.Core.List.{List, [], ◌∷◌, ◌++◌, map, map-append, append_assoc, append-nil}
+use mathlib.Core.List.{List, [], ◌∷◌, ◌++◌, map, map-append, append_assoc}
 use Prim.Native.Nat.{ℕ, zero, suc, ◌+◌, ◌-◌, ◌≤◌, ◌<◌}
 use native.Mathlib.Nat.{zero-add, suc-add, mod-lt, mod-eq_of_lt}
 use native.Mathlib.Numerals.{add-one}
 use native.Mathlib.Omega.{arith}
-use lib.ListN.{length, get_or, set, take, drop, length-map, length-drop, length-set, take-append-drop, drop_of_length-le}
-use lib.Seq.{paste, take-nil, take_all, get_or-take, take-suc, drop-cons, split_at, take_at, set_at, take-take, drop-drop, length-take-le, length_paste_head, length-paste}
+use lib.ListN.{length, get_or, set, take, drop, length-map, length-drop, length-set, take-append-drop}
+use lib.Seq.{paste, take-nil, get_or-take, take-suc, drop-cons, split_at, take_at, set_at, take-take, drop-drop, length-take-le, length_paste_head, length-paste}
 use Rattle.blocks.specs.Blocks.{without}
 use Rattle.blocks.specs.Order.{place_room, place, All, Ordered, listed, rotated, rising}
 
@@ -16,16 +16,6 @@ drop-take_lem : {A : Type 0} (p n : ℕ) (l : List A) → drop p (take (p + n) l
 drop-take_lem zero n l = rw zero-add
 drop-take_lem (suc p) n [] = rw (suc-add, take-nil)
 drop-take_lem (suc p) n (x ∷ l) = rw suc-add (drop-take_lem p n l)
-
--- the part of a list from place i on is lent, and len of its elements move down by one
-lent_down : {A : Type 0} (i len : ℕ) (l part : List A) → i + 1 + len ≤ length l
-    → part ≡ paste (take (length l - i) (drop i l)) 0 (drop 1 (take (length l - i) (drop i l))) len
-    → take i l ++ (part ++ drop (length l - i) (drop i l)) ≡ paste l i (drop (i + 1) l) len
-lent_down i len l part fits e =
-    let whole : take (length l - i) (drop i l) ≡ drop i l = take_all (length l - i) (drop i l) (rw (length-drop i l) (omega arith)) in
-    let past : drop (length l - i) (drop i l) ≡ [] = drop_of_length-le (drop i l) {i = length l - i} (rw (length-drop i l) (omega arith)) in
-    let down : paste l i (drop (i + 1) l) len ≡ take i l ++ (take len (drop 1 (drop i l)) ++ drop len (drop i l)) = rw (drop-drop 1 i l, drop-drop len i l, append_assoc) in
-    rw (e, whole, past, append-nil, zero-add) (sym down)
 
 -- ---- map and without
 
@@ -73,10 +63,6 @@ module _ (n i : ℕ) (o : List ℕ) (among : i < n) (fits : n ≤ length o) wher
       let s : suc (n - 1) ≡ n = omega arith in
       let hx : length x ≡ n - 1 = length_paste_head o i (drop (i + 1) o) k (omega arith) (simp length-drop (omega arith)) ∙ e in
       rw (e, drop-cons o (n - 1) 0 (omega arith), s, set_at x (get_or o (n - 1) 0) (drop n o) (get_or o i 0) (n - 1) hx, append_assoc)
-
-  pub lent_rotated : (part : List ℕ) → part ≡ paste (take (length o - i) (drop i o)) 0 (drop 1 (take (length o - i) (drop i o))) (n - (i + 1))
-      → set (take i o ++ (part ++ drop (length o - i) (drop i o))) (n - 1) (get_or o i 0) ≡ rotated n i o
-  lent_rotated part e = ap (λ l. set l (n - 1) (get_or o i 0)) (lent_down i (n - (i + 1)) o part (omega arith) e) ∙ copy_rotated
 
   -- the list is as long as it was
   pub length_rotated : length (rotated n i o) ≡ length o

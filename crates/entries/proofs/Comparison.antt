@@ -9,6 +9,9 @@ use native.Mathlib.Numerals.{add-one}
 use lib.ListN.{length, take, drop, get_or, length-take, drop_of_length-le}
 use lib.Seq.{drop-cons, get_or-take}
 use borrow.Author.Tests.{lt-ltb, le-ltb}
+use Rattle.std.specs.Cmp.{nat_cmp_is}
+use Rattle.std.specs.Cmp.Lexicographic.{slice_cmp}
+use Rattle.std.specs.Ordering.{nat_cmp}
 use Rattle.std.specs.declared.cmp.Ordering.TheVariants.{Less, Equal, Greater}
 use Rattle.entries.specs.Entries.{order}
 
@@ -94,6 +97,19 @@ before_trans (a ∷ l) (b ∷ m) (c ∷ n) h k = go (bytes a b) (bytes b c) (bef
         order_next a c l n (omega arith) (omega arith)
         ∙ ih (sym (order_next a b l m p₁ p₂) ∙ h) (sym (order_next b c m n q₁ q₂) ∙ k)
     go (equal p₁ p₂) (more q) ih = cc (order_more b c m n q)
+
+-- std's order of slices is this one
+pub order_cmp : (l m : List ℕ) → slice_cmp nat_cmp l m ≡ order l m
+unfolding order
+order_cmp [] [] = refl
+order_cmp [] (b ∷ m) = refl
+order_cmp (a ∷ l) [] = refl
+order_cmp (a ∷ l) (b ∷ m) = go (bytes a b) (order_cmp l m)
+  where
+    go : Bytes a b → slice_cmp nat_cmp l m ≡ order l m → slice_cmp nat_cmp (a ∷ l) (b ∷ m) ≡ order (a ∷ l) (b ∷ m)
+    go (less k) ih = cc (order_less a b l m k, nat_cmp_is a b Less k)
+    go (more k) ih = cc (order_more a b l m k, nat_cmp_is a b Greater k)
+    go (equal h₁ h₂) ih = cc (order_next a b l m h₁ h₂, nat_cmp_is a b Equal (le_antisymm h₁ h₂))
 
 -- ---- a comparison byte by byte: the first n bytes of x and the first m of y agree up to i
 pub record Comparing (n m : ℕ) (x y : List ℕ) (i : ℕ) : Type 0 where

@@ -11,13 +11,16 @@ use Rattle.entries.specs.declared.Slot.{Slot}
 use Rattle.entries.specs.declared.Decoded.{Decoded}
 use Rattle.entries.specs.Entries.{entry, value_of, remove, put}
 use Rattle.entries.specs.Decoded.{Counted, value_bytes, entry_in, table_in, blank}
-use Rattle.entries.specs.Places.{leading, Leads}
+use Rattle.entries.specs.Places.{Leads}
 use Rattle.entries.proofs.Views.{table_whole, entry_at}
 use Rattle.entries.proofs.Shifts.{part_replaced, part_inserted, part_removed}
 use Rattle.entries.proofs.Placing.{leading_within, held_within, held_put, new_put, held_remove, held_value}
 
 pub held_below : {k : List ℕ} (t : Decoded) {at : ℕ} → Leads k (table_in t) at true → at < length (table_in t)
 held_below {k} t c = rw c.at_is (held_within k (table_in t) (sym c.held_is))
+
+pub held_four : {k : List ℕ} (t : Decoded) {at : ℕ} → Leads k (table_in t) at true → at < 4
+held_four t c = omega (arith, held_below t c, c.low)
 
 pub place_within : {k : List ℕ} (t : Decoded) {at : ℕ} → Leads k (table_in t) at false → at ≤ length (table_in t)
 place_within {k} t c = rw c.at_is (leading_within k (table_in t))

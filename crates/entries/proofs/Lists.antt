@@ -1,16 +1,15 @@
 -- Laws of lists that the loops lean on.
-use mathlib.Core.Path.{◌≡◌, refl, sym, ap, ◌∙◌}
-use mathlib.Core.List.{List}
-use Prim.Native.Nat.{ℕ, ◌≤◌, ◌<◌, ◌+◌, min}
+use mathlib.Core.Path.{◌≡◌, sym, ◌∙◌}
+use mathlib.Core.List.{List, ◌++◌}
+use Prim.Native.Nat.{ℕ, ◌≤◌, min}
 use native.Mathlib.Omega.{arith}
-use native.Mathlib.Numerals.{add-one}
 use native.Mathlib.Decide.{dec_le}
-use lib.ListN.{length, take, get_or, set, length-take, length-set}
-use lib.Seq.{take-suc, take-suc-set, take_all}
+use lib.ListN.{length, take, length-take}
+use lib.Seq.{take_all, take_at}
 use Rattle.entries.specs.Decoded.{Cut}
 
 -- the length of what is taken of a full array
-pub cut_length : {A : Type 0} (n top : ℕ) (l : List A) → length l ≡ top → Cut top (take n l) (min top n)
+pub cut_length : {A : Type 0} (n top : ℕ) (l : List A) → length l ≡ top → Cut top (take n l) (min n top)
 cut_length n top l h = record { is = rw length-take (omega arith); low = omega arith }
 
 -- no more is taken than is there
@@ -28,26 +27,8 @@ take_as_many n k l h = rw (h, length-take) (take_min k l)
 pub as_many_within : {A : Type 0} (n k : ℕ) (l : List A) → n ≡ length (take k l) → n ≤ length l
 as_many_within n k l h = omega (arith, length-take k l)
 
--- ---- a copy of the first bytes of s, at most top of them, to an array b of top; i of n are done
-pub record Copying (top : ℕ) (s : List ℕ) (n : ℕ) (b : List ℕ) (i : ℕ) : Type 0 where
-  pub within : i ≤ n
-  pub count : n ≡ min top (length s)
-  pub room : length b ≡ top
-  pub same : take i b ≡ take i s
-
-pub copying_starts : (top : ℕ) (s : List ℕ) (n : ℕ) (b : List ℕ) → n ≡ min top (length s) → length b ≡ top → Copying top s n b 0
-copying_starts top s n b h k = record { within = omega arith; count = h; room = k; same = refl }
-
-pub copying_goes_on : {top : ℕ} {s : List ℕ} {n : ℕ} {b : List ℕ} {i : ℕ} → Copying top s n b i → i < n → Copying top s n (set b i (get_or s i 0)) (i + 1)
-copying_goes_on {top} {s} {n} {b} {i} c h =
-    record {
-      within = omega arith;
-      count = c.count;
-      room = length-set b i (get_or s i 0) ∙ c.room;
-      same = rw (add-one i, take-suc-set b i (get_or s i 0) (omega arith), take-suc s i 0 (omega arith), c.same);
-    }
-
-pub copying_ends : {top : ℕ} {s : List ℕ} {n : ℕ} {b : List ℕ} {i : ℕ} → Copying top s n b i → n ≤ i → take n b ≡ take top s
-copying_ends {top} {s} {n} {b} {i} c h =
-    let e : i ≡ n = omega arith in
-    (rw e at c.same) ∙ ap (λ m. take m s) c.count ∙ take_min top s
+-- the first n of a list, n at most top of them, before others
+pub take_copied : {A : Type 0} (top n : ℕ) (s front rest : List A) → n ≡ min (length s) top → front ≡ take n s → take n (front ++ rest) ≡ take top s
+take_copied top n s front rest h e =
+    let k : n ≡ min top (length s) = omega arith in
+    take_at front rest n (rw (e, length-take) (omega arith)) ∙ e ∙ rw k (take_min top s)

@@ -45,6 +45,10 @@ pub next_entry : (n : ℕ) (l : List Slot) (i : ℕ) → i < n → n ≤ length 
 next_entry n l i h k =
     rw (add-one i, drop-cons (entries_in n l) i (entry_in blank) (rw (length_entries n l k) h), get_or-take n (map entry_in l) i (entry_in blank) h, get_or-map entry_in l i blank)
 
+-- the same of all of a list of slots
+pub next_slot : (l : List Slot) (i : ℕ) → i < length l → drop i (map entry_in l) ≡ entry_in (get_or l i blank) ∷ drop (i + 1) (map entry_in l)
+next_slot l i h = rw (add-one i, drop-cons (map entry_in l) i (entry_in blank) (rw length-map h), get_or-map entry_in l i blank)
+
 pub entry_at : (t : Decoded) (i : ℕ) → i < length (table_in t) → get_or (table_in t) i (entry_in blank) ≡ entry_in (get_or t.slots i blank)
 unfolding table_in
 entry_at t i h =

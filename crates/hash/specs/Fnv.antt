@@ -1,6 +1,7 @@
 -- A key's hash and its bucket (RULES, Keys 1 and 2): FNV-1a of 32 bits, modulo the number of buckets. Each byte is exclusive-ored
 -- into the hash, which is then multiplied by a prime, modulo 2^32.
-use Rattle.std.specs.Prelude.{List, [], ◌∷◌, ℕ, zero, suc, ◌*◌, ◌%◌, ◌^◌}
+use Rattle.std.specs.Prelude.{List, ℕ, zero, suc, ◌*◌, ◌%◌, ◌^◌}
+use Rattle.std.specs.List.{fold}
 use Rattle.std.specs.Int.Bits.{bit_xor}
 
 -- the hash of no bytes
@@ -16,16 +17,10 @@ unfoldable pub fnv_byte : ℕ → ℕ → ℕ
 unfolding prime
 fnv_byte h b = bit_xor h b * prime % 2 ^ 32
 
--- after each byte of a key, the first one first, from the hash h on
-unfoldable pub fnv_from : ℕ → List ℕ → ℕ
-unfolding fnv_byte
-fnv_from h [] = h
-fnv_from h (b ∷ key) = fnv_from (fnv_byte h b) key
-
--- a key's hash
+-- a key's hash: after each of its bytes, the first one first
 unfoldable pub fnv : List ℕ → ℕ
-unfolding offset_basis fnv_from
-fnv key = fnv_from offset_basis key
+unfolding offset_basis
+fnv key = fold fnv_byte offset_basis key
 
 -- a key's bucket: its hash modulo the number of buckets, and 0 where there are no buckets
 unfoldable pub bucket_of : (buckets : ℕ) → List ℕ → ℕ

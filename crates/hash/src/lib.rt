@@ -9,35 +9,28 @@ const OFFSET_BASIS: u32 = 2166136261;
 
 const PRIME: u32 = 16777619;
 
-// 2^32, how many numbers of 32 bits there are.
-const MODULUS: u64 = 4294967296;
-
-// The product of a and b modulo 2^32. It is taken at 64 bits, where no product of two u32 wraps.
+// The product of a and b modulo 2^32.
 fn wrapping_mul_u32(a: u32, b: u32) -> u32
     ensures { result ≡ a * b % 2 ^ 32 }
 {
-    let product = (a as u64) * (b as u64);
-    (product % MODULUS) as u32
+    a.wrapping_mul(b)
 }
 
 // The hash after one more byte of a key.
+#[tactic(auto, unfolding(crate::specs::Fnv::fnv_byte))]
 fn fnv_byte(hash: u32, byte: u8) -> u32
     ensures { result ≡ fnv_byte hash byte }
 {
-    wrapping_mul_u32(hash ^ (byte as u32), PRIME)
+    wrapping_mul_u32(hash ^ u32::from(byte), PRIME)
 }
 
 // The hash of a key.
+#[tactic(auto, unfolding(crate::specs::Fnv::fnv))]
 pub fn fnv1a(key: &[u8]) -> u32
     ensures { result ≡ fnv key.now }
 {
-    let mut hash = OFFSET_BASIS;
-    let mut i = 0;
-    while i < key.len() {
-        hash = fnv_byte(hash, key[i]);
-        i += 1;
-    }
-    hash
+    key.iter()
+        .fold(OFFSET_BASIS, |hash, byte| fnv_byte(hash, *byte))
 }
 
 // The bucket of a key among this many, and 0 where there are none.
@@ -45,8 +38,8 @@ pub fn bucket_of(key: &[u8], buckets: u32) -> u32
     ensures { result ≡ bucket_of buckets key.now }
 {
     if buckets == 0 {
-        return 0;
+        0
+    } else {
+        fnv1a(key) % buckets
     }
-    let hash = fnv1a(key);
-    hash % buckets
 }

@@ -16,5 +16,5 @@ pub returns-then-buckets-eq0 : goal.returns-then-buckets-eq0
 unfolding bucket_of
 returns-then-buckets-eq0 c = rw c.if-buckets-eq0.true
 
-pub returns : goal.returns
-returns c = rw c.fnv1a-hash.ensures (remainder c.args.buckets c.args.key.now (search rules))
+pub returns-else-buckets-eq0 : goal.returns-else-buckets-eq0
+returns-else-buckets-eq0 c = rw c.fnv1a.ensures (remainder c.args.buckets c.args.key.now (search rules))
