@@ -73,9 +73,10 @@ fn reply_of(me: u32, asked: Message, next: Move) -> Message
 fn message_to(message: Message, receiver: u32) -> Message
     ensures { result ≡ message_to message receiver }
 {
-    let mut addressed = message;
-    addressed.receiver = receiver;
-    addressed
+    Message {
+        receiver,
+        ..message
+    }
 }
 
 // A message goes to one server, with the working content of the slot, unless that server is its sender.
@@ -119,10 +120,8 @@ fn send_all(
     ensures { Flown (spread (block content_size slot working.now) message servers (old_flight queue payloads count)) (is queue) (is payloads) result }
 {
     let mut sent = count;
-    let mut receiver = 0;
-    while receiver < servers {
+    for receiver in 0..servers {
         sent = send_to(queue, payloads, working, sent, message, receiver, slot);
-        receiver += 1;
     }
     sent
 }

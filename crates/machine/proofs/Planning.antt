@@ -1,19 +1,19 @@
 -- The plan of a line, from the arrays that it looks at, and the run that follows it.
-use Rattle.std.proofs.Common.{◌≡◌, ℕ, Bool, true, false, eqb, List, [], sym, refl, ap, ◌∙◌, subst, arith}
+use Rattle.std.proofs.Common.{◌≡◌, ℕ, Bool, true, false, List, [], sym, refl, ap, ◌∙◌, subst, arith}
 use Rattle.server.specs.declared.Words.{Words}
 use Rattle.server.specs.declared.Effect.{Effect}
 use Rattle.memory.specs.declared.Counts.{Counts}
 use Rattle.memory.specs.Layout.{counts_at}
 use Rattle.views.specs.Memory.{Memory, memory, standing}
 use Rattle.plans.specs.declared.Plan.{Plan}
-use Rattle.plans.specs.Plans.{refused_plan, elect_at, timeout_at, stop_at, start_at, call_at, hand_at, lose_at, cut_at}
+use Rattle.plans.specs.Plans.{elect_at, timeout_at, stop_at, start_at, call_at, hand_at, lose_at, cut_at}
 use Rattle.plans.specs.Arrays.{elect_in, timeout_in, stop_in, start_in, cut_in, CallPlanned}
 use Rattle.parse.specs.declared.Kind.{Kind}
 use Rattle.parse.specs.declared.Kind.TheVariants as K
 use Rattle.parse.specs.declared.Line.{Line}
 use Rattle.runs.specs.declared.Report.{Report}
 use Rattle.runs.specs.Runs.{Ran, ran, refused_run, executed, words_of, line_plan, planned_run, run_by, line_run, EffectOf}
-use Rattle.machine.specs.Steps.{Reported, seen, route_of, LinePlanned, Clustered, HandRan, RanPlan, RanLine}
+use Rattle.machine.specs.Steps.{Reported, seen, is_planned, LinePlanned, Clustered, HandRan, RanPlan, RanLine}
 
 module _ (heads slots copies queue : List ℕ) (c : Counts) (x : Line) (p : Plan) where
   -- the plan of a line, by its kind
@@ -23,14 +23,6 @@ module _ (heads slots copies queue : List ℕ) (c : Counts) (x : Line) (p : Plan
     is = h ∙ sym (ap (λ k. line_plan k (seen heads slots copies [] queue) c x p.effect) e);
     effect = λ texts. subst (λ k. EffectOf k (seen heads slots copies texts queue) c x p.effect) (sym e) (g texts);
   }
-
-  pub malformed_planned : (f : Effect) → x.kind ≡ K.Malformed → p ≡ refused_plan 1 f → LinePlanned heads slots copies queue c x p
-  unfolding line_plan
-  malformed_planned f e h = simply K.Malformed e (h ∙ ap (refused_plan 1) (sym (ap (λ q. q.effect) h))) (λ _. tt)
-
-  pub cluster_planned : (f : Effect) → x.kind ≡ K.Cluster → p ≡ refused_plan 2 f → LinePlanned heads slots copies queue c x p
-  unfolding line_plan
-  cluster_planned f e h = simply K.Cluster e (h ∙ ap (refused_plan 2) (sym (ap (λ q. q.effect) h))) (λ _. tt)
 
   pub elect_planned : x.kind ≡ K.Elect → p ≡ elect_in heads slots c x.first p.effect → LinePlanned heads slots copies queue c x p
   unfolding line_plan elect_at
@@ -56,44 +48,11 @@ module _ (heads slots copies queue : List ℕ) (c : Counts) (x : Line) (p : Plan
   unfolding line_plan
   lose_planned e h = simply K.Lose e h (λ _. tt)
 
-  pub get_planned : (w : Words) → x.kind ≡ K.Get → w ≡ words_of x.kind x → CallPlanned heads slots copies c x.first w p → LinePlanned heads slots copies queue c x p
-  unfolding line_plan call_at
-  get_planned w e q g =
-      let h : CallPlanned heads slots copies c x.first (words_of K.Get x) p = subst (λ v. CallPlanned heads slots copies c x.first v p) (q ∙ ap (λ k. words_of k x) e) g in
-      simply K.Get e h.is (λ _. h.effect)
+  -- a call, by the five kinds that have words
+  called : (w : Words) (k : Kind) → x.kind ≡ k → w ≡ words_of x.kind x → CallPlanned heads slots copies c x.first w p → CallPlanned heads slots copies c x.first (words_of k x) p
+  called w k e q g = subst (λ v. CallPlanned heads slots copies c x.first v p) (q ∙ ap (λ k. words_of k x) e) g
 
-  pub set_planned : (w : Words) → x.kind ≡ K.Set → w ≡ words_of x.kind x → CallPlanned heads slots copies c x.first w p → LinePlanned heads slots copies queue c x p
-  unfolding line_plan call_at
-  set_planned w e q g =
-      let h : CallPlanned heads slots copies c x.first (words_of K.Set x) p = subst (λ v. CallPlanned heads slots copies c x.first v p) (q ∙ ap (λ k. words_of k x) e) g in
-      simply K.Set e h.is (λ _. h.effect)
-
-  pub setif_planned : (w : Words) → x.kind ≡ K.SetIf → w ≡ words_of x.kind x → CallPlanned heads slots copies c x.first w p → LinePlanned heads slots copies queue c x p
-  unfolding line_plan call_at
-  setif_planned w e q g =
-      let h : CallPlanned heads slots copies c x.first (words_of K.SetIf x) p = subst (λ v. CallPlanned heads slots copies c x.first v p) (q ∙ ap (λ k. words_of k x) e) g in
-      simply K.SetIf e h.is (λ _. h.effect)
-
-  pub del_planned : (w : Words) → x.kind ≡ K.Del → w ≡ words_of x.kind x → CallPlanned heads slots copies c x.first w p → LinePlanned heads slots copies queue c x p
-  unfolding line_plan call_at
-  del_planned w e q g =
-      let h : CallPlanned heads slots copies c x.first (words_of K.Del x) p = subst (λ v. CallPlanned heads slots copies c x.first v p) (q ∙ ap (λ k. words_of k x) e) g in
-      simply K.Del e h.is (λ _. h.effect)
-
-  pub keys_planned : (w : Words) → x.kind ≡ K.Keys → w ≡ words_of x.kind x → CallPlanned heads slots copies c x.first w p → LinePlanned heads slots copies queue c x p
-  unfolding line_plan call_at
-  keys_planned w e q g =
-      let h : CallPlanned heads slots copies c x.first (words_of K.Keys x) p = subst (λ v. CallPlanned heads slots copies c x.first v p) (q ∙ ap (λ k. words_of k x) e) g in
-      simply K.Keys e h.is (λ _. h.effect)
-
-  -- messages that are handed over have no plan
-  pub deliver_unplanned : x.kind ≡ K.Deliver → route_of x.kind ≡ 2 → LinePlanned heads slots copies queue c x p
-  unfolding route_of
-  deliver_unplanned e h = let z : route_of K.Deliver ≡ 2 = ap route_of (sym e) ∙ h in absurd (omega (arith, z))
-
-  pub copy_unplanned : x.kind ≡ K.Copy → route_of x.kind ≡ 2 → LinePlanned heads slots copies queue c x p
-  unfolding route_of
-  copy_unplanned e h = let z : route_of K.Copy ≡ 2 = ap route_of (sym e) ∙ h in absurd (omega (arith, z))
+  -- @CALL
 
 -- ---- a plan looks at four of the arrays, and at a fifth only for a message that is handed over
 
@@ -177,64 +136,39 @@ module _ (m : Memory) (l : List ℕ) (x : Line) where
     effect = subst (λ k. EffectAsked m x k r.effect) (sym e) g;
   }
 
-  pub malformed_run : (r : Report) (f : Effect) (k : Kind) → x.kind ≡ k → route_of k ≡ 0
+  pub malformed_run : (r : Report) (f : Effect) → x.kind ≡ K.Malformed
       → r ≡ record { refusal = 1; answers = 0; sent = 0; copied = 0; delivered = 0; lost = 0; messages = 0; effect = f } → RanLine m l x m l r
-  unfolding run_by refused_run route_of
-  malformed_run r f K.Malformed e z h = by_kind K.Malformed e (ap (ran m l) h) (λ _. tt)
-  malformed_run r f K.Cluster e z h = absurd (omega arith)
-  malformed_run r f K.Elect e z h = absurd (omega arith)
-  malformed_run r f K.Get e z h = absurd (omega arith)
-  malformed_run r f K.Set e z h = absurd (omega arith)
-  malformed_run r f K.SetIf e z h = absurd (omega arith)
-  malformed_run r f K.Del e z h = absurd (omega arith)
-  malformed_run r f K.Keys e z h = absurd (omega arith)
-  malformed_run r f K.Deliver e z h = absurd (omega arith)
-  malformed_run r f K.Copy e z h = absurd (omega arith)
-  malformed_run r f K.Lose e z h = absurd (omega arith)
-  malformed_run r f K.Timeout e z h = absurd (omega arith)
-  malformed_run r f K.Stop e z h = absurd (omega arith)
-  malformed_run r f K.Cut e z h = absurd (omega arith)
-  malformed_run r f K.Start e z h = absurd (omega arith)
+  unfolding run_by refused_run
+  malformed_run r f e h = by_kind K.Malformed e (ap (ran m l) h) (λ _. tt)
 
-  pub cluster_run_lem : (counts heads slots copies queue : List ℕ) (r : Report) (f : Effect) (n : ℕ) (k : Kind) → x.kind ≡ k → route_of k ≡ 1
+  pub cluster_run_lem : (counts heads slots copies queue : List ℕ) (r : Report) (f : Effect) (n : ℕ) → x.kind ≡ K.Cluster
       → Clustered m.counts m.heads m.slots m.copies m.queue x.first x.second counts heads slots copies queue n
       → r ≡ record { refusal = n; answers = 0; sent = 0; copied = 0; delivered = 0; lost = 0; messages = 0; effect = f }
       → RanLine m l x (memory counts heads slots copies m.working m.texts queue m.payloads) l r
-  unfolding run_by refused_run route_of
-  cluster_run_lem counts heads slots copies queue r f n K.Cluster e z y h =
+  unfolding run_by refused_run
+  cluster_run_lem counts heads slots copies queue r f n e y h =
       by_kind K.Cluster e (ap (ran (memory counts heads slots copies m.working m.texts queue m.payloads) l) h ∙ y.is m.working m.texts m.payloads l) (λ _. tt)
-  cluster_run_lem counts heads slots copies queue r f n K.Malformed e z y h = absurd (omega arith)
-  cluster_run_lem counts heads slots copies queue r f n K.Elect e z y h = absurd (omega arith)
-  cluster_run_lem counts heads slots copies queue r f n K.Get e z y h = absurd (omega arith)
-  cluster_run_lem counts heads slots copies queue r f n K.Set e z y h = absurd (omega arith)
-  cluster_run_lem counts heads slots copies queue r f n K.SetIf e z y h = absurd (omega arith)
-  cluster_run_lem counts heads slots copies queue r f n K.Del e z y h = absurd (omega arith)
-  cluster_run_lem counts heads slots copies queue r f n K.Keys e z y h = absurd (omega arith)
-  cluster_run_lem counts heads slots copies queue r f n K.Deliver e z y h = absurd (omega arith)
-  cluster_run_lem counts heads slots copies queue r f n K.Copy e z y h = absurd (omega arith)
-  cluster_run_lem counts heads slots copies queue r f n K.Lose e z y h = absurd (omega arith)
-  cluster_run_lem counts heads slots copies queue r f n K.Timeout e z y h = absurd (omega arith)
-  cluster_run_lem counts heads slots copies queue r f n K.Stop e z y h = absurd (omega arith)
-  cluster_run_lem counts heads slots copies queue r f n K.Cut e z y h = absurd (omega arith)
-  cluster_run_lem counts heads slots copies queue r f n K.Start e z y h = absurd (omega arith)
 
-  pub other_run : (m' : Memory) (l' : List ℕ) (r : Report) (k : Kind) → x.kind ≡ k → (route_of k ≡ 0 → ⊥) → (route_of k ≡ 1 → ⊥) → RanPlan m l x m' l' r → RanLine m l x m' l' r
-  unfolding run_by route_of
-  other_run m' l' r K.Malformed e z y h = absurd (z refl)
-  other_run m' l' r K.Cluster e z y h = absurd (y refl)
-  other_run m' l' r K.Elect e z y h = by_kind K.Elect e h.is (subst (λ k. EffectAsked m x k r.effect) e h.effect)
-  other_run m' l' r K.Get e z y h = by_kind K.Get e h.is (subst (λ k. EffectAsked m x k r.effect) e h.effect)
-  other_run m' l' r K.Set e z y h = by_kind K.Set e h.is (subst (λ k. EffectAsked m x k r.effect) e h.effect)
-  other_run m' l' r K.SetIf e z y h = by_kind K.SetIf e h.is (subst (λ k. EffectAsked m x k r.effect) e h.effect)
-  other_run m' l' r K.Del e z y h = by_kind K.Del e h.is (subst (λ k. EffectAsked m x k r.effect) e h.effect)
-  other_run m' l' r K.Keys e z y h = by_kind K.Keys e h.is (subst (λ k. EffectAsked m x k r.effect) e h.effect)
-  other_run m' l' r K.Deliver e z y h = by_kind K.Deliver e h.is (subst (λ k. EffectAsked m x k r.effect) e h.effect)
-  other_run m' l' r K.Copy e z y h = by_kind K.Copy e h.is (subst (λ k. EffectAsked m x k r.effect) e h.effect)
-  other_run m' l' r K.Lose e z y h = by_kind K.Lose e h.is (subst (λ k. EffectAsked m x k r.effect) e h.effect)
-  other_run m' l' r K.Timeout e z y h = by_kind K.Timeout e h.is (subst (λ k. EffectAsked m x k r.effect) e h.effect)
-  other_run m' l' r K.Stop e z y h = by_kind K.Stop e h.is (subst (λ k. EffectAsked m x k r.effect) e h.effect)
-  other_run m' l' r K.Cut e z y h = by_kind K.Cut e h.is (subst (λ k. EffectAsked m x k r.effect) e h.effect)
-  other_run m' l' r K.Start e z y h = by_kind K.Start e h.is (subst (λ k. EffectAsked m x k r.effect) e h.effect)
+  other_run : (m' : Memory) (l' : List ℕ) (r : Report) (k : Kind) → x.kind ≡ k → is_planned k ≡ true → RanPlan m l x m' l' r → RanLine m l x m' l' r
+  unfolding run_by is_planned
+  other_run m' l' r K.Malformed e z h = cc
+  other_run m' l' r K.Cluster e z h = cc
+  other_run m' l' r K.Elect e z h = by_kind K.Elect e h.is (subst (λ k. EffectAsked m x k r.effect) e h.effect)
+  other_run m' l' r K.Get e z h = by_kind K.Get e h.is (subst (λ k. EffectAsked m x k r.effect) e h.effect)
+  other_run m' l' r K.Set e z h = by_kind K.Set e h.is (subst (λ k. EffectAsked m x k r.effect) e h.effect)
+  other_run m' l' r K.SetIf e z h = by_kind K.SetIf e h.is (subst (λ k. EffectAsked m x k r.effect) e h.effect)
+  other_run m' l' r K.Del e z h = by_kind K.Del e h.is (subst (λ k. EffectAsked m x k r.effect) e h.effect)
+  other_run m' l' r K.Keys e z h = by_kind K.Keys e h.is (subst (λ k. EffectAsked m x k r.effect) e h.effect)
+  other_run m' l' r K.Deliver e z h = cc
+  other_run m' l' r K.Copy e z h = cc
+  other_run m' l' r K.Lose e z h = by_kind K.Lose e h.is (subst (λ k. EffectAsked m x k r.effect) e h.effect)
+  other_run m' l' r K.Timeout e z h = by_kind K.Timeout e h.is (subst (λ k. EffectAsked m x k r.effect) e h.effect)
+  other_run m' l' r K.Stop e z h = by_kind K.Stop e h.is (subst (λ k. EffectAsked m x k r.effect) e h.effect)
+  other_run m' l' r K.Cut e z h = by_kind K.Cut e h.is (subst (λ k. EffectAsked m x k r.effect) e h.effect)
+  other_run m' l' r K.Start e z h = by_kind K.Start e h.is (subst (λ k. EffectAsked m x k r.effect) e h.effect)
+
+  pub planned_run_of : (m' : Memory) (l' : List ℕ) (r : Report) → is_planned x.kind ≡ true → RanPlan m l x m' l' r → RanLine m l x m' l' r
+  planned_run_of m' l' r = other_run m' l' r x.kind refl
 
   -- the run of the plan that a kind makes
   abbrev run_as : Kind → Effect → Ran
@@ -242,29 +176,11 @@ module _ (m : Memory) (l : List ℕ) (x : Line) where
       let c = counts_at m.counts in
       elim (standing c) [ true ↦ executed m l c (line_plan k m c x f) | false ↦ refused_run m l 2 ]
 
-  -- a message that is handed over
-  hands_by : (m' : Memory) (l' : List ℕ) (r : Report) (k : Kind) → x.kind ≡ k → (route_of k ≡ 0 → ⊥) → (route_of k ≡ 1 → ⊥) → (route_of k ≡ 2 → ⊥)
-      → HandRan m l x.first (eqb (route_of k) 3) m' l' r → RanLine m l x m' l' r
-  unfolding run_by route_of planned_run line_plan
-  hands_by m' l' r K.Deliver e z y w h =
-      by_kind K.Deliver e (h.is ∙ ap (λ k. run_as k r.effect) (sym e)) h.effect
-  hands_by m' l' r K.Copy e z y w h =
-      by_kind K.Copy e (h.is ∙ ap (λ k. run_as k r.effect) (sym e)) h.effect
-  hands_by m' l' r K.Malformed e z y w h = absurd (z refl)
-  hands_by m' l' r K.Cluster e z y w h = absurd (y refl)
-  hands_by m' l' r K.Elect e z y w h = absurd (w refl)
-  hands_by m' l' r K.Get e z y w h = absurd (w refl)
-  hands_by m' l' r K.Set e z y w h = absurd (w refl)
-  hands_by m' l' r K.SetIf e z y w h = absurd (w refl)
-  hands_by m' l' r K.Del e z y w h = absurd (w refl)
-  hands_by m' l' r K.Keys e z y w h = absurd (w refl)
-  hands_by m' l' r K.Lose e z y w h = absurd (w refl)
-  hands_by m' l' r K.Timeout e z y w h = absurd (w refl)
-  hands_by m' l' r K.Stop e z y w h = absurd (w refl)
-  hands_by m' l' r K.Cut e z y w h = absurd (w refl)
-  hands_by m' l' r K.Start e z y w h = absurd (w refl)
+  -- a message that is handed over, which leaves the list or stays
+  pub deliver_run : (m' : Memory) (l' : List ℕ) (r : Report) → x.kind ≡ K.Deliver → HandRan m l x.first true m' l' r → RanLine m l x m' l' r
+  unfolding run_by planned_run line_plan
+  deliver_run m' l' r e h = by_kind K.Deliver e (h.is ∙ ap (λ k. run_as k r.effect) (sym e)) h.effect
 
-  -- n is the number of the line's route
-  pub hand_run : (m' : Memory) (l' : List ℕ) (r : Report) (n : ℕ) → n ≡ route_of x.kind → (n ≡ 0 → ⊥) → (n ≡ 1 → ⊥) → (n ≡ 2 → ⊥) → HandRan m l x.first (eqb n 3) m' l' r → RanLine m l x m' l' r
-  hand_run m' l' r n e z y w h =
-      hands_by m' l' r x.kind refl (λ s. z (e ∙ s)) (λ s. y (e ∙ s)) (λ s. w (e ∙ s)) (subst (λ n. HandRan m l x.first (eqb n 3) m' l' r) e h)
+  pub copy_run : (m' : Memory) (l' : List ℕ) (r : Report) → x.kind ≡ K.Copy → HandRan m l x.first false m' l' r → RanLine m l x m' l' r
+  unfolding run_by planned_run line_plan
+  copy_run m' l' r e h = by_kind K.Copy e (h.is ∙ ap (λ k. run_as k r.effect) (sym e)) h.effect

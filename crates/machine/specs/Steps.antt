@@ -126,38 +126,13 @@ pub record LinePlanned (heads slots copies queue : List ℕ) (c : Counts) (x : L
   pub is : p ≡ line_plan x.kind (seen heads slots copies [] queue) c x p.effect
   pub effect : (texts : List ℕ) → EffectOf x.kind (seen heads slots copies texts queue) c x p.effect
 
--- how a line is run: refused at once; a cluster made; planned, then carried out; a message handed over, which leaves the list or stays
-abbrev pub malformed_line : ℕ
-malformed_line = 0
-
-abbrev pub cluster_line : ℕ
-cluster_line = 1
-
-abbrev pub planned_line : ℕ
-planned_line = 2
-
-abbrev pub deliver_line : ℕ
-deliver_line = 3
-
-abbrev pub copy_line : ℕ
-copy_line = 4
-
-unfoldable pub route_of : Kind → ℕ
-route_of K.Malformed = malformed_line
-route_of K.Cluster = cluster_line
-route_of K.Elect = planned_line
-route_of K.Get = planned_line
-route_of K.Set = planned_line
-route_of K.SetIf = planned_line
-route_of K.Del = planned_line
-route_of K.Keys = planned_line
-route_of K.Deliver = deliver_line
-route_of K.Copy = copy_line
-route_of K.Lose = planned_line
-route_of K.Timeout = planned_line
-route_of K.Stop = planned_line
-route_of K.Cut = planned_line
-route_of K.Start = planned_line
+-- whether a line of this kind is planned: it needs a cluster and hands no message over
+unfoldable pub is_planned : Kind → Bool
+is_planned K.Malformed = false
+is_planned K.Cluster = false
+is_planned K.Deliver = false
+is_planned K.Copy = false
+is_planned _ = true
 
 -- the arrays after a cluster line that is refused with r, or taken with 0
 pub record Clustered (counts heads slots copies queue : List ℕ) (n b : ℕ) (counts' heads' slots' copies' queue' : List ℕ) (r : ℕ) : Type 0 where

@@ -26,7 +26,6 @@ use refusals::codes::NONE;
 use refusals::send_count;
 use runs::Report;
 use server::Effect;
-use std::num::wrapping_add_u32;
 use steps::contents::fill_work;
 use steps::locals::move_server;
 
@@ -51,13 +50,11 @@ fn next_counts(cluster: Counts, messages: usize, calls: u32) -> Counts
     requires { messages ≤ message_room }
     ensures { result ≡ next_counts cluster messages calls }
 {
-    let lines = wrapping_add_u32(cluster.lines, 1);
     Counts {
-        servers: cluster.servers,
-        buckets: cluster.buckets,
         messages: messages as u32,
-        lines,
+        lines: cluster.lines.wrapping_add(1),
         calls,
+        ..cluster
     }
 }
 
@@ -242,14 +239,10 @@ pub fn lose(
     );
     store_counts(counts, next_counts(cluster, count, step.calls));
     Report {
-        refusal: NONE,
-        answers: 0,
-        sent: 0,
         copied: step.copied,
-        delivered: 0,
         lost: 1,
         messages: count as u32,
-        effect,
+        ..bare_report(NONE, effect)
     }
 }
 
@@ -258,12 +251,9 @@ fn take(slots: &mut SlotWords, texts: &mut TextBytes, plan: Plan)
     requires { (plan.step.server < server_room) × (plan.step.bucket < bucket_room) }
     ensures { Took (was slots) (was texts) plan (is slots) (is texts) }
 {
-    let step = plan.step;
-    let words = plan.words;
     if plan.takes {
-        let slot = slot_of(step.server as usize, step.bucket as usize);
-        store_words(slots, texts, slot, words);
-        return;
+        let slot = slot_of(plan.step.server as usize, plan.step.bucket as usize);
+        store_words(slots, texts, slot, plan.words);
     }
 }
 

@@ -26,7 +26,6 @@ use refusals::codes::NONE;
 use refusals::send_count;
 use runs::Report;
 use server::Effect;
-use std::num::wrapping_add_u32;
 
 pub mod fresh;
 
@@ -43,13 +42,11 @@ fn next_counts(cluster: Counts, messages: usize, calls: u32) -> Counts
     requires { messages ≤ message_room }
     ensures { result ≡ next_counts cluster messages calls }
 {
-    let lines = wrapping_add_u32(cluster.lines, 1);
     Counts {
-        servers: cluster.servers,
-        buckets: cluster.buckets,
         messages: messages as u32,
-        lines,
+        lines: cluster.lines.wrapping_add(1),
         calls,
+        ..cluster
     }
 }
 
@@ -117,12 +114,10 @@ fn carry_on(
     let written = change_server(words, bytes, answers, cluster, step, next, place);
     let count = change_flight(words, bytes, cluster, step, next);
     store_counts(words, next_counts(cluster, count, step.calls));
-    let sent = send_count(cluster.servers, next.sends);
-    let messages = count as u32;
     Told {
         answers: written,
-        sent,
-        messages,
+        sent: send_count(cluster.servers, next.sends),
+        messages: count as u32,
     }
 }
 
@@ -168,7 +163,6 @@ pub fn lose(words: &mut Words, bytes: &Bytes, cluster: Counts, step: Step, effec
 {
     let count = leave(words, bytes, cluster, step);
     store_counts(words, next_counts(cluster, count, step.calls));
-    let messages = count as u32;
     Report {
         refusal: NONE,
         answers: 0,
@@ -176,7 +170,7 @@ pub fn lose(words: &mut Words, bytes: &Bytes, cluster: Counts, step: Step, effec
         copied: step.copied,
         delivered: 0,
         lost: 1,
-        messages,
+        messages: count as u32,
         effect,
     }
 }
@@ -186,11 +180,8 @@ pub fn take(words: &mut Words, bytes: &mut Bytes, plan: Plan)
     requires { (plan.step.server < server_room) × (plan.step.bucket < bucket_room) }
     ensures { new_memory words bytes ≡ taken (old_memory words bytes) plan }
 {
-    let step = plan.step;
-    let call = plan.words;
     if plan.takes {
-        let slot = slot_of(step.server as usize, step.bucket as usize);
-        store_words(words, bytes, slot, call);
-        return;
+        let slot = slot_of(plan.step.server as usize, plan.step.bucket as usize);
+        store_words(words, bytes, slot, plan.words);
     }
 }

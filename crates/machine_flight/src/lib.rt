@@ -75,9 +75,10 @@ fn reply_of(me: u32, asked: Message, next: Move) -> Message
 fn message_to(message: Message, receiver: u32) -> Message
     ensures { result ≡ message_to message receiver }
 {
-    let mut addressed = message;
-    addressed.receiver = receiver;
-    addressed
+    Message {
+        receiver,
+        ..message
+    }
 }
 
 // A message goes to one server, with content `content` of the bytes, unless that server is its sender.
@@ -112,10 +113,8 @@ fn send_all(
     ensures { Flies words bytes (spread (old_content bytes content) message servers (old_flight words bytes count)) result }
 {
     let mut sent = count;
-    let mut receiver = 0;
-    while receiver < servers {
+    for receiver in 0..servers {
         sent = send_to(words, bytes, sent, message, receiver, content);
-        receiver += 1;
     }
     sent
 }

@@ -22,7 +22,7 @@ use Rattle.cells.proofs.Laws.{begin_is}
 use Rattle.server.specs.declared.Version.{Version}
 use Rattle.server.specs.declared.Call.{Call}
 use Rattle.server.specs.declared.Effect.{Effect}
-use Rattle.server.specs.Views.{flag_in, copy_in, among, round_in, taken_in, call_in, result_in, effect_in, chosen}
+use Rattle.server.specs.Views.{flag_in, copy_in, among, round_in, taken_in, call_in, result_in, effect_in}
 use Rattle.rounds.specs.Rounds.{no_version, pick_version, pick_table}
 use Rattle.open_calls.specs.Calls.{version_of, next_version_of}
 use Rattle.moves.specs.declared.Local.{Local}
@@ -272,7 +272,7 @@ own_write_alone : (b : ℕ) (a : Asked) (r : Local) (t : Tables) (words : calls.
     → Room 1 r → r.version.counter + 1 < 2 ^ 32 → among 5 r.call.kind ≡ true
     → opening_round 1 0 b cluster.own_write (writing (cluster.copy_of (cluster.version r.head.number (r.version.counter + 1)) t.made)) (finishing calls.done) (front_in 1 r.head) (cell_with o r t.copy words)
     ≡ move_in 1 0 b a (own_alone 0 r) t words v u
-unfolding writing_move finished_move chosen copy_after work_after sends_in round_in among result_in
+unfolding writing_move finished_move copy_after work_after sends_in round_in among result_in
 own_write_alone b a r t words v u o room counter live =
     let w = next_version_of r.head.number r.version in
     let x = front_in 1 r.head in

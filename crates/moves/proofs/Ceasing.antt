@@ -15,6 +15,8 @@ use Rattle.server.specs.declared.Version.{Version}
 use Rattle.server.specs.Views.{beside_in, role_in, call_in}
 use Rattle.server.proofs.HeadLaws.{ceased_means}
 use Rattle.moves.specs.declared.Local.{Local}
+use Rattle.moves.specs.declared.Filling.TheVariants as filling
+use Rattle.moves.specs.declared.Keeping.{Keeping}
 use Rattle.moves.specs.declared.Move.{Move}
 use Rattle.moves.specs.Moves.{no_answer, quiet, ceasing, stepped_down}
 use Rattle.moves.specs.Reactions.{front_in, cell_in, Seen, Tables, work_after, copy_after, Asked, sends_in, answers_in, moved_server, server_after, answers_after, reaction_in}
@@ -47,12 +49,12 @@ module _ (n me b : ℕ) (a : Asked) (s : cluster.Server) (l : Local) (t : Tables
       ∙ ap₂ (λ z out. reaction z [] out) (sym (ceased_means n (beside_in s1) l.head seen.votes)) (ap endings (calls_kept n b s l t words seen))
 
 -- a move that replies with a message of this kind and version, and with `keeps` may store the message's content
-abbrev pub reply_with : ℕ → Version → ℕ → Local → Move
-reply_with kind w keeps l = record { local = l; sends = kind; written = w; fills = 0; keeps = keeps; answer = no_answer; ceases = false; forgets = false }
+abbrev pub reply_with : ℕ → Version → Keeping → Local → Move
+reply_with kind w keeps l = record { local = l; sends = kind; written = w; fills = filling.Stays; keeps = keeps; answer = no_answer; ceases = false; forgets = false }
 
 -- a server that steps down, or not, once it replied; its calls are left as they were
 pub stepped_down_means : (n me b : ℕ) (a : Asked) (s : cluster.Server) (t : Tables) (words : calls.Words) (v : List ℕ) (u : List Entry)
-    (kind : ℕ) (w : Version) (keeps : ℕ) (l : Local)
+    (kind : ℕ) (w : Version) (keeps : Keeping) (l : Local)
     → length l.head.votes ≡ 7 → set s.volatile.calls b (call_in l.call words) ≡ s.volatile.calls
     → let m = reply_with kind w keeps l in
     let r = step_down (moved_server n b m t words s) in

@@ -1,6 +1,6 @@
 -- A round that a move opens stands for the one that the definitions of crates/model open, at a front and a cell.
 use mathlib.Core.Path.{◌≡◌, refl, sym, ap, ap₂, ◌∙◌}
-use mathlib.Core.Bool.{Bool, true, false}
+use mathlib.Core.Bool.{Bool, true, false, cond}
 use mathlib.Core.List.{List, [], map}
 use mathlib.Core.Option.{Option, some}
 use Prim.Native.Nat.{ℕ, zero, suc, ◌+◌, ◌≤◌, ◌<◌, ◌%◌, ◌^◌, min}
@@ -20,12 +20,13 @@ use Rattle.cells.specs.Cells.{Front, Cell}
 use Rattle.cells.specs.Cells as cells
 use Rattle.cells.specs.Moves.{finishing, keeping, round_for, front_after, cell_after, opening_round}
 use Rattle.server.specs.declared.Version.{Version}
-use Rattle.server.specs.Views.{mark_in, purpose_in, copy_in, among, round_in, call_in, result_in, chosen}
+use Rattle.server.specs.Views.{mark_in, purpose_in, copy_in, among, round_in, call_in, result_in}
 use Rattle.server.proofs.Counting.{set_viewed, replicate_viewed}
 use Rattle.rounds.specs.Rounds.{opened_head, reported, pick_version, pick_table}
 use Rattle.open_calls.specs.Calls.{one_more_of, version_of, next_version_of}
 use Rattle.open_calls.proofs.CallLaws.{one_more_means}
 use Rattle.moves.specs.declared.Local.{Local}
+use Rattle.moves.specs.declared.Keeping.TheVariants as keeping
 use Rattle.moves.specs.declared.Move.{Move}
 use Rattle.moves.specs.Moves.{reading_move, stores, writing_move, finished_move, own_write_move, recovery_move}
 use Rattle.moves.specs.Reactions.{front_in, best_in, cell_in, Tables, Asked, work_after, copy_after, sends_in, answers_in, idled, moved_server, server_after, answers_after, reaction_in}
@@ -166,8 +167,8 @@ waits n me b u q next f c lo mine = rw (opening_round, stays_open n me u f c lo 
 
 -- the copy's table after a write, by whether it is stored
 pub stored_table : (z : Bool) (t : Tables) (w : List Entry)
-    → ◌≡◌ {A = List Entry} (elim (eqb (chosen z 1 0) 1) [ true ↦ w | false ↦ elim (eqb (chosen z 1 0) 2) [ true ↦ t.message | false ↦ t.copy ] ]) (pick_table z w t.copy)
-unfolding chosen pick_table
+    → ◌≡◌ {A = List Entry} (elim (cond z keeping.Working keeping.Stays) [ keeping.Stays ↦ t.copy | keeping.Working ↦ w | keeping.Message ↦ t.message ]) (pick_table z w t.copy)
+unfolding pick_table
 stored_table true t w = refl
 stored_table false t w = refl
 
@@ -184,14 +185,14 @@ module _ (n me b : ℕ) (a : Asked) (l : Local) (t : Tables) (words : calls.Word
     (lo : 2 ≤ n) (hi : n ≤ 7) (mine : me < n) (last : l.head.last + 1 < 2 ^ 32) (rounds : l.call.rounds + 1 < 2 ^ 32) where
   pub recovery_read_waits : opening_round n me b cluster.recovery_read reading next (front_in n l.head) (cell_with o l t.copy words)
       ≡ move_in n me b a (reading_move me 1 l) t words v u
-  unfolding reading_move chosen copy_after work_after sends_in answers_in request_body
+  unfolding reading_move copy_after work_after sends_in answers_in request_body
   recovery_read_waits =
       waits n me b cluster.recovery_read reading next (front_in n l.head) (cell_with o l t.copy words) lo mine
       ∙ moved n me b reading l last (front_opened n me l hi last) (recovery_read_cell n me l hi last o t.copy words rounds)
 
   pub check_waits : opening_round n me b cluster.check reading next (front_in n l.head) (cell_with o l t.copy words)
       ≡ move_in n me b a (reading_move me 3 l) t words v u
-  unfolding reading_move chosen copy_after work_after sends_in answers_in request_body
+  unfolding reading_move copy_after work_after sends_in answers_in request_body
   check_waits =
       waits n me b cluster.check reading next (front_in n l.head) (cell_with o l t.copy words) lo mine
       ∙ moved n me b reading l last (front_opened n me l hi last) (check_cell n me l hi last o t.copy t.work words rounds)
@@ -200,7 +201,7 @@ module _ (n me b : ℕ) (a : Asked) (l : Local) (t : Tables) (words : calls.Word
   pub recovery_write_waits :
       opening_round n me b cluster.recovery_write (writing (cluster.copy_of (cluster.version l.head.number 1) t.work)) next (front_in n l.head) (cell_with o l t.copy words)
       ≡ move_in n me b a (recovery_move me l) t words v u
-  unfolding writing_move chosen copy_after work_after sends_in answers_in request_body
+  unfolding writing_move copy_after work_after sends_in answers_in request_body
   recovery_write_waits =
       let w = version_of l.head.number 1 in
       let q = writing (copy_in w t.work) in
@@ -213,7 +214,7 @@ module _ (n me b : ℕ) (a : Asked) (l : Local) (t : Tables) (words : calls.Word
   pub own_write_waits : l.version.counter + 1 < 2 ^ 32
       → opening_round n me b cluster.own_write (writing (cluster.copy_of (cluster.version l.head.number (l.version.counter + 1)) t.made)) next (front_in n l.head) (cell_with o l t.copy words)
       ≡ move_in n me b a (own_write_move me l) t words v u
-  unfolding writing_move chosen copy_after work_after sends_in answers_in request_body
+  unfolding writing_move copy_after work_after sends_in answers_in request_body
   own_write_waits counter =
       let w = next_version_of l.head.number l.version in
       let q = writing (copy_in w t.made) in

@@ -23,7 +23,7 @@ use Rattle.server.specs.declared.Counted.{Counted}
 use Rattle.server.specs.declared.Effect.{Effect}
 use Rattle.server.specs.declared.Message.{Message}
 use Rattle.server.specs.declared.Handling.TheVariants.{Reply}
-use Rattle.server.specs.Views.{purpose_in, version_in, copy_in, among, open_in, round_in, mark_in, result_in, effect_in, chosen}
+use Rattle.server.specs.Views.{purpose_in, version_in, copy_in, among, open_in, round_in, mark_in, result_in, effect_in}
 use Rattle.rounds.specs.Rounds.{no_version, pick_version, pick_table, improves, is_silent, counted_with, counted_of, matching}
 use Rattle.rounds.proofs.RoundLaws.{fresh_below, counted_means, matching_shut, unmatched, matched}
 use Rattle.moves.specs.declared.Local.{Local}
@@ -90,14 +90,14 @@ fetched_into better t = record { copy = t.copy; work = pick_table better t.messa
 
 module _ (n me b : ℕ) (a : Asked) (l : Local) (t : Tables) (words : calls.Words) (v : List ℕ) (u : List Entry) where
   fetched_quiet : (better : Bool) → move_in n me b a (quiet l) (fetched_into better t) words v u ≡ move_in n me b a (fetching better (quiet l)) t words v u
-  unfolding fetching chosen work_after copy_after sends_in pick_table
+  unfolding fetching work_after copy_after sends_in pick_table
   fetched_quiet true = refl
   fetched_quiet false = refl
 
   -- only a recovery fetches
   fetched_closed : (result : ℕ) (better : Bool) → (better ≡ true → eqb l.round.purpose 1 ≡ true)
       → move_in n me b a (closed_move me result l) (fetched_into better t) words v u ≡ move_in n me b a (fetching better (closed_move me result l)) t words v u
-  unfolding fetching chosen work_after copy_after sends_in pick_table closed_move writing_move
+  unfolding fetching work_after copy_after sends_in pick_table closed_move writing_move
   fetched_closed result true h = rw (closed_move, h refl)
   fetched_closed result false h = refl
 

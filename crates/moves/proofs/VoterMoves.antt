@@ -1,6 +1,6 @@
 -- What others ask of a server, as a voter and as a replica: votes, reads and writes as moves.
 use mathlib.Core.Path.{◌≡◌, refl, sym, ap, ap₂, ◌∙◌}
-use mathlib.Core.Bool.{Bool, true, false}
+use mathlib.Core.Bool.{Bool, true, false, cond}
 use mathlib.Core.List.{List, [], ◌∷◌}
 use Prim.Native.Nat.{ℕ}
 use lib.ListN.{set}
@@ -17,6 +17,7 @@ use Rattle.server.specs.Views.{beside_in, stored_in, copy_in, chosen}
 use Rattle.server.specs.Heads.{voting_head, after_vote_head}
 use Rattle.server.proofs.HeadLaws.{after_vote_means}
 use Rattle.rounds.specs.Rounds.{pick_version, no_version}
+use Rattle.moves.specs.declared.Keeping.TheVariants as keeping
 use Rattle.moves.specs.declared.Local.{Local}
 use Rattle.moves.specs.Moves.{with_head, sending, stepped_down, stores, vote_move, read_request_move, write_request_move, request_move}
 use Rattle.moves.specs.Reactions.{front_in, cell_in, Seen, Tables, work_after, copy_after, body_in, message_in, Asked, asked_in, reply_in}
@@ -34,8 +35,8 @@ vote_reply n me b a l t false = refl
 kept_copy : (x : Message) (l : Local) (t : Tables) (z : Bool)
     → ◌≡◌ {A = cluster.Copy}
     (elim z [ true ↦ copy_in x.version t.message | false ↦ copy_in l.version t.copy ])
-    (copy_in (pick_version z x.version l.version) (copy_after (reply_with 5 no_version (chosen z 2 0) l) t))
-unfolding pick_version copy_after chosen
+    (copy_in (pick_version z x.version l.version) (copy_after (reply_with 5 no_version (cond z keeping.Message keeping.Stays) l) t))
+unfolding pick_version copy_after
 kept_copy x l t true = refl
 kept_copy x l t false = refl
 
@@ -50,7 +51,7 @@ module _ (n me b : ℕ) (x : Message) (s : cluster.Server) (l : Local) (t : Tabl
       let after = after_vote_means x.election x.sender n (beside_in s1) l.head in
       ap (on_please_vote me (message_in x t.message)) (seen_itself n b s l t words seen)
       ∙ (ap₂ (λ z ms. reaction (step_down z).server ms (step_down z).answers) (sym after) (vote_reply n me b (asked_in x) (with_head h1 l) t given)
-      ∙ stepped_down_means n me b (asked_in x) s t words v u (chosen given 2 3) no_version 0 (with_head h1 l) seen.votes (calls_kept n b s l t words seen))
+      ∙ stepped_down_means n me b (asked_in x) s t words v u (chosen given 2 3) no_version keeping.Stays (with_head h1 l) seen.votes (calls_kept n b s l t words seen))
 
   -- the request under the message's number is refused
   abbrev refused_by : Request → Reaction
@@ -76,7 +77,7 @@ module _ (n me b : ℕ) (x : Message) (s : cluster.Server) (l : Local) (t : Tabl
   unfolding accepting acknowledging work_after copy_after sends_in body_in
   read_accepted same =
       ap reporting (copy_read same)
-      ∙ stepped_down_means n me b (asked_in x) s t words v u 8 l.version 0 (with_head (voting_head x.election x.sender l.head) l) seen.votes (calls_kept n b s l t words seen)
+      ∙ stepped_down_means n me b (asked_in x) s t words v u 8 l.version keeping.Stays (with_head (voting_head x.election x.sender l.head) l) seen.votes (calls_kept n b s l t words seen)
 
   write_stored : b ≡ x.bucket
       → accepting x.bucket x.election x.sender (writing (copy_in x.version t.message)) (placed n b l t words s).stored
@@ -98,7 +99,7 @@ module _ (n me b : ℕ) (x : Message) (s : cluster.Server) (l : Local) (t : Tabl
   unfolding acknowledging work_after sends_in body_in
   write_accepted same =
       ap acknowledging_with (write_stored same)
-      ∙ stepped_down_means n me b (asked_in x) s t words v u 5 no_version (chosen (stores x.version l) 2 0) (write_request_move x l).local seen.votes (calls_kept n b s l t words seen)
+      ∙ stepped_down_means n me b (asked_in x) s t words v u 5 no_version (cond (stores x.version l) keeping.Message keeping.Stays) (write_request_move x l).local seen.votes (calls_kept n b s l t words seen)
 
   -- a request is refused below the vote, and accepted otherwise
   request_by : (q : Request) (writes : Bool)

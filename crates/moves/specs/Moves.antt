@@ -1,6 +1,6 @@
 -- What each step makes of a server's head and of one slot, number by number. The laws in proofs/ tie each to the
 -- definition of the same name (crates/model/specs/Leader.antt). A number that is raised wraps at 2 ^ 32.
-use Rattle.std.specs.Prelude.{Bool, true, false, [], ℕ, eqb, ltb, leb, replicate}
+use Rattle.std.specs.Prelude.{Bool, true, false, [], ℕ, eqb, ltb, leb, replicate, if◌then◌else◌}
 use Rattle.model.specs.Cluster as cluster
 use Rattle.model.specs.Replica.{grants, may_accept}
 use Rattle.model.specs.Leader.{acts, closes, fails}
@@ -18,6 +18,8 @@ use Rattle.server.specs.Heads.{voting_head, after_vote_head, ceased_head, electe
 use Rattle.rounds.specs.Rounds.{pick_version, no_version, round_with, new_round_of, opened_head, counted_of, matching}
 use Rattle.open_calls.specs.Calls.{one_more_of, answer_with, version_of, next_version_of}
 use Rattle.rounds.specs.Kinds.{handling_in}
+use Rattle.moves.specs.declared.Filling.TheVariants as filling
+use Rattle.moves.specs.declared.Keeping.TheVariants as keeping
 use Rattle.moves.specs.declared.Local.{Local}
 use Rattle.moves.specs.declared.Move.{Move}
 
@@ -46,7 +48,7 @@ with_call c l = local_of l.head l.version l.round c
 
 -- a step that sends a message and does nothing else: kind 0 sends nothing
 abbrev pub sending : ℕ → Version → Local → Move
-sending kind v l = record { local = l; sends = kind; written = v; fills = 0; keeps = 0; answer = no_answer; ceases = false; forgets = false }
+sending kind v l = record { local = l; sends = kind; written = v; fills = filling.Stays; keeps = keeping.Stays; answer = no_answer; ceases = false; forgets = false }
 
 abbrev pub quiet : Local → Move
 quiet l = sending 0 no_version l
@@ -60,8 +62,8 @@ reading_move me purpose l =
       local = local_of (opened_head me l.head) l.version (new_round_of me purpose l.head l.version) (one_more_of false l.call);
       sends = 7;
       written = no_version;
-      fills = chosen (eqb purpose 1) 1 0;
-      keeps = 0;
+      fills = if eqb purpose 1 then filling.Copy else filling.Stays;
+      keeps = keeping.Stays;
       answer = no_answer;
       ceases = false;
       forgets = false;
@@ -79,8 +81,8 @@ writing_move me purpose v l =
           local_of (opened_head me l.head) (pick_version (stores v l) v l.version) (new_round_of me purpose l.head l.version) (one_more_of (eqb purpose 4) l.call);
       sends = 4;
       written = v;
-      fills = chosen (eqb purpose 4) 2 0;
-      keeps = chosen (stores v l) 1 0;
+      fills = if eqb purpose 4 then filling.Table else filling.Stays;
+      keeps = if stores v l then keeping.Working else keeping.Stays;
       answer = no_answer;
       ceases = false;
       forgets = false;
@@ -93,8 +95,8 @@ finished_move result l =
       local = local_of l.head l.version no_round no_call;
       sends = 0;
       written = no_version;
-      fills = 0;
-      keeps = 0;
+      fills = filling.Stays;
+      keeps = keeping.Stays;
       answer = answer_with l.call result;
       ceases = false;
       forgets = false;
@@ -220,7 +222,7 @@ fetching better m =
       local = m.local;
       sends = m.sends;
       written = m.written;
-      fills = chosen better 3 m.fills;
+      fills = if better then filling.Message else m.fills;
       keeps = m.keeps;
       answer = m.answer;
       ceases = m.ceases;
@@ -263,8 +265,8 @@ write_request_move m l =
       local = local_of (voting_head m.election m.sender l.head) (pick_version (stores m.version l) m.version l.version) l.round l.call;
       sends = 5;
       written = no_version;
-      fills = 0;
-      keeps = chosen (stores m.version l) 2 0;
+      fills = filling.Stays;
+      keeps = if stores m.version l then keeping.Message else keeping.Stays;
       answer = no_answer;
       ceases = false;
       forgets = false;
@@ -326,8 +328,8 @@ elected_move n me l =
       local = with_head (elected_head n me l.head) l;
       sends = 1;
       written = no_version;
-      fills = 0;
-      keeps = 0;
+      fills = filling.Stays;
+      keeps = keeping.Stays;
       answer = no_answer;
       ceases = true;
       forgets = false;

@@ -15,6 +15,8 @@ use Rattle.server.specs.declared.Effect.{Effect}
 use Rattle.server.specs.declared.Message.{Message}
 use Rattle.server.specs.Views.{flag_in, role_in, votes_in, copy_in, round_in, call_in, answer_in, effect_in}
 use Rattle.rounds.specs.Rounds.{pick_table}
+use Rattle.moves.specs.declared.Filling.TheVariants as filling
+use Rattle.moves.specs.declared.Keeping.TheVariants as keeping
 use Rattle.moves.specs.declared.Local.{Local}
 use Rattle.moves.specs.declared.Move.{Move}
 use Rattle.moves.specs.Moves.{recovered}
@@ -63,15 +65,11 @@ pub record Tables : Type 0 where
 
 unfoldable pub work_after : Move → Tables → List Entry
 work_after m t =
-    elim (eqb m.fills 1) [
-      | true ↦ t.copy
-      | false ↦
-          elim (eqb m.fills 2) [ true ↦ t.made | false ↦ elim (eqb m.fills 3) [ true ↦ t.message | false ↦ t.work ] ]
-    ]
+    elim m.fills [ filling.Stays ↦ t.work | filling.Copy ↦ t.copy | filling.Table ↦ t.made | filling.Message ↦ t.message ]
 
 unfoldable pub copy_after : Move → Tables → List Entry
 copy_after m t =
-    elim (eqb m.keeps 1) [ true ↦ work_after m t | false ↦ elim (eqb m.keeps 2) [ true ↦ t.message | false ↦ t.copy ] ]
+    elim m.keeps [ keeping.Stays ↦ t.copy | keeping.Working ↦ work_after m t | keeping.Message ↦ t.message ]
 
 -- what the line of a call needs of the call's effect f on its copy's table: all of it with one server, which ends the call there, and
 -- what is written where the copy is recovered, since that goes out at once

@@ -10,6 +10,7 @@ use rounds::kinds::kind_of_message;
 use server::{Handling, Message};
 
 // A message whose kind is none of the nine changes nothing.
+#[tactic(auto, unfolding(crate::specs::Moves::handled_move, crate::specs::Moves::handling_move))]
 pub fn handled_move(servers: u32, me: u32, res: u32, message: Message, local: Local) -> Move
     ensures { result ≡ handled_move servers me res message local }
 {
@@ -24,13 +25,12 @@ pub fn handled_move(servers: u32, me: u32, res: u32, message: Message, local: Lo
 }
 
 // Whether a message closes the checking round of the slot, so that the call's effect on the table is asked for.
+#[tactic(auto, unfolding(crate::specs::Moves::reads_table, crate::specs::Moves::reads_by))]
 pub fn reads_table(servers: u32, message: Message, local: Local) -> bool
     ensures { result ≡ reads_table servers message local }
 {
     match kind_of_message(message.kind) {
-        Handling::Vote(_) => false,
-        Handling::Request { writes: _ } => false,
         Handling::Reply { mark, reports } => closes_check(servers, mark, reports, message, local),
-        Handling::Other => false,
+        Handling::Vote(_) | Handling::Request { .. } | Handling::Other => false,
     }
 }

@@ -4,7 +4,6 @@
 
 use server::{Answer, Call, Head, Round, Version};
 
-pub mod codes;
 pub mod handling;
 pub mod leading;
 pub mod nothing;
@@ -22,6 +21,28 @@ pub struct Local {
     pub call: Call,
 }
 
+// What the working content of the slot becomes.
+#[derive(Clone, Copy)]
+pub enum Filling {
+    Stays,
+    // the content of the slot's copy
+    Copy,
+    // the new table of the call's effect
+    Table,
+    // the message's content
+    Message,
+}
+
+// What the content of the slot's copy then becomes.
+#[derive(Clone, Copy)]
+pub enum Keeping {
+    Stays,
+    // the working content
+    Working,
+    // the message's content
+    Message,
+}
+
 // What a step makes of it.
 #[derive(Clone, Copy)]
 pub struct Move {
@@ -30,10 +51,8 @@ pub struct Move {
     pub sends: u32,
     // the version that REPLICA_WRITE and ACK_READ carry
     pub written: Version,
-    // what the working content of the slot becomes: WORK_STAYS, FILLS_COPY, FILLS_TABLE or FILLS_MESSAGE
-    pub fills: u32,
-    // what the copy's content then becomes: COPY_STAYS, KEEPS_WORK or KEEPS_MESSAGE
-    pub keeps: u32,
+    pub fills: Filling,
+    pub keeps: Keeping,
     // the answer to the slot's call; with NO_RESULT there is none
     pub answer: Answer,
     // whether leading ends, and with it all open calls of the server

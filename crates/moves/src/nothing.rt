@@ -15,7 +15,7 @@ pub fn no_round() -> Round
         number: 0,
         election: 0,
         best: no_version(),
-        marks: [0u32; SERVERS],
+        marks: [0; SERVERS],
     }
 }
 

@@ -1,9 +1,8 @@
 -- What each line would do, judged before anything changes. The conditions stand in the order of RULES, Refusals 3; the laws in crates/runs
 -- tie each plan to the definitions of crates/model/specs/Lines.antt.
-use Rattle.std.specs.Prelude.{ℕ, ◌+◌, ◌%◌, ◌^◌, min, Bool, true, false, replicate, ◌==◌, nat_le, nat_lt}
+use Rattle.std.specs.Prelude.{ℕ, ◌+◌, ◌%◌, ◌^◌, min, Bool, true, false, Some, None, replicate, ◌==◌, nat_le, nat_lt}
 use Rattle.hash.specs.Fnv.{bucket_of}
-use Rattle.entries.specs.declared.Item.{Item}
-use Rattle.entries.specs.Decoded.{key_bytes, no_key, absent_item}
+use Rattle.entries.specs.Decoded.{Item, key_bytes, no_key}
 use Rattle.model.specs.Measures.{max_election, max_key_bytes, max_value_bytes}
 use Rattle.server.specs.declared.Head.{Head}
 use Rattle.server.specs.declared.Message.{Message}
@@ -26,7 +25,7 @@ use Rattle.plans.specs.declared.Plan.{Plan}
 -- ---- nothing to carry out
 
 abbrev pub no_words : Words
-no_words = record { kind = 0; bucket = 0; key = no_key; expected = absent_item; value = absent_item }
+no_words = record { kind = 0; bucket = 0; key = no_key; expected = None; value = None }
 
 abbrev pub no_message : Message
 no_message = record { kind = 0; sender = 0; receiver = 0; bucket = 0; election = 0; round = 0; version = no_version }
@@ -96,7 +95,8 @@ unfoldable pub bad_key : ℕ → Bool
 bad_key k = elim (k == 0) [ true ↦ true | false ↦ nat_lt max_key_bytes k ]
 
 unfoldable pub bad_item : Item → Bool
-bad_item i = elim i.there [ true ↦ nat_lt max_value_bytes i.value.len | false ↦ false ]
+bad_item (Some v) = nat_lt max_value_bytes v.len
+bad_item None = false
 
 unfoldable pub bad_lengths : Words → Bool
 bad_lengths w =

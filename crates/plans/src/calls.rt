@@ -12,14 +12,13 @@ ghost use Rattle.views.specs.Memory.{table_at};
 ghost use Rattle.plans.specs.Plans.{bad_key, bad_item, bad_lengths, call_bucket, call_step, call_refusal, call_plan};
 ghost use Rattle.plans.specs.Arrays.{Measured, Called, CallPlanned};
 
-use crate::parts::{no_effect, no_message, refused_plan, take_plan};
+use crate::parts::{line_step, no_effect, refused_plan, take_plan};
 use crate::room::if_places_left;
 use crate::servers::load_local;
 use crate::{Plan, Step};
 use decoding::decode;
 use effects::effect;
-use entries::keys::key_length;
-use entries::{Item, KEY_ROOM, Key, VALUE_ROOM};
+use entries::{KEY_ROOM, Key, VALUE_ROOM, Value};
 use hash::bucket_of;
 use memory::{CONTENT_SIZE, CopyBytes, Counts, HeadWords, SlotWords, slot_of};
 use moves::Local;
@@ -29,99 +28,76 @@ use refusals::{inside, server_refusal};
 use server::codes::{KEYS, LEADING, NOTDONE};
 use server::kinds::is_open_call;
 use server::{Effect, Words};
-use std::num::wrapping_add_u32;
 use table::BUCKET_SIZE;
 
+#[tactic(auto, unfolding(crate::specs::Plans::bad_key))]
 fn bad_key(len: usize) -> bool
     ensures { result ≡ bad_key len }
 {
-    if len == 0 {
-        return true;
-    }
-    KEY_ROOM < len
+    len == 0 || KEY_ROOM < len
 }
 
 // A value that is there and too long.
-fn bad_item(item: Item) -> bool
+#[tactic(auto, unfolding(crate::specs::Plans::bad_item))]
+fn bad_item(item: Option<Value>) -> bool
     ensures { result ≡ bad_item item }
 {
-    let value = item.value;
-    if item.there {
-        return VALUE_ROOM < value.len;
+    match item {
+        Some(value) => VALUE_ROOM < value.len,
+        None => false,
     }
-    false
 }
 
 // 4: a key or value of wrong length.
+#[tactic(auto, unfolding(crate::specs::Plans::bad_lengths))]
 fn bad_lengths(words: Words) -> bool
     ensures { result ≡ bad_lengths words }
 {
-    let key = words.key;
-    let expected = words.expected;
-    let value = words.value;
-    if words.kind == KEYS {
-        return false;
-    }
-    if bad_key(key.len) {
-        return true;
-    }
-    if bad_item(expected) {
-        return true;
-    }
-    bad_item(value)
+    words.kind != KEYS
+        && (bad_key(words.key.len) || bad_item(words.expected) || bad_item(words.value))
 }
 
 fn key_bucket(key: Key, buckets: u32) -> u32
     ensures { result ≡ bucket_of buckets (key_bytes key) }
 {
-    let len = key_length(key);
-    let bytes = key.bytes;
-    bucket_of(&bytes[..len], buckets)
+    bucket_of(key.as_slice(), buckets)
 }
 
 // A key's bucket, or the one named.
+#[tactic(auto, unfolding(crate::specs::Plans::call_bucket))]
 fn call_bucket(cluster: Counts, words: Words) -> u32
     ensures { result ≡ call_bucket cluster words }
 {
     if words.kind == KEYS {
-        return words.bucket;
+        words.bucket
+    } else {
+        key_bucket(words.key, cluster.buckets)
     }
-    key_bucket(words.key, cluster.buckets)
 }
 
 // 5, 6, 8 and 9, or 0.
+#[tactic(auto, unfolding(crate::specs::Plans::call_refusal))]
 fn call_refusal(cluster: Counts, local: Local) -> u32
     ensures { result ≡ call_refusal cluster local }
 {
-    let head = local.head;
-    let call = local.call;
-    let refusal = server_refusal(cluster, head);
-    if refusal == NONE {
-        if head.role == LEADING {
-            return if is_open_call(call.kind) {
-                BUCKET_OCCUPIED
-            } else {
-                NONE
-            };
-        }
-        return NOT_LEADING;
+    let refusal = server_refusal(cluster, local.head);
+    if refusal != NONE {
+        refusal
+    } else if local.head.role != LEADING {
+        NOT_LEADING
+    } else if is_open_call(local.call.kind) {
+        BUCKET_OCCUPIED
+    } else {
+        NONE
     }
-    refusal
 }
 
 fn call_step(cluster: Counts, server: u32, bucket: u32) -> Step
     ensures { result ≡ call_step cluster server bucket }
 {
     Step {
-        server,
-        bucket,
-        index: 0,
-        removes: false,
-        asked: no_message(),
-        copied: 0,
-        delivered: 0,
-        lost: 0,
-        calls: wrapping_add_u32(cluster.calls, 1),
+        calls: cluster.calls.wrapping_add(1),
+        ..line_step(cluster, server, bucket)
     }
 }
 
@@ -176,9 +152,10 @@ pub fn effect_of(copies: &CopyBytes, slot: usize, words: Words) -> Effect
 fn nothing_written() -> Effect
     ensures { calls.effect_writes (effect_in result) ≡ none }
 {
-    let mut effect = no_effect();
-    effect.result = NOTDONE;
-    effect
+    Effect {
+        result: NOTDONE,
+        ..no_effect()
+    }
 }
 
 // What the line of a call needs of the call's effect; where it needs nothing, nothing is worked out.

@@ -14,13 +14,15 @@ use restarts::cuts::{can_cut, cut_move};
 use server::{Effect, Message};
 
 // The message leaves the list and counts as lost.
+#[tactic(auto, unfolding(server::specs::Views::chosen))]
 pub fn cut_step(cluster: Counts, index: u32, message: Message) -> Step
     ensures { result ≡ cut_step cluster index message }
 {
-    let mut step = message_step(cluster, index, true, message);
-    step.delivered = 0;
-    step.lost = 1;
-    step
+    Step {
+        delivered: 0,
+        lost: 1,
+        ..message_step(cluster, index, true, message)
+    }
 }
 
 // 18, or the cut after so many stores.

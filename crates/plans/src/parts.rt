@@ -6,12 +6,11 @@ ghost use Rattle.moves.specs.Moves.{no_round, no_call, local_of};
 ghost use Rattle.plans.specs.Plans.{no_words, no_message, no_step, no_head, no_move, refused_plan, line_step, move_plan, take_plan};
 
 use crate::{Plan, Step};
-use entries::keys::{no_key, no_value};
-use entries::slots::{absent, no_table};
+use entries::slots::no_table;
+use entries::{Key, Value};
 use memory::Counts;
-use moves::codes::{COPY_STAYS, WORK_STAYS};
 use moves::nothing::{no_call, no_round};
-use moves::{Local, Move};
+use moves::{Filling, Keeping, Local, Move};
 use refusals::codes::NONE;
 use rounds::opening::no_version;
 use server::codes::{FOLLOWER, NO_CALL, NO_MESSAGE, NO_RESULT, RUNNING};
@@ -22,14 +21,12 @@ use server::{Answer, Effect, Head, Message, Words};
 pub fn no_words() -> Words
     ensures { result ≡ no_words }
 {
-    let key = no_key();
-    let none = absent();
     Words {
         kind: NO_CALL,
         bucket: 0,
-        key,
-        expected: none,
-        value: none,
+        key: Key::empty(),
+        expected: None,
+        value: None,
     }
 }
 
@@ -74,7 +71,7 @@ fn no_head() -> Head
         role: FOLLOWER,
         last: 0,
         stopped: RUNNING,
-        votes: [0u32; SERVERS],
+        votes: [0; SERVERS],
     }
 }
 
@@ -102,8 +99,8 @@ pub fn no_move() -> Move
         local: no_local(),
         sends: NO_MESSAGE,
         written: no_version(),
-        fills: WORK_STAYS,
-        keeps: COPY_STAYS,
+        fills: Filling::Stays,
+        keeps: Keeping::Stays,
         answer,
         ceases: false,
         forgets: false,
@@ -114,12 +111,10 @@ pub fn no_move() -> Move
 pub fn no_effect() -> Effect
     ensures { (result.result ≡ 0) × (table_in result.table ≡ []) }
 {
-    let value = no_value();
-    let table = no_table();
     Effect {
         result: NO_RESULT,
-        value,
-        table,
+        value: Value::empty(),
+        table: no_table(),
     }
 }
 
@@ -145,13 +140,8 @@ pub fn line_step(cluster: Counts, server: u32, bucket: u32) -> Step
     Step {
         server,
         bucket,
-        index: 0,
-        removes: false,
-        asked: no_message(),
-        copied: 0,
-        delivered: 0,
-        lost: 0,
         calls: cluster.calls,
+        ..no_step()
     }
 }
 
@@ -160,13 +150,9 @@ pub fn move_plan(step: Step, next: Move, effect: Effect) -> Plan
     ensures { result ≡ move_plan step next effect }
 {
     Plan {
-        refusal: NONE,
-        loses: false,
-        takes: false,
-        words: no_words(),
         step,
         next,
-        effect,
+        ..refused_plan(NONE, effect)
     }
 }
 
@@ -175,12 +161,8 @@ pub fn take_plan(step: Step, words: Words, next: Move, effect: Effect) -> Plan
     ensures { result ≡ take_plan step words next effect }
 {
     Plan {
-        refusal: NONE,
-        loses: false,
         takes: true,
         words,
-        step,
-        next,
-        effect,
+        ..move_plan(step, next, effect)
     }
 }

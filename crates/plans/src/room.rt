@@ -11,24 +11,26 @@ use refusals::places_left;
 use server::Effect;
 
 // 12: more to send than places left.
+#[tactic(auto, unfolding(crate::specs::Plans::if_places_left))]
 pub fn if_places_left(cluster: Counts, plan: Plan) -> Plan
     requires { (cluster.servers ≤ server_room) × (cluster.messages ≤ message_room) }
     ensures { result ≡ if_places_left cluster plan }
 {
-    let step = plan.step;
-    let next = plan.next;
-    if places_left(cluster, step.removes, next.sends) {
-        return plan;
+    if places_left(cluster, plan.step.removes, plan.next.sends) {
+        plan
+    } else {
+        refused_plan(NO_PLACES, plan.effect)
     }
-    refused_plan(NO_PLACES, plan.effect)
 }
 
 // The plan, unless the line is refused with this number.
+#[tactic(auto, unfolding(crate::specs::Plans::unless))]
 pub fn unless(refusal: u32, effect: Effect, plan: Plan) -> Plan
     ensures { result ≡ unless refusal effect plan }
 {
     if refusal == NONE {
-        return plan;
+        plan
+    } else {
+        refused_plan(refusal, effect)
     }
-    refused_plan(refusal, effect)
 }

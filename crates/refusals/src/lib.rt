@@ -12,21 +12,15 @@ use server::Head;
 use server::codes::{NO_MESSAGE, STOPPED};
 use server::kinds::is_broadcast;
 use server::measures::{MAX_ACCEPTED, MAX_MESSAGES};
-use server::numbers::chosen;
 
 pub mod codes;
 
 // 3: whether there are such a server and such a bucket.
+#[tactic(auto, unfolding(crate::specs::Refusals::inside))]
 pub fn inside(cluster: Counts, server: u32, bucket: u32) -> bool
     ensures { result ≡ inside cluster server bucket }
 {
-    if cluster.servers <= server {
-        return false;
-    }
-    if cluster.buckets <= bucket {
-        return false;
-    }
-    true
+    server < cluster.servers && bucket < cluster.buckets
 }
 
 // 5 and 6, or 0.
@@ -34,76 +28,72 @@ pub fn inside(cluster: Counts, server: u32, bucket: u32) -> bool
 pub fn server_refusal(cluster: Counts, head: Head) -> u32
     ensures { result ≡ server_refusal cluster head }
 {
-    if MAX_ACCEPTED <= cluster.lines {
-        return LINES_SPENT;
+    if cluster.lines >= MAX_ACCEPTED {
+        LINES_SPENT
+    } else if head.stopped == STOPPED {
+        SERVER_STOPPED
+    } else {
+        NONE
     }
-    if head.stopped == STOPPED {
-        return SERVER_STOPPED;
-    }
-    NONE
 }
 
 // 5 and 18, or 0: a server that runs cannot be started.
+#[tactic(auto, unfolding(crate::specs::Refusals::start_refusal, server::specs::Views::flag_in))]
 pub fn start_refusal(cluster: Counts, head: Head) -> u32
     ensures { result ≡ start_refusal cluster head }
 {
-    if MAX_ACCEPTED <= cluster.lines {
-        return LINES_SPENT;
+    if cluster.lines >= MAX_ACCEPTED {
+        LINES_SPENT
+    } else if head.stopped != STOPPED {
+        BAD_CUT_OR_START
+    } else {
+        NONE
     }
-    if head.stopped != STOPPED {
-        return BAD_CUT_OR_START;
-    }
-    NONE
 }
 
 // Whether a message has no receiver: it names no server, or one whose head says that it is stopped.
+#[tactic(auto, unfolding(crate::specs::Refusals::no_receiver, server::specs::Views::flag_in))]
 pub fn has_no_receiver(cluster: Counts, receiver: u32, head: Head) -> bool
     ensures { result ≡ no_receiver cluster receiver head }
 {
-    if cluster.servers <= receiver {
-        return true;
-    }
-    head.stopped == STOPPED
+    receiver >= cluster.servers || head.stopped == STOPPED
 }
 
 // 5 and 7, or 0.
+#[tactic(auto, unfolding(crate::specs::Refusals::message_refusal))]
 pub fn message_refusal(cluster: Counts, index: u32) -> u32
     ensures { result ≡ message_refusal cluster index }
 {
-    if MAX_ACCEPTED <= cluster.lines {
-        return LINES_SPENT;
+    if cluster.lines >= MAX_ACCEPTED {
+        LINES_SPENT
+    } else if index >= cluster.messages {
+        NO_SUCH_MESSAGE
+    } else {
+        NONE
     }
-    if cluster.messages <= index {
-        return NO_SUCH_MESSAGE;
-    }
-    NONE
 }
 
 // How many messages are sent among so many servers.
+#[tactic(auto, unfolding(crate::specs::Refusals::send_count))]
 pub fn send_count(servers: u32, kind: u32) -> u32
     ensures { result ≡ send_count servers kind }
 {
     if kind == NO_MESSAGE {
-        return 0;
+        0
+    } else if is_broadcast(kind) {
+        servers.saturating_sub(1)
+    } else {
+        1
     }
-    if is_broadcast(kind) {
-        if servers == 0 {
-            return 0;
-        }
-        return servers - 1;
-    }
-    1
 }
 
 // Whether there is a place for each message; the place of one that is removed is free.
+#[tactic(auto, using(crate::proofs::Sending::few_sent), unfolding(server::specs::Views::chosen))]
 pub fn places_left(cluster: Counts, removes: bool, kind: u32) -> bool
     requires { (cluster.servers ≤ server_room) × (cluster.messages ≤ message_room) }
     ensures { result ≡ places_left cluster removes kind }
 {
     let sends = send_count(cluster.servers, kind);
-    let gone = chosen(removes, 1, 0);
-    if cluster.messages < gone {
-        return sends <= MAX_MESSAGES;
-    }
-    cluster.messages - gone + sends <= MAX_MESSAGES
+    let kept = cluster.messages.saturating_sub(u32::from(removes));
+    kept + sends <= MAX_MESSAGES
 }

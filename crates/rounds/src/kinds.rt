@@ -11,6 +11,7 @@ pub fn kind_of_message(kind: u32) -> Handling
     ensures is { result ≡ handling_in kind }
     ensures means { (body : Body) → kind_number body ≡ kind → result ≡ handling_of body }
 {
+    // docs/DECISIONS.md, Forms of code: kinds are told apart by a match over kind numbers, with a range for the votes.
     match kind {
         1..=3 => Handling::Vote(kind),
         4 => Handling::Request { writes: true },

@@ -13,6 +13,7 @@ use Rattle.blocks.specs.Order.{Ordered}
 use Rattle.memory.specs.Layout.{slot_of, counts_at, order_of, place_at}
 use Rattle.refusals.specs.Refusals.{places_left}
 use Rattle.moves.specs.declared.Move.{Move}
+use Rattle.moves.specs.declared.Filling.TheVariants as filling
 use Rattle.moves.specs.Reactions.{asked_in, reaction_in}
 use Rattle.views.specs.Changes.{answers_room}
 use Rattle.views.specs.Memory.{Memory, Sized, WholeLocal, standing, call_words_at, server_at, cluster_at}
@@ -58,7 +59,7 @@ pub record Possible (m : Memory) (c : Counts) (x : Step) (v : Move) (f : Effect)
   pub bucket : x.bucket < c.buckets
   pub there : x.removes ≡ true → x.index < c.messages
   pub whole : WholeLocal v.local
-  pub form : v.fills ≡ 2 → fits max_entries max_value_bytes (table_in f.table) ≡ true
+  pub form : v.fills ≡ filling.Table → fits max_entries max_value_bytes (table_in f.table) ≡ true
 
 -- where there are places, carrying it out is what the definitions make of its reaction; where there are none, 12
 abbrev pub CarriesOut : Memory → List ℕ → lines.Tally → Counts → Step → Move → Effect → Type 0

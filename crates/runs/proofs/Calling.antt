@@ -19,6 +19,7 @@ use Rattle.memory.specs.Layout.{slot_of, counts_at, place_at}
 use Rattle.refusals.specs.Refusals.{inside, server_refusal}
 use Rattle.moves.specs.declared.Local.{Local}
 use Rattle.moves.specs.declared.Move.{Move}
+use Rattle.moves.specs.declared.Filling.TheVariants as filling
 use Rattle.moves.specs.Moves.{reading_move, finished_move, recovered, started_move, alone_move, begun_move}
 use Rattle.moves.proofs.CallMoves.{writes_so, begun_means}
 use Rattle.moves.specs.Reactions.{EffectNeeded, asked_in}
@@ -31,6 +32,7 @@ use Rattle.plans.specs.declared.Plan.{Plan}
 use Rattle.plans.specs.Plans.{no_message, refused_plan, if_places_left, unless, bad_lengths, call_bucket, call_step, take_plan, call_refusal, call_plan, call_at}
 use Rattle.runs.specs.Runs.{taken, executed, CallEffect}
 use Rattle.runs.specs.Meaning.{state_in, result_of}
+use Rattle.runs.proofs.Filling.{apart}
 use Rattle.runs.proofs.Accepting.{Ready, Possible, work_of, reaction_of}
 use Rattle.runs.proofs.Carried.{carries_out, lacks_room}
 use Rattle.runs.proofs.Taken.{taken_read, taken_local, taken_cluster, taken_ready}
@@ -42,16 +44,16 @@ use Rattle.runs.proofs.Wording.{Said, Fine}
 -- ---- the move of a call
 
 -- a call's new table is written only where its effect is to write, by a server alone or on a recovered copy
-begun_written : (n me i kind result : ℕ) (l : Local) → (begun_move n me i kind result l).fills ≡ 2 → (eqb result 0 ≡ true) × ((n ≤ 1) ⊎ (recovered l ≡ true))
+begun_written : (n me i kind result : ℕ) (l : Local) → (begun_move n me i kind result l).fills ≡ filling.Table → (eqb result 0 ≡ true) × ((n ≤ 1) ⊎ (recovered l ≡ true))
 begun_written n me i kind result l = go (leb n 1) refl (eqb result 0) refl (recovered l) refl
   where
     go : (x : Bool) → leb n 1 ≡ x → (y : Bool) → eqb result 0 ≡ y → (z : Bool) → recovered l ≡ z
-        → (begun_move n me i kind result l).fills ≡ 2 → (eqb result 0 ≡ true) × ((n ≤ 1) ⊎ (recovered l ≡ true))
+        → (begun_move n me i kind result l).fills ≡ filling.Table → (eqb result 0 ≡ true) × ((n ≤ 1) ⊎ (recovered l ≡ true))
     go true e true d z c h = (d, inl (leb-true n 1 e))
-    go true e false d z c h = let g : ◌≡◌ {A = ℕ} 0 2 = unfold begun_move alone_move finished_move in (rw (begun_move, e, alone_move, d) at h) in absurd (omega arith)
+    go true e false d z c h = let g : filling.Stays ≡ filling.Table = unfold begun_move alone_move finished_move in (rw (begun_move, e, alone_move, d) at h) in absurd (apart g)
     go false e true d true c h = (d, inr c)
-    go false e false d true c h = let g : ◌≡◌ {A = ℕ} 0 2 = unfold begun_move started_move reading_move chosen in (rw (begun_move, e, started_move, c, d) at h) in absurd (omega arith)
-    go false e y d false c h = let g : ◌≡◌ {A = ℕ} 1 2 = unfold begun_move started_move reading_move chosen in (rw (begun_move, e, started_move, c) at h) in absurd (omega arith)
+    go false e false d true c h = let g : filling.Stays ≡ filling.Table = unfold begun_move started_move reading_move in (rw (begun_move, e, started_move, c, d) at h) in absurd (apart g)
+    go false e y d false c h = let g : filling.Copy ≡ filling.Table = unfold begun_move started_move reading_move in (rw (begun_move, e, started_move, c) at h) in let z : ◌≡◌ {A = ℕ} 0 1 = cc in absurd (omega arith)
 
 module _ {m : Memory} {l : List ℕ} {t : lines.Tally} (ready : Ready m l t) (s b : ℕ) (server : s < (counts_at m.counts).servers) (bucket : b < (counts_at m.counts).buckets)
     (words : calls.Words) (kind : ℕ) (f : Effect) (live : among 5 kind ≡ true) (sized : WordsSized words) (there : call_words_at m (slot_of s b) ≡ words)
@@ -98,7 +100,7 @@ module _ {m : Memory} {l : List ℕ} {t : lines.Tally} (ready : Ready m l t) (s 
       ∙ (ap (λ z. lines.by_line x s (c.calls + 1) (begin_call n s b (c.calls + 1) words z)) (server_stands m s server)
       ∙ (ap (lines.by_line x s (c.calls + 1)) begun ∙ ap (λ z. lines.by_line x s z (reaction_of m c step move f)) (sym call_number))))
 
-  call_fits : move.fills ≡ 2 → Fits (table_in f.table)
+  call_fits : move.fills ≡ filling.Table → Fits (table_in f.table)
   unfolding calls.effect_writes
   call_fits h =
       let (z, where-so) = begun_written n s ((c.calls + 1) % 2 ^ 32) kind f.result here h in

@@ -26,6 +26,7 @@ use Rattle.plans.specs.declared.Plan.{Plan}
 use Rattle.plans.specs.Plans.{refused_plan, if_places_left, move_plan, gone, receiver_at, cut_step, cut_plan, cut_at}
 use Rattle.runs.specs.Runs.{executed}
 use Rattle.runs.specs.Meaning.{state_in, result_of}
+use Rattle.runs.proofs.Filling.{apart}
 use Rattle.runs.proofs.Accepting.{Ready, Possible, work_of, reaction_of}
 use Rattle.runs.proofs.Standing.{measured}
 use Rattle.runs.proofs.Conditions.{judged, planned, refusing, ready_perform, condition_judged, message_judged, moved_run}
@@ -190,7 +191,7 @@ module _ (m : Memory) (l : List ℕ) (t : lines.Tally) (ready : Ready m l t) (i 
           bucket = ours;
           there = λ e. here;
           whole = whole_cut k asked here_local (whole_at m target (slot_of target part));
-          form = λ e. absurd (omega arith);
+          form = λ e. absurd (apart e);
         }
 
     cuts : judged (state_in m t) (lines.when 18 (lines.bad_cut (cluster_at m) (message ready i here) k) ∷ []) (lines.cutting (cluster_at m) (message ready i here) (lines.drop_at i (cluster_at m).messages) k)

@@ -20,6 +20,7 @@ use Rattle.memory.specs.Layout.{slot_of, counts_at, head_at, place_at, message_a
 use Rattle.refusals.specs.Refusals.{message_refusal, no_receiver}
 use Rattle.moves.specs.declared.Local.{Local}
 use Rattle.moves.specs.declared.Move.{Move}
+use Rattle.moves.specs.declared.Filling.TheVariants as filling
 use Rattle.moves.specs.Moves.{reply_move, handled_move, reads_table}
 use Rattle.moves.specs.Reactions.{Tables, best_in, message_in, asked_in, reaction_in}
 use Rattle.moves.proofs.CallMoves.{writes_so}
@@ -180,7 +181,7 @@ module _ {m : Memory} {l : List ℕ} {t : lines.Tally} (ready : Ready m l t) (i 
       unfolding lines.delivery
       delivered e = rw (lines.delivery, receiver_stopped ∙ e, handled_there) (ap (λ q. work_of m (step_at q) reaction) (sym to))
 
-      fitting : move.fills ≡ 2 → Fits (table_in f.table)
+      fitting : move.fills ≡ filling.Table → Fits (table_in f.table)
       fitting h =
           let (r, z) = handled_written n s f.result here_local asked h in
           let call = call_open ready s b mine ours (reads_table_open n asked here_local r) in

@@ -14,6 +14,7 @@ use Rattle.server.specs.Views.{among, open_in, round_in, chosen}
 use Rattle.memory.specs.Layout.{slot_of, counts_at, head_at, round_at}
 use Rattle.refusals.specs.Refusals.{inside}
 use Rattle.moves.specs.declared.Move.{Move}
+use Rattle.moves.specs.declared.Filling.TheVariants as filling
 use Rattle.moves.specs.Moves.{elected_move, ceased_move, stopped_move}
 use Rattle.restarts.specs.Restarts.{restarted_move}
 use Rattle.moves.proofs.LineMoves.{elected_means, ceased_means, stopped_means}
@@ -25,6 +26,7 @@ use Rattle.plans.specs.declared.Plan.{Plan}
 use Rattle.plans.specs.Plans.{refused_plan, line_step, move_plan, if_places_left, elect_plan, timeout_plan, stop_plan, start_plan, elect_at, timeout_at, stop_at, start_at, lose_at}
 use Rattle.runs.specs.Runs.{executed}
 use Rattle.runs.specs.Meaning.{state_in, result_of}
+use Rattle.runs.proofs.Filling.{apart}
 use Rattle.runs.proofs.Accepting.{Ready, Possible, reaction_of}
 use Rattle.runs.proofs.Standing.{measured}
 use Rattle.runs.proofs.Conditions.{
@@ -87,7 +89,7 @@ module _ (m : Memory) (l : List ℕ) (t : lines.Tally) (f : Effect) (w : lines.W
 
 module _ (m : Memory) (l : List ℕ) (t : lines.Tally) (f : Effect) (ready : Ready m l t) where
   -- a step of server s at bucket b, by a move that stands for reaction r and makes no table
-  line_moves : (s b : ℕ) (v : Move) (r : Reaction) → s < (counts_in m).servers → b < (counts_in m).buckets → WholeLocal v.local → v.fills ≡ 0
+  line_moves : (s b : ℕ) (v : Move) (r : Reaction) → s < (counts_in m).servers → b < (counts_in m).buckets → WholeLocal v.local → v.fills ≡ filling.Stays
       → r ≡ reaction_of m (counts_in m) (line_step (counts_in m) s b) v f
       → judged (state_in m t) [] (lines.by_line (cluster_at m) s (counts_in m).calls r)
       ≡ planned m l t (counts_in m) f (if_places_left (counts_in m) (move_plan (line_step (counts_in m) s b) v f))
@@ -100,7 +102,7 @@ module _ (m : Memory) (l : List ℕ) (t : lines.Tally) (f : Effect) (ready : Rea
         bucket = bucket;
         there = λ e. let z : ◌≡◌ {A = ℕ} 0 1 = cc in absurd (omega arith);
         whole = whole;
-        form = λ e. absurd (omega arith);
+        form = λ e. absurd (apart (sym fills ∙ e));
       } in
       ap (λ x. lines.accept_line (state_in m t) (lines.by_line (cluster_at m) s (counts_in m).calls x)) means
       ∙ moved_run m l t (counts_in m) (line_step (counts_in m) s b) v f ready possible

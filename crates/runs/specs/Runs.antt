@@ -1,11 +1,9 @@
 -- What a line leaves in the lent arrays, every word and byte of them, and what it reports.
-use Rattle.std.specs.Prelude.{◌≡◌, ℕ, ◌+◌, ◌%◌, ◌^◌, true, false, List, replicate, ◌==◌}
-use Rattle.entries.specs.Decoded.{no_key, absent_item, table_in}
+use Rattle.std.specs.Prelude.{◌≡◌, ℕ, ◌+◌, ◌%◌, ◌^◌, true, false, None, List, replicate, ◌==◌}
+use Rattle.entries.specs.Decoded.{Key, Item, no_key, table_in}
 use Rattle.entries.specs.Entries.{Entry}
 use Rattle.table.specs.Form.{within}
 use Rattle.model.specs.Measures.{max_servers, max_buckets}
-use Rattle.entries.specs.declared.Key.{Key}
-use Rattle.entries.specs.declared.Item.{Item}
 use Rattle.server.specs.declared.Words.{Words}
 use Rattle.server.specs.Views.{effect_in, words_in}
 use Rattle.server.specs.declared.Effect.{Effect}
@@ -167,11 +165,11 @@ unfoldable pub words_of : Kind → Line → Words
 words_of K.Malformed x = no_words
 words_of K.Cluster x = no_words
 words_of K.Elect x = no_words
-words_of K.Get x = words_with 1 0 x.key absent_item absent_item
-words_of K.Set x = words_with 2 0 x.key absent_item (new_item x)
+words_of K.Get x = words_with 1 0 x.key None None
+words_of K.Set x = words_with 2 0 x.key None (new_item x)
 words_of K.SetIf x = words_with 3 0 x.key (expected_item x) (new_item x)
-words_of K.Del x = words_with 4 0 x.key absent_item absent_item
-words_of K.Keys x = words_with 5 x.second no_key absent_item absent_item
+words_of K.Del x = words_with 4 0 x.key None None
+words_of K.Keys x = words_with 5 x.second no_key None None
 words_of K.Deliver x = no_words
 words_of K.Copy x = no_words
 words_of K.Lose x = no_words

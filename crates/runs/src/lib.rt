@@ -7,7 +7,6 @@ ghost use Rattle.runs.specs.Meaning.{tally_after};
 
 use refusals::codes::NONE;
 use server::Effect;
-use std::num::wrapping_add_u32;
 
 // What a line came to: the number it is refused with, or 0; how many answers it wrote; what it adds to the tally; the messages
 // in flight after it; the effect of the call that it answers, with the data of `value` and `keys`.
@@ -39,14 +38,14 @@ pub struct Tally {
 pub fn tally_after(tally: Tally, report: Report) -> Tally
     ensures { result ≡ tally_after tally report }
 {
-    if report.refusal == NONE {
-        return Tally {
-            sent: wrapping_add_u32(tally.sent, report.sent),
-            copied: wrapping_add_u32(tally.copied, report.copied),
-            delivered: wrapping_add_u32(tally.delivered, report.delivered),
-            lost: wrapping_add_u32(tally.lost, report.lost),
-            flight: report.messages,
-        };
+    if report.refusal != NONE {
+        return tally;
     }
-    tally
+    Tally {
+        sent: tally.sent.wrapping_add(report.sent),
+        copied: tally.copied.wrapping_add(report.copied),
+        delivered: tally.delivered.wrapping_add(report.delivered),
+        lost: tally.lost.wrapping_add(report.lost),
+        flight: report.messages,
+    }
 }

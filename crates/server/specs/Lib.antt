@@ -1,3 +1,2 @@
 pub mod Views
-pub mod Counts
 pub mod Heads

@@ -6,24 +6,17 @@ ghost use Rattle.server.specs.Views.{among, is_broadcast};
 use crate::codes::{GET, KEYS, PLEASE_VOTE, REPLICA_READ, REPLICA_WRITE};
 
 // What goes to all others.
+#[tactic(auto, unfolding(crate::specs::Views::is_broadcast))]
 pub fn is_broadcast(kind: u32) -> bool
     ensures { result ≡ is_broadcast kind }
 {
-    if kind == PLEASE_VOTE {
-        return true;
-    }
-    if kind == REPLICA_WRITE {
-        return true;
-    }
-    kind == REPLICA_READ
+    matches!(kind, PLEASE_VOTE | REPLICA_WRITE | REPLICA_READ)
 }
 
 // Whether a call of this kind is open: with a word that is no kind none is.
+#[tactic(auto, unfolding(crate::specs::Views::among))]
 pub fn is_open_call(kind: u32) -> bool
     ensures { result ≡ among 5 kind }
 {
-    if kind < GET {
-        return false;
-    }
-    kind <= KEYS
+    matches!(kind, GET..=KEYS)
 }

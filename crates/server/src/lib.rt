@@ -2,7 +2,7 @@
 #![tactic(auto)]
 
 use crate::measures::SERVERS;
-use entries::{Decoded, Item, Key, Value};
+use entries::{Decoded, Key, Value};
 
 pub mod codes;
 pub mod kinds;
@@ -11,7 +11,7 @@ pub mod numbers;
 pub mod votes;
 
 // A version: the election number decides first, then the counter.
-#[derive(Clone, Copy)]
+#[derive(Clone, Copy, PartialEq, Eq, PartialOrd, Ord)]
 pub struct Version {
     pub election: u32,
     pub counter: u32,
@@ -63,8 +63,8 @@ pub struct Words {
     pub kind: u32,
     pub bucket: u32,
     pub key: Key,
-    pub expected: Item,
-    pub value: Item,
+    pub expected: Option<Value>,
+    pub value: Option<Value>,
 }
 
 // An answer without its data.

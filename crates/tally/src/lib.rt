@@ -5,18 +5,17 @@ ghost use Rattle.std.specs.Prelude.{◌≡◌};
 ghost use Rattle.tally.specs.Sums.{tally_sum};
 
 use runs::Tally;
-use std::num::{wrapping_add_u32, wrapping_sub_u32};
 
 // The tally with a change added, count by count.
 pub fn sum(tally: Tally, change: Tally) -> Tally
     ensures { result ≡ tally_sum tally change }
 {
     Tally {
-        sent: wrapping_add_u32(tally.sent, change.sent),
-        copied: wrapping_add_u32(tally.copied, change.copied),
-        delivered: wrapping_add_u32(tally.delivered, change.delivered),
-        lost: wrapping_add_u32(tally.lost, change.lost),
-        flight: wrapping_add_u32(tally.flight, change.flight),
+        sent: tally.sent.wrapping_add(change.sent),
+        copied: tally.copied.wrapping_add(change.copied),
+        delivered: tally.delivered.wrapping_add(change.delivered),
+        lost: tally.lost.wrapping_add(change.lost),
+        flight: tally.flight.wrapping_add(change.flight),
     }
 }
 
@@ -25,11 +24,11 @@ pub fn change(before: Tally, after: Tally) -> Tally
     ensures { tally_sum before result ≡ after }
 {
     Tally {
-        sent: wrapping_sub_u32(after.sent, before.sent),
-        copied: wrapping_sub_u32(after.copied, before.copied),
-        delivered: wrapping_sub_u32(after.delivered, before.delivered),
-        lost: wrapping_sub_u32(after.lost, before.lost),
-        flight: wrapping_sub_u32(after.flight, before.flight),
+        sent: after.sent.wrapping_sub(before.sent),
+        copied: after.copied.wrapping_sub(before.copied),
+        delivered: after.delivered.wrapping_sub(before.delivered),
+        lost: after.lost.wrapping_sub(before.lost),
+        flight: after.flight.wrapping_sub(before.flight),
     }
 }
 

@@ -1,50 +1,28 @@
--- `same_value` meets its contract: the values are compared byte by byte.
-use mathlib.Core.Bool.{Bool, true, false}
-use mathlib.Core.Path.{◌≡◌, sym, ap, ap₂, ◌∙◌}
-use borrow.Author.Rules.{rules}
-use lib.ListN.{take}
+-- `same_value` meets its contract: the bytes that count are compared.
+use Rattle.std.proofs.Common.{◌≡◌, Bool, true, false, List, ℕ, refl, sym, ap, ◌∙◌}
+use Rattle.std.proofs.lemmas.Map.Text.{is_eq-slice_cmp}
+use Rattle.core.specs.Str.{bytes_eq}
+use Rattle.std.specs.Ordering.{is_eq}
 use Rattle.std.specs.declared.cmp.Ordering.{Ordering}
 use Rattle.std.specs.declared.cmp.Ordering.TheVariants.{Less, Equal, Greater}
 use Rattle.entries.specs.Entries.{order}
-use Rattle.std.specs.Prelude.{ℕ}
-use Rattle.entries.specs.declared.Value.{Value}
-use Rattle.entries.specs.Decoded.{Cut, value_bytes}
-use Rattle.entries.proofs.Comparison.{comparing_starts, comparing_less, comparing_more, comparing_goes_on, comparing_longer, comparing_shorter, comparing_ends}
-use Rattle.entries.proofs.Views.{value_whole, value_within}
-use Rattle.table.specs.Form.{same_bytes}
+use Rattle.entries.specs.Decoded.{item_in, text_bytes}
+use Rattle.entries.proofs.Comparison.{order_cmp}
+use Rattle.table.specs.Form.{same_bytes, same_value}
 use Rattle.effects.proofs.same_value.Goals as goal
 
-abbrev is_same : Ordering → Bool
-is_same o = elim o [ Less ↦ false | Equal ↦ true | Greater ↦ false ]
-
--- what the comparison finds is found of the values
-found : (a b : Value) (m n : ℕ) → Cut 16 (value_bytes a) m → Cut 16 (value_bytes b) n → (o : Ordering) → order (take m a.bytes) (take n b.bytes) ≡ o → is_same o ≡ same_bytes (value_bytes a) (value_bytes b)
+-- lists are the same in the order where they are equal byte by byte
+bytes_same : (a b : List ℕ) → bytes_eq a b ≡ same_bytes a b
 unfolding same_bytes
-found a b m n x y o e = ap is_same (sym e ∙ ap₂ order (value_whole a x) (value_whole b y))
+bytes_same a b = sym (is_eq-slice_cmp a b) ∙ ap is_eq (order_cmp a b) ∙ go (order a b)
+  where
+    go : (o : Ordering) → is_eq o ≡ elim o [ Less ↦ false | Equal ↦ true | Greater ↦ false ]
+    go Less = refl
+    go Equal = refl
+    go Greater = refl
 
-pub loop-i-init : goal.loop-i-init
-loop-i-init c = comparing_starts (value_within c.args.a c.value_length-a_len.ensures) (value_within c.args.b c.value_length-b_len.ensures)
-
-pub returns-then-b_len-i : goal.returns-then-b_len-i
-returns-then-b_len-i c = found _ _ _ _ c.value_length-a_len.ensures c.value_length-b_len.ensures Greater (comparing_longer c.loop-i.invariant c.loop-i-test.true c.if-b_len-i.true)
-
-pub returns-then-a_bytes-i : goal.returns-then-a_bytes-i
-returns-then-a_bytes-i c =
-    found _ _ _ _ c.value_length-a_len.ensures c.value_length-b_len.ensures Less
-    (comparing_less c.loop-i.invariant c.loop-i-test.true c.if-b_len-i.false c.if-a_bytes-i.true)
-
-pub returns-then-b_bytes-i : goal.returns-then-b_bytes-i
-returns-then-b_bytes-i c =
-    found _ _ _ _ c.value_length-a_len.ensures c.value_length-b_len.ensures Greater
-    (comparing_more c.loop-i.invariant c.loop-i-test.true c.if-b_len-i.false c.if-b_bytes-i.true)
-
-pub loop-i-preserved : goal.loop-i-preserved
-loop-i-preserved c =
-    comparing_goes_on c.loop-i.invariant c.loop-i-test.true c.if-b_len-i.false c.if-b_bytes-i.false
-    c.if-a_bytes-i.false
-
-pub returns-then-a_len-b_len : goal.returns-then-a_len-b_len
-returns-then-a_len-b_len c = found _ _ _ _ c.value_length-a_len.ensures c.value_length-b_len.ensures Less (comparing_shorter c.loop-i.invariant c.loop-i-test.false (search rules))
-
-pub returns-else-a_len-b_len : goal.returns-else-a_len-b_len
-returns-else-a_len-b_len c = found _ _ _ _ c.value_length-a_len.ensures c.value_length-b_len.ensures Equal (comparing_ends c.loop-i.invariant c.loop-i-test.false (search rules))
+pub returns-in-Some-Some : goal.returns-in-Some-Some
+unfolding item_in same_value
+returns-in-Some-Some c =
+    rw (c.in-Some-Some.is-0, c.in-Some-Some.is-1, c.eq.ensures, c.as_slice.ensures, c.as_slice-in-Some-Some.ensures)
+    (bytes_same (text_bytes c.in-Some-Some.a) (text_bytes c.in-Some-Some.b))

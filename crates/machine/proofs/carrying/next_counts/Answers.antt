@@ -2,4 +2,4 @@
 use Rattle.machine.proofs.carrying.next_counts.Goals as goal
 
 pub returns : goal.returns
-returns c = rw c.wrapping_add_u32-lines.ensures.value
+returns c = rw c.wrapping_add.ensures.value

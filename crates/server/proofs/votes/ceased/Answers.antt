@@ -1,7 +1,6 @@
--- `votes::ceased` meets its contract: a head has seven votes, and none is left.
-use Rattle.std.proofs.Common.{refl}
+use Rattle.std.proofs.Common.{◌≡◌, refl, length, arith}
 use Rattle.server.proofs.HeadLaws.{ceased_means}
 use Rattle.server.proofs.votes.ceased.Goals as goal
 
-pub returns : goal.returns
-returns c = record { is = refl; means = λ n x. ceased_means n x c.args.head c.well_formed.0.1.1.1.1.1.1.1.1.0.1.0.1 }
+pub returns-clause-means : goal.returns-clause-means
+returns-clause-means c = λ n x. let seven : length c.args.head.votes ≡ 7 = omega arith in ceased_means n x c.args.head seven

@@ -1,12 +1,12 @@
--- `votes::may_accept` meets its contract: both make the same test.
-use Rattle.std.proofs.Common.{le-ltb, lt-ltb}
+-- `votes::may_accept` meets its contract: a number is at least the vote where it is not below it.
+use Rattle.std.proofs.Common.{◌≡◌, ℕ, true, false, ltb, leb, arith}
+use Rattle.std.proofs.lemmas.Bool.Decides.{nat_tests}
 use Rattle.model.specs.Replica.{may_accept}
 use Rattle.server.proofs.votes.may_accept.Goals as goal
 
-pub returns-then-election-head : goal.returns-then-election-head
-unfolding may_accept
-returns-then-election-head c = rw (may_accept, lt-ltb _ _ c.if-election-head.true)
+at_least : (v e : ℕ) → leb v e ≡ elim (ltb e v) [ true ↦ false | false ↦ true ]
+at_least v e = grind (arith, nat_tests)
 
-pub returns-else-election-head : goal.returns-else-election-head
+pub returns : goal.returns
 unfolding may_accept
-returns-else-election-head c = rw (may_accept, le-ltb _ _ c.if-election-head.false)
+returns c = at_least c.args.head.vote c.args.election
