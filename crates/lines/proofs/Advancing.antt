@@ -1,7 +1,9 @@
 -- The steps of feeding, one after the other, are the whole part.
-use mathlib.Core.Logic.{◌≢◌}
 use mathlib.Core.Path.{◌≡◌, refl, sym, subst, ◌∙◌}
-use mathlib.Core.Bool.{Bool, true, false}
+use mathlib.Core.Bool.{true}
+use Rattle.std.specs.Prelude.{Option, Some, None, is_some}
+use Rattle.std.specs.Option.{unwrap_or}
+use Rattle.std.proofs.lemmas.Option.{same_Some}
 use mathlib.Core.List.{List, [], ◌∷◌, ◌++◌, append_assoc, append-nil}
 use Prim.Native.Nat.{ℕ, ◌+◌, ◌-◌, ◌≤◌, ◌<◌}
 use native.Mathlib.Omega.{arith}
@@ -16,7 +18,7 @@ use Rattle.views.specs.Memory.{Memory}
 use Rattle.runs.specs.declared.Tally.{Tally}
 use Rattle.progress.specs.declared.Ending.{Ending}
 use Rattle.progress.specs.declared.Progress.{Progress}
-use Rattle.progress.specs.Progress.{begun_at, stopped_at, ended_at}
+use Rattle.progress.specs.Progress.{begun_at, ended_at}
 use Rattle.lines.specs.Sessions.{Held, held, put_all, Session, session}
 use Rattle.parse_deliver.specs.Deliver.{between}
 use Rattle.lines.specs.Lines.{Plain, FeedAt, LineRun, LineTold}
@@ -24,12 +26,6 @@ use Rattle.lines.specs.Feeding.{LinesFed, nothing, line, bytes, past, PartFed, W
 use Rattle.lines.specs.declared.Read.{Read}
 use Rattle.lines.proofs.Finding.{take_between, none_found}
 use Rattle.lines.proofs.Told.{line_told}
-
-pub absurd_more : {A : Type 0} {x : Bool} → x ≡ false → x ≡ true → A
-absurd_more e f =
-    let z : ◌≡◌ {A = Bool} true false = sym f ∙ e in
-    let w : ◌≡◌ {A = ℕ} 0 1 = cc in
-    absurd (omega arith)
 
 -- ---- one part after the other
 
@@ -46,15 +42,15 @@ fed_on w room {a} {x} f (line {input = b} {text = y} g h r l n u more e) =
 -- ---- one step
 
 -- a line that was read may be run
-pub line_allowed : {line input : List ℕ} {size : ℕ} {p : Progress} {line' : List ℕ} {d : Read} → NextLine line input size p line' d → d.next ≢ 0 → (p.lines < max_lines) × (p.written + line_room ≤ size)
-line_allowed (found h o k) n = (h, o)
-line_allowed (full h e f) n = absurd (n e)
+pub line_allowed : {line input : List ℕ} {size : ℕ} {p : Progress} {line' : List ℕ} {d : Read} → NextLine line input size p line' (Some d) → (p.lines < max_lines) × (p.written + line_room ≤ size)
+line_allowed (found h o k) = (h, o)
+line_allowed (full h e f) = absurd (cc)
 
 -- a line ends at a line feed
 line_run_lem : (w : Session) (input out : List ℕ) (p : Progress) (feed : ℕ) (w' : Session) (out' : List ℕ) (p' : Progress) → w.lines < max_lines → p.written + line_room ≤ length out
     → FeedAt input p.taken feed → feed < length input → LineTold w (between input p.taken feed) w' out p.written out' p'.written
-    → p'.taken ≡ feed + 1 → p'.more ≡ true → Advanced w input out p w' out' p'
-line_run_lem w input out p feed w' out' p' h o k i t q m =
+    → p'.taken ≡ feed + 1 → Advanced w input out p w' out' (Some p')
+line_run_lem w input out p feed w' out' p' h o k i t q =
     let l = between input p.taken feed in
     record {
       bytes = l ++ (10 ∷ []);
@@ -65,40 +61,41 @@ line_run_lem w input out p feed w' out' p' h o k i t q m =
       within = omega arith;
       room = omega (arith, t.told.within);
       goes = λ y. omega (arith, k.bytes.onward);
-      rests = λ y. absurd_more y m;
+      rests = λ y. absurd (cc);
     }
 
-module _ (m : Memory) (l buffer input out : List ℕ) (p r : Progress) (buffer' : List ℕ) (d : Read) where
-  whole_run : (m' : Memory) (l' out' : List ℕ) (x : Ending) → p.lines < max_lines → p.written + line_room ≤ length out → WholeLine buffer input p buffer' d → d.next ≢ 0
+module _ (m : Memory) (l buffer input out : List ℕ) (p : Progress) (buffer' : List ℕ) where
+  whole_run : (d : Read) (m' : Memory) (l' out' : List ℕ) (x : Ending) → p.lines < max_lines → p.written + line_room ≤ length out → WholeLine buffer input p buffer' (Some d)
       → LineRun m l d.line m' l' out out' p x
-      → Advanced (session m l p.tally p.lines (held buffer p.held)) input out p (session m' l' x.tally (p.lines + 1) (held buffer' 0)) out' (ended_at p x d.next)
-  whole_run m' l' out' x h o (whole feed k i e y z) n t =
+      → Advanced (session m l p.tally p.lines (held buffer p.held)) input out p (session m' l' x.tally (p.lines + 1) (held buffer' 0)) out' (Some (ended_at p x d.next))
+  whole_run d m' l' out' x h o (whole c feed b k i e y z) t =
+      let j : d ≡ c = same_Some d c b in
       line_run_lem (session m l p.tally p.lines (held buffer p.held)) input out p feed (session m' l' x.tally (p.lines + 1) (held buffer' 0)) out' (ended_at p x d.next) h o k i
-      (line_told m l (held buffer p.held) (between input p.taken feed) d.line m' l' (held buffer' 0) out out' p x t y z) e refl
-  whole_run m' l' out' x h o (unended e f k) n t = absurd (n e)
+      (line_told m l (held buffer p.held) (between input p.taken feed) d.line m' l' (held buffer' 0) out out' p x t (rw j y) z) (rw j e)
+  whole_run d m' l' out' x h o (unended e f k) t = absurd (cc)
 
-  pub advanced_line : (m' : Memory) (l' out' : List ℕ) (x : Ending) → NextLine buffer input (length out) p buffer' d → d.next ≢ 0
+  pub advanced_line : (d : Read) (m' : Memory) (l' out' : List ℕ) (x : Ending) (r : Progress) → NextLine buffer input (length out) p buffer' (Some d)
       → LineRun m l d.line m' l' out out' p x
       → r ≡ ended_at p x d.next
-      → Advanced (session m l p.tally p.lines (held buffer p.held)) input out p (session m' l' r.tally r.lines (held buffer' r.held)) out' r
-  advanced_line m' l' out' x (found h o k) n t e = rw e (whole_run m' l' out' x h o k n t)
-  advanced_line m' l' out' x (full h e f) n t g = absurd (n e)
+      → Advanced (session m l p.tally p.lines (held buffer p.held)) input out p (session m' l' r.tally r.lines (held buffer' r.held)) out' (Some r)
+  advanced_line d m' l' out' x r (found h o k) t e = rw e (whole_run d m' l' out' x h o k t)
+  advanced_line d m' l' out' x r (full h e f) t g = absurd (cc)
 
   -- nothing is done where no line can be run
-  no_line : NextLine buffer input (length out) p buffer' d → d.next ≡ 0 → p.lines < max_lines → p.written + line_room ≤ length out → Plain input p.taken (length input)
-  no_line (found h o (whole feed k i e y z)) n j q = absurd (omega arith)
-  no_line (found h o (unended e f k)) n j q = k
-  no_line (full h e f) n j q = absurd (omega (arith, h j))
+  no_line : NextLine buffer input (length out) p buffer' None → p.lines < max_lines → p.written + line_room ≤ length out → Plain input p.taken (length input)
+  no_line (found h o (whole c feed b k i e y z)) j q = absurd (cc)
+  no_line (found h o (unended e f k)) j q = k
+  no_line (full h e f) j q = absurd (omega (arith, h j))
 
-  same_line : NextLine buffer input (length out) p buffer' d → d.next ≡ 0 → buffer' ≡ buffer
-  same_line (found h o (whole feed k i e y z)) n = absurd (omega arith)
-  same_line (found h o (unended e f k)) n = f
-  same_line (full h e f) n = f
+  same_line : NextLine buffer input (length out) p buffer' None → buffer' ≡ buffer
+  same_line (found h o (whole c feed b k i e y z)) = absurd (cc)
+  same_line (found h o (unended e f k)) = f
+  same_line (full h e f) = f
 
-  pub advanced_stopped : p.taken ≤ length input → p.written ≤ length out → NextLine buffer input (length out) p buffer' d → d.next ≡ 0 → r ≡ stopped_at p
-      → Advanced (session m l p.tally p.lines (held buffer p.held)) input out p (session m l r.tally r.lines (held buffer' r.held)) out r
-  advanced_stopped t o k n e =
-      rw (e, same_line k n)
+  pub advanced_none : (r : Option Progress) → p.taken ≤ length input → p.written ≤ length out → NextLine buffer input (length out) p buffer' None → r ≡ None
+      → Advanced (session m l p.tally p.lines (held buffer p.held)) input out p (session m l (unwrap_or r p).tally (unwrap_or r p).lines (held buffer' (unwrap_or r p).held)) out r
+  advanced_none r t o k e =
+      rw (e, same_line k)
       (record {
         bytes = [];
         text = [];
@@ -107,8 +104,8 @@ module _ (m : Memory) (l buffer input out : List ℕ) (p r : Progress) (buffer' 
         printed = printed_none out p.written refl;
         within = t;
         room = o;
-        goes = λ y. absurd_more refl y;
-        rests = λ y j q. no_line k n j q;
+        goes = λ y. absurd (cc);
+        rests = λ y j q. no_line k j q;
       })
 
 -- ---- all steps
@@ -122,7 +119,6 @@ pub record Going (w : Session) (input out : List ℕ) (w' : Session) (out' : Lis
   pub within : p.taken ≤ length input
   pub room : p.written ≤ length out
   pub size : length out' ≡ length out
-  pub rests : p.more ≡ false → p.lines < max_lines → p.written + line_room ≤ length out → Plain input p.taken (length input)
 
 pub going_starts : (m : Memory) (l : List ℕ) (n : ℕ) (buffer : List ℕ) (count : ℕ) (input out : List ℕ) (t : Tally) (p : Progress)
     → p ≡ begun_at t n count
@@ -137,7 +133,6 @@ going_starts m l n buffer count input out t p e =
       within = omega arith;
       room = omega arith;
       size = refl;
-      rests = λ f. absurd_more f refl;
     })
 
 -- what is written behind what was written
@@ -151,9 +146,10 @@ written_on x y out mid out' e f =
 written_size : (x out mid : List ℕ) → mid ≡ x ++ drop (length x) out → length x ≤ length out → length mid ≡ length out
 written_size x out mid e h = rw (e, length-append x (drop (length x) out), length-drop (length x) out) (omega arith)
 
-pub going_on : (w : Session) (input out : List ℕ) (v : Session) (mid : List ℕ) (p : Progress) (w' : Session) (out' : List ℕ) (p' : Progress)
-    → Going w input out v mid p → Advanced v input mid p w' out' p' → Going w input out w' out' p'
-going_on w input out v mid p w' out' p' g a =
+pub going_on : (w : Session) (input out : List ℕ) (v : Session) (mid : List ℕ) (p : Progress) (w' : Session) (out' : List ℕ) (r : Option Progress)
+    → Going w input out v mid p → Advanced v input mid p w' out' r → Going w input out w' out' (unwrap_or r p)
+going_on w input out v mid p w' out' r g a =
+    let p' = unwrap_or r p in
     let wrote : out' ≡ (g.text ++ a.text) ++ drop (length (g.text ++ a.text)) out =
     written_on g.text a.text out mid out' g.wrote (subst (λ (n : ℕ). out' ≡ take n mid ++ a.text ++ drop (n + length a.text) mid) g.count a.printed.is) in
     let count : p'.written ≡ length (g.text ++ a.text) = a.printed.ends ∙ rw (g.count, length-append g.text a.text) in
@@ -167,29 +163,28 @@ going_on w input out v mid p w' out' p' g a =
       within = a.within;
       room = room;
       size = written_size (g.text ++ a.text) out out' wrote (omega arith);
-      rests = λ e n q. a.rests e n (omega (arith, q, g.size));
     }
 
 -- and then the bytes after the lines
-module _ (w : Session) (input out : List ℕ) (m : Memory) (l buffer out' : List ℕ) (p : Progress) (g : Going w input out (session m l p.tally p.lines (held buffer p.held)) out' p) where
+module _ (w : Session) (input out : List ℕ) (m : Memory) (l buffer out' : List ℕ) (p : Progress) (g : Going w input out (session m l p.tally p.lines (held buffer p.held)) out' p) (rests : p.lines < max_lines → p.written + line_room ≤ length out → Plain input p.taken (length input)) where
   -- a line feed after them has no room for its line
-  no_room : (feed : ℕ) → p.more ≡ false → p.lines < max_lines → FeedAt input p.taken feed → feed < length input → length out < p.written + line_room
-  no_room feed f h k i = go (dec_le (p.written + line_room) (length out))
+  no_room : (feed : ℕ) → p.lines < max_lines → FeedAt input p.taken feed → feed < length input → length out < p.written + line_room
+  no_room feed h k i = go (dec_le (p.written + line_room) (length out))
     where
       go : Dec (p.written + line_room ≤ length out) → length out < p.written + line_room
-      go (yes q) = none_found input p.taken feed (g.rests f h q) k.bytes.onward i (k.stops i)
+      go (yes q) = none_found input p.taken feed (rests h q) k.bytes.onward i (k.stops i)
       go (no q) = omega arith
 
-  rest_kept : (buffer' : List ℕ) (n feed : ℕ) → p.more ≡ false → p.lines < max_lines → FeedAt input p.taken feed → held buffer' n ≡ put_all (held buffer p.held) (between input p.taken feed)
+  rest_kept : (buffer' : List ℕ) (n feed : ℕ) → p.lines < max_lines → FeedAt input p.taken feed → held buffer' n ≡ put_all (held buffer p.held) (between input p.taken feed)
       → PartFed w input out (session m l p.tally p.lines (held buffer' n)) out' feed p.written
-  rest_kept buffer' n feed f h k e =
+  rest_kept buffer' n feed h k e =
       record {
         text = g.text;
         feeds = rw (e, take_between input p.taken feed k.bytes.onward) (bytes g.feeds h (between input p.taken feed) k.bytes.plain);
         wrote = g.wrote;
         count = g.count;
         within = k.bytes.within;
-        stops = λ i. record { feed = k.stops i; short = no_room feed f h k i; early = h };
+        stops = λ i. record { feed = k.stops i; short = no_room feed h k i; early = h };
       }
 
   rest_passed : max_lines ≤ p.lines → PartFed w input out (session m l p.tally p.lines (held buffer p.held)) out' (length input) p.written
@@ -203,26 +198,17 @@ module _ (w : Session) (input out : List ℕ) (m : Memory) (l buffer out' : List
         stops = λ i. absurd (omega arith);
       }
 
-  rest_ends : (buffer' : List ℕ) (p' : Progress) → p.more ≡ false → RestKept p buffer input p' buffer'
+  rest_ends : (buffer' : List ℕ) (p' : Progress) → RestKept p buffer input p' buffer'
       → PartFed w input out (session m l p'.tally p'.lines (held buffer' p'.held)) out' p'.taken p'.written
-  rest_ends buffer' p' f (waits n feed h k e d) = rw d (rest_kept buffer' n feed f h k e)
-  rest_ends buffer' p' f (passes h e d) = rw (d, e) (rest_passed h)
+  rest_ends buffer' p' (waits n feed h k e d) = rw d (rest_kept buffer' n feed h k e)
+  rest_ends buffer' p' (passes h e d) = rw (d, e) (rest_passed h)
 
-pub going_ends : (m : Memory) (l : List ℕ) (u t : Tally) (n : ℕ) (h : Held) (input out : List ℕ) (m' : Memory) (l' buffer out' : List ℕ) (p : Progress) (buffer' : List ℕ) (p' : Progress)
-    → u ≡ t → Going (session m l u n h) input out (session m' l' p.tally p.lines (held buffer p.held)) out' p → p.more ≡ false → RestKept p buffer input p' buffer'
+-- the last step does nothing
+pub going_ends : (m : Memory) (l : List ℕ) (u t : Tally) (n : ℕ) (h : Held) (input out : List ℕ) (v : Session) (mid : List ℕ) (p : Progress) (m' : Memory) (l' buffer out' : List ℕ) (r : Option Progress) (buffer' : List ℕ) (p' : Progress)
+    → u ≡ t → Going (session m l u n h) input out v mid p → r ≡ None
+    → Advanced v input mid p (session m' l' (unwrap_or r p).tally (unwrap_or r p).lines (held buffer (unwrap_or r p).held)) out' r → RestKept p buffer input p' buffer'
     → PartFed (session m l t n h) input out (session m' l' p'.tally p'.lines (held buffer' p'.held)) out' p'.taken p'.written
-going_ends m l u t n h input out m' l' buffer out' p buffer' p' e g f k =
+going_ends m l u t n h input out v mid p m' l' buffer out' r buffer' p' e g f a k =
+    let b : Advanced v input mid p (session m' l' p.tally p.lines (held buffer p.held)) out' None = rw f at a in
     subst (λ (x : Tally). PartFed (session m l x n h) input out (session m' l' p'.tally p'.lines (held buffer' p'.held)) out' p'.taken p'.written) e
-    (rest_ends (session m l u n h) input out m' l' buffer out' p g buffer' p' f k)
-
--- ---- the steps end: each of them takes a byte, or is the last
-
-unfoldable pub steps_left : Bool → ℕ → ℕ → ℕ
-steps_left true size taken = size - taken + 1
-steps_left false size taken = 0
-
-pub steps_fall : (more more' : Bool) (size taken taken' : ℕ) → more ≡ true → (more' ≡ true → taken < taken') → taken' ≤ size → steps_left more' size taken' < steps_left more size taken
-unfolding steps_left
-steps_fall true true size taken taken' e h w = omega (arith, h refl)
-steps_fall true false size taken taken' e h w = omega arith
-steps_fall false more' size taken taken' e h w = absurd_more refl e
+    (rest_ends (session m l u n h) input out m' l' buffer out' p (going_on (session m l u n h) input out v mid p _ out' None g b) (λ i q. b.rests refl i (omega (arith, q, g.size))) buffer' p' k)

@@ -6,11 +6,12 @@ use Prim.Native.Nat.{ℕ, zero, suc, ◌+◌, ◌-◌, ◌≤◌, ◌<◌}
 use native.Mathlib.Omega.{arith}
 use lib.Dec.{eqb}
 use lib.ListN.{length, take, drop, get_or, length-drop}
-use lib.Seq.{take-suc, take-add, get_or-take, get_or-drop, length-take-le}
+use lib.Seq.{take-add, take_all, get_or-take, get_or-drop, length-take-le}
+use Rattle.std.specs.Prelude.{Some, None, position}
 use Rattle.input.specs.Reading.{NoFeed}
-use Rattle.input.proofs.Parts.{no_feed_append}
 use Rattle.parse_deliver.specs.Deliver.{between}
-use Rattle.lines.specs.Lines.{Plain}
+use Rattle.parse_deliver.proofs.Delivering.{first_feed, feed_place, none_before, there, no_feed_there}
+use Rattle.lines.specs.Lines.{Plain, FeedAt}
 
 -- the bytes before `to` are those before `from` and those from there on
 pub take_between : (l : List ℕ) (from to : ℕ) → from ≤ to → take to l ≡ take from l ++ between l from to
@@ -18,23 +19,22 @@ take_between l from to h =
     let e : from + (to - from) ≡ to = omega arith in
     subst (λ (n : ℕ). take n l ≡ take from l ++ between l from to) e (take-add from (to - from) l)
 
-pub plain_none : (input : List ℕ) (from : ℕ) → from ≤ length input → Plain input from from
-plain_none input from h =
-    let e : from - from ≡ 0 = omega arith in
-    record { onward = omega arith; within = h; plain = rw e tt }
-
-pub plain_more : (input : List ℕ) (from i : ℕ) → Plain input from i → i < length input → eqb (get_or input i 0) 10 ≡ false → Plain input from (i + 1)
-plain_more input from i p w e =
-    let o = p.onward in
-    let n : i + 1 - from ≡ suc (i - from) = omega arith in
-    let k : from + (i - from) ≡ i = omega arith in
-    let b : get_or (drop from input) (i - from) 0 ≡ get_or input i 0 = get_or-drop from input (i - from) 0 ∙ ap (λ (j : ℕ). get_or input j 0) k in
-    let s : between input from (i + 1) ≡ between input from i ++ (get_or input i 0 ∷ []) =
-    rw n (take-suc (drop from input) (i - from) 0 (omega (arith, length-drop from input)) ∙ ap (λ (x : ℕ). between input from i ++ (x ∷ [])) b) in
+-- what the search from `from` on found
+pub feed_found : (input : List ℕ) (from : ℕ) {i : ℕ} → from ≤ length input → Some i ≡ position (λ b. eqb b 10) (drop from input) → i < length (drop from input) → FeedAt input from (from + i)
+feed_found input from {i} h e w =
+    let f : first_feed (drop from input) ≡ i = feed_place (drop from input) e in
+    let k : from + i - from ≡ i = omega arith in
     record {
-      onward = omega arith;
-      within = omega arith;
-      plain = subst NoFeed (sym s) (no_feed_append (between input from i) (get_or input i 0 ∷ []) p.plain (e, tt));
+      bytes = record { onward = omega arith; within = omega (arith, length-drop from input); plain = rw (k, ← f) (none_before (drop from input)) };
+      stops = λ z. sym (get_or-drop from input i 0) ∙ (rw f at (there (drop from input) (rw f w)));
+    }
+
+pub feed_missing : (input : List ℕ) (from : ℕ) → from ≤ length input → None ≡ position (λ b. eqb b 10) (drop from input) → FeedAt input from (length input)
+feed_missing input from h e =
+    let n : length input - from ≡ length (drop from input) = sym (length-drop from input) in
+    record {
+      bytes = record { onward = h; within = omega arith; plain = rw (n, take_all (length (drop from input)) (drop from input) (omega arith)) (no_feed_there (drop from input) e) };
+      stops = λ z. absurd (omega arith);
     }
 
 no_feed_at : (l : List ℕ) (i : ℕ) → i < length l → NoFeed l → eqb (get_or l i 0) 10 ≡ false

@@ -21,12 +21,17 @@ unfolding put_all
 put_all_append h [] b = refl
 put_all_append h (x ∷ a) b = put_all_append (put h x) a b
 
--- one more byte of them
-pub put_next : (h : Held) (l : List ℕ) (i : ℕ) (h' : Held) → h' ≡ put_all h (take i l) → i < length l → put h' (get_or l i 0) ≡ put_all h (take (i + 1) l)
-unfolding put_all
-put_next h l i h' e w =
-    let next : take (i + 1) l ≡ take i l ++ (get_or l i 0 ∷ []) = rw add-one (take-suc l i 0 w) in
-    ap (λ (x : Held). put x (get_or l i 0)) e ∙ sym (put_all_append h (take i l) (get_or l i 0 ∷ [])) ∙ ap (put_all h) (sym next)
+-- bytes that find room
+put_run : (l : List ℕ) (n : ℕ) (b : List ℕ) → n + length b ≤ 121 → put_all (held l n) b ≡ held (sets l n b) (n + length b)
+unfolding put_all put
+put_run l n [] h = rw add-zero
+put_run l n (x ∷ b) h = rw (lt-ltb n 121 (omega arith)) (put_run (set l n x) (n + 1) b (omega arith) ∙ ?)
+
+-- and those that find none
+pub put_none : (h : Held) (b : List ℕ) → 121 ≤ h.count → put_all h b ≡ h
+unfolding put_all put
+put_none h [] k = refl
+put_none h (x ∷ b) k = rw (le-ltb h.count 121 k) (put_none h b k)
 
 -- a count above the room counts as all of it
 pub present_cut : (l : List ℕ) (count : ℕ) → take (min (length l) count) l ≡ present_line (held l count)

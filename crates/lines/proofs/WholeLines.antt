@@ -1,7 +1,7 @@
--- The next line of a part, read in one pass or in two.
-use mathlib.Core.Logic.{◌≢◌}
+-- The next line of a part.
 use mathlib.Core.Path.{◌≡◌, sym, ap, subst, ◌∙◌}
 use mathlib.Core.Option.{some}
+use Rattle.std.specs.Prelude.{Option, Some}
 use mathlib.Core.List.{List}
 use Prim.Native.Nat.{ℕ, ◌≤◌}
 use native.Mathlib.Omega.{arith}
@@ -9,7 +9,7 @@ use lib.ListN.{length}
 use Rattle.model.specs.Lines.{deliver}
 use Rattle.parse.specs.Meaning.{parsed}
 use Rattle.parse_deliver.specs.declared.Quick.{Quick}
-use Rattle.parse_deliver.specs.Deliver.{DeliverAt, DeliverRead, unread, delivered}
+use Rattle.parse_deliver.specs.Deliver.{DeliverAt, DeliverRead}
 use Rattle.progress.specs.declared.Progress.{Progress}
 use Rattle.lines.specs.declared.Read.{Read}
 use Rattle.lines.specs.Sessions.{held}
@@ -20,13 +20,12 @@ use Rattle.lines.proofs.Holding.{ended_whole, after_whole}
 deliver_feed : {input : List ℕ} {from n to : ℕ} → DeliverAt input from n to → FeedAt input from to
 deliver_feed k = record { bytes = record { onward = k.onward; within = omega (arith, k.within); plain = k.plain }; stops = λ h. k.feed }
 
--- a line `deliver I` that was read in one pass is the next line
-pub deliver_whole : (line input : List ℕ) (p : Progress) (q : Quick) (r : Read) → p.held ≡ 0 → DeliverRead input p.taken q → q.next ≢ 0 → r.next ≡ q.next → r.line ≡ parsed (some (deliver q.number))
+-- a line `deliver I` that was read where it lies is the next line
+pub deliver_whole : (line input : List ℕ) (p : Progress) (q : Quick) (x : Read) (r : Option Read) → p.held ≡ 0 → DeliverRead input p.taken q → r ≡ Some x → x.next ≡ q.next → x.line ≡ parsed (some (deliver q.number))
     → WholeLine line input p line r
-deliver_whole line input p q r e (unread f) n g y = absurd (n f)
-deliver_whole line input p q r e (delivered to f k) n g y =
-    whole to (deliver_feed k) k.within (g ∙ f)
-    (y ∙ ap parsed (sym k.reads) ∙ rw (ended_whole (held line p.held) _ e))
+deliver_whole line input p q x r e k b g y =
+    whole x k.to b (deliver_feed k.at) k.at.within (g ∙ k.next)
+    (y ∙ ap parsed (sym k.at.reads) ∙ rw (ended_whole (held line p.held) _ e))
     (rw (after_whole (held line p.held) _ e, e))
 
 -- no line feed stands in the rest

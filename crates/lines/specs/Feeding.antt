@@ -1,5 +1,6 @@
 -- What feeding a part of an input leaves in the lent arrays, byte by byte and line by line, and what that stands for.
-use Rattle.std.specs.Prelude.{◌≡◌, Bool, true, false, List, [], ◌∷◌, ◌++◌, ℕ, ◌+◌, ◌-◌, ◌≤◌, ◌<◌, length, take, drop, get_or}
+use Rattle.std.specs.Prelude.{◌≡◌, Bool, true, false, List, [], ◌∷◌, ◌++◌, ℕ, ◌+◌, ◌-◌, ◌≤◌, ◌<◌, length, take, drop, get_or, Option, Some, None, is_some}
+use Rattle.std.specs.Option.{unwrap_or}
 use Rattle.model.specs.Measures.{max_lines}
 use Rattle.model.specs.Parse.{parse}
 use Rattle.parse.specs.Meaning.{parsed}
@@ -43,10 +44,10 @@ pub record PartFed (w : Session) (input out : List ℕ) (w' : Session) (out' : L
 
 -- ---- parts of it
 
--- the next line where it ends in the part, read as a line of its bytes; else `next` is 0
-pub data WholeLine (line input : List ℕ) (p : Progress) (line' : List ℕ) (r : Read) : Type 0 where
-  whole : (feed : ℕ) → FeedAt input p.taken feed → feed < length input → r.next ≡ feed + 1 → r.line ≡ parsed (parse (ended_line (held line p.held) (between input p.taken feed))) → held line' 0 ≡ held_after (held line p.held) (between input p.taken feed) → WholeLine line input p line' r
-  unended : r.next ≡ 0 → line' ≡ line → Plain input p.taken (length input) → WholeLine line input p line' r
+-- the next line where it ends in the part, read as a line of its bytes
+pub data WholeLine (line input : List ℕ) (p : Progress) (line' : List ℕ) (r : Option Read) : Type 0 where
+  whole : (x : Read) (feed : ℕ) → r ≡ Some x → FeedAt input p.taken feed → feed < length input → x.next ≡ feed + 1 → x.line ≡ parsed (parse (ended_line (held line p.held) (between input p.taken feed))) → held line' 0 ≡ held_after (held line p.held) (between input p.taken feed) → WholeLine line input p line' r
+  unended : r ≡ None → line' ≡ line → Plain input p.taken (length input) → WholeLine line input p line' r
 
 -- one more line may be run
 pub record MayRun (size : ℕ) (p : Progress) (r : Bool) : Type 0 where
@@ -54,21 +55,21 @@ pub record MayRun (size : ℕ) (p : Progress) (r : Bool) : Type 0 where
   pub may_not : r ≡ false → p.lines < max_lines → size < p.written + line_room
 
 -- the next line, where it may be run
-pub data NextLine (line input : List ℕ) (size : ℕ) (p : Progress) (line' : List ℕ) (r : Read) : Type 0 where
+pub data NextLine (line input : List ℕ) (size : ℕ) (p : Progress) (line' : List ℕ) (r : Option Read) : Type 0 where
   found : p.lines < max_lines → p.written + line_room ≤ size → WholeLine line input p line' r → NextLine line input size p line' r
-  full : (p.lines < max_lines → size < p.written + line_room) → r.next ≡ 0 → line' ≡ line → NextLine line input size p line' r
+  full : (p.lines < max_lines → size < p.written + line_room) → r ≡ None → line' ≡ line → NextLine line input size p line' r
 
--- one step of feeding: a line, or nothing where no line that ends in the part can be run
-pub record Advanced (w : Session) (input out : List ℕ) (p : Progress) (w' : Session) (out' : List ℕ) (p' : Progress) : Type 0 where
+-- one step of feeding: a line, or nothing (r is none, and the progress stays) where no line that ends in the part can be run
+pub record Advanced (w : Session) (input out : List ℕ) (p : Progress) (w' : Session) (out' : List ℕ) (r : Option Progress) : Type 0 where
   pub bytes : List ℕ
   pub text : List ℕ
   pub feeds : LinesFed w (length out - p.written) bytes text w'
-  pub read : take p'.taken input ≡ take p.taken input ++ bytes
-  pub printed : Printed text out p.written out' p'.written
-  pub within : p'.taken ≤ length input
-  pub room : p'.written ≤ length out
-  pub goes : p'.more ≡ true → p.taken < p'.taken
-  pub rests : p'.more ≡ false → p'.lines < max_lines → p'.written + line_room ≤ length out → Plain input p'.taken (length input)
+  pub read : take (unwrap_or r p).taken input ≡ take p.taken input ++ bytes
+  pub printed : Printed text out p.written out' (unwrap_or r p).written
+  pub within : (unwrap_or r p).taken ≤ length input
+  pub room : (unwrap_or r p).written ≤ length out
+  pub goes : is_some r ≡ true → p.taken < (unwrap_or r p).taken
+  pub rests : r ≡ None → p.lines < max_lines → p.written + line_room ≤ length out → Plain input p.taken (length input)
 
 -- the bytes after the lines that were run: those up to a line feed are kept in the array of the present line, or all are passed over
 pub data RestKept (p : Progress) (line input : List ℕ) (p' : Progress) (line' : List ℕ) : Type 0 where

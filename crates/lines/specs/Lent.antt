@@ -1,6 +1,7 @@
 -- The contracts of `lines` over the lent arrays, the bytes kept of the present line, the input and the output. The records are those of
 -- Lines.antt and Feeding.antt.
-use Rattle.std.specs.Prelude.{◌≡◌, ℕ}
+use Rattle.std.specs.Prelude.{◌≡◌, ℕ, Option}
+use Rattle.std.specs.Option.{unwrap_or}
 use Rattle.model.specs.Parse.{parse}
 use Rattle.parse.specs.Meaning.{parsed}
 use Rattle.parse.specs.declared.Line.{Line}
@@ -26,23 +27,23 @@ ReadsLine line bytes count r =
     (r ≡ parsed (parse (ended_line (held (was line) count) (was bytes))))
     × (held (is line) 0 ≡ held_after (held (was line) count) (was bytes))
 
-abbrev pub ReadsWhole : (line input : Lent) → Progress → Read → Type 0
+abbrev pub ReadsWhole : (line input : Lent) → Progress → Option Read → Type 0
 ReadsWhole line input p r = WholeLine (was line) (was input) p (is line) r
 
-abbrev pub ReadsNext : (line input : Lent) → (size : ℕ) → Progress → Read → Type 0
+abbrev pub ReadsNext : (line input : Lent) → (size : ℕ) → Progress → Option Read → Type 0
 ReadsNext line input size p r = NextLine (was line) (was input) size p (is line) r
 
 abbrev pub EndsLine : Lents → (out : Lent) → Line → Progress → Ending → Type 0
 EndsLine a out x p r = LineRun (old a) (old_answers a) x (new a) (new_answers a) (was out) (is out) p r
 
-abbrev pub Advances : Lents → (line out input : Lent) → Progress → Progress → Type 0
+abbrev pub Advances : Lents → (line out input : Lent) → Progress → Option Progress → Type 0
 Advances a line out input p r =
     Advanced
     (old_session a p.tally p.lines (held (was line) p.held))
     (was input)
     (was out)
     p
-    (new_session a r.tally r.lines (held (is line) r.held))
+    (new_session a (unwrap_or r p).tally (unwrap_or r p).lines (held (is line) (unwrap_or r p).held))
     (is out)
     r
 

@@ -12,10 +12,10 @@ use memory::{
     AnswerWords, CopyBytes, CountWords, HeadWords, PayloadBytes, QueueWords, SlotWords, TextBytes,
     WorkingBytes,
 };
-use progress::{KeptLine, MAX_LINES, Progress, begun, ended, passed, stopped, waiting};
+use progress::{KeptLine, MAX_LINES, Progress};
 use runs::Tally;
 
-// The next line that ends in the part is run, if there is one and room for what it prints.
+// The next line that ends in the part is run, if there is one and room for what it prints; else nothing is done.
 fn advance(
     counts: &mut CountWords,
     heads: &mut HeadWords,
@@ -30,22 +30,16 @@ fn advance(
     out: &mut [u8],
     input: &[u8],
     progress: Progress,
-) -> Progress
+) -> Option<Progress>
     requires { (progress.taken ≤ length input.now) × (progress.written ≤ length out.old) }
     ensures { Advances (lent counts heads slots copies working texts queue payloads answers) line out (read_only input) progress result }
 {
-    let size = out.len();
-    let read = next_line(line, input, size, progress);
-    let next = read.next;
-    if next != 0 {
-        let present = read.line;
-        let ending = end_line(
-            counts, heads, slots, copies, working, texts, queue, payloads, answers, out, present,
-            progress,
-        );
-        return ended(progress, ending, next);
-    }
-    stopped(progress)
+    let read = next_line(line, input, out.len(), progress)?;
+    let ending = end_line(
+        counts, heads, slots, copies, working, texts, queue, payloads, answers, out, read.line,
+        progress,
+    );
+    Some(progress.ended(ending, read.next))
 }
 
 // The bytes after the last line that was run are kept, up to a line feed.
@@ -57,9 +51,10 @@ fn keep_rest(line: &mut KeptLine, input: &[u8], progress: Progress) -> Progress
         let from = progress.taken;
         let feed = line_feed(input, from);
         let held = keep(line, &input[from..feed], progress.held);
-        return waiting(progress, held, feed);
+        progress.waiting(held, feed)
+    } else {
+        progress.passed(input.len())
     }
-    passed(progress, input.len())
 }
 
 // A part of the input.
@@ -82,12 +77,12 @@ pub fn feed_part(
 ) -> Progress
     ensures { FeedsPart (lent counts heads slots copies working texts queue payloads answers) line out (read_only input) tally lines count result }
 {
-    let mut progress = begun(tally, lines, count);
-    while progress.more {
-        progress = advance(
-            counts, heads, slots, copies, working, texts, queue, payloads, answers, line, out,
-            input, progress,
-        );
+    let mut progress = Progress::begun(tally, lines, count);
+    while let Some(after) = advance(
+        counts, heads, slots, copies, working, texts, queue, payloads, answers, line, out, input,
+        progress,
+    ) {
+        progress = after;
     }
     keep_rest(line, input, progress)
 }

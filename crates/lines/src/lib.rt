@@ -10,7 +10,7 @@ mod keeping;
 mod reading;
 mod running;
 
-// A line that was read, and the place behind its line feed; that is 0 where no line was read.
+// A line that was read, and the place behind its line feed.
 #[derive(Clone, Copy)]
 pub struct Read {
     pub line: Line,

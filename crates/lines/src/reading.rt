@@ -1,6 +1,6 @@
 // The next line that ends in the part, read.
 ghost use Rattle.memory.specs.Lent.{read_only};
-ghost use Rattle.std.specs.Prelude.{◌≡◌, ◌≤◌, length};
+ghost use Rattle.std.specs.Prelude.{◌≤◌, length};
 ghost use Rattle.lines.specs.Feeding.{MayRun};
 ghost use Rattle.lines.specs.Lent.{ReadsWhole, ReadsNext};
 
@@ -9,48 +9,35 @@ use crate::keeping::{line_feed, read_line};
 use parse_deliver::{deliver_line, quick_deliver};
 use progress::{KeptLine, MAX_LINES, Progress, has_room};
 
-// No line was read.
-fn no_line() -> Read
-    ensures { result.next ≡ 0 }
-{
-    Read {
-        line: deliver_line(0),
-        next: 0,
-    }
-}
-
 // A line of any kind: its line feed is looked for first.
-fn any_line(line: &mut KeptLine, input: &[u8], progress: Progress) -> Read
+fn any_line(line: &mut KeptLine, input: &[u8], progress: Progress) -> Option<Read>
     requires { progress.taken ≤ length input.now }
     ensures { ReadsWhole line (read_only input) progress result }
 {
     let from = progress.taken;
     let feed = line_feed(input, from);
     if feed < input.len() {
-        let next = feed + 1;
         let present = read_line(line, &input[from..feed], progress.held);
-        return Read {
+        Some(Read {
             line: present,
-            next,
-        };
+            next: feed + 1,
+        })
+    } else {
+        None
     }
-    no_line()
 }
 
-// Most lines are `deliver` with a number and lie whole in the part: these are tried first, in one pass.
-fn whole_line(line: &mut KeptLine, input: &[u8], progress: Progress) -> Read
+// Most lines are `deliver` with a number and lie whole in the part: these are tried first.
+fn whole_line(line: &mut KeptLine, input: &[u8], progress: Progress) -> Option<Read>
     requires { progress.taken ≤ length input.now }
     ensures { ReadsWhole line (read_only input) progress result }
 {
     if progress.held == 0 {
-        let quick = quick_deliver(input, progress.taken);
-        let next = quick.next;
-        if next != 0 {
-            let present = deliver_line(quick.number);
-            return Read {
-                line: present,
-                next,
-            };
+        if let Some(quick) = quick_deliver(input, progress.taken) {
+            return Some(Read {
+                line: deliver_line(quick.number),
+                next: quick.next,
+            });
         }
     }
     any_line(line, input, progress)
@@ -60,19 +47,22 @@ fn whole_line(line: &mut KeptLine, input: &[u8], progress: Progress) -> Read
 fn may_run(size: usize, progress: Progress) -> bool
     ensures { MayRun size progress result }
 {
-    if progress.lines < MAX_LINES {
-        return has_room(size, progress.written);
-    }
-    false
+    progress.lines < MAX_LINES && has_room(size, progress.written)
 }
 
 // The next line, if it may be run.
-pub fn next_line(line: &mut KeptLine, input: &[u8], size: usize, progress: Progress) -> Read
+pub fn next_line(
+    line: &mut KeptLine,
+    input: &[u8],
+    size: usize,
+    progress: Progress,
+) -> Option<Read>
     requires { progress.taken ≤ length input.now }
     ensures { ReadsNext line (read_only input) size progress result }
 {
     if may_run(size, progress) {
-        return whole_line(line, input, progress);
+        whole_line(line, input, progress)
+    } else {
+        None
     }
-    no_line()
 }

@@ -32,16 +32,23 @@ pub fn end_line(
     requires { (progress.lines < max_lines) × (progress.written + line_room ≤ length out.old) }
     ensures { EndsLine (lent counts heads slots copies working texts queue payloads answers) out line progress result }
 {
-    let tally = progress.tally;
     let stepped = step(
-        counts, heads, slots, copies, working, texts, queue, payloads, answers, tally, line,
+        counts,
+        heads,
+        slots,
+        copies,
+        working,
+        texts,
+        queue,
+        payloads,
+        answers,
+        progress.tally,
+        line,
     );
-    let report = stepped.report;
     let number = (progress.lines + 1) as u32;
-    let written = put_outcome(out, progress.written, number, report, answers);
-    let after = stepped.tally;
+    let written = put_outcome(out, progress.written, number, stepped.report, answers);
     Ending {
-        tally: after,
+        tally: stepped.tally,
         written,
     }
 }

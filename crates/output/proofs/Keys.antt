@@ -7,7 +7,7 @@ use native.Mathlib.Omega.{arith}
 use lib.ListN.{length, take, get_or, length-append}
 use Rattle.entries.specs.Entries.{keys_of}
 use Rattle.entries.specs.Decoded.{key_bytes, entry_in, table_in, blank}
-use Rattle.entries.specs.declared.Key.{Key}
+use Rattle.entries.specs.Decoded.{Key}
 use Rattle.entries.specs.declared.Slot.{Slot}
 use Rattle.entries.specs.declared.Decoded.{Decoded}
 use Rattle.model.specs.Text.{bytes}

@@ -5,7 +5,7 @@ use Prim.Native.Nat.{ℕ, ◌≤◌, ◌<◌, ◌^◌}
 use native.Mathlib.Omega.{arith}
 use lib.ListN.{length, length-append}
 use Rattle.entries.specs.Decoded.{value_bytes, table_in}
-use Rattle.entries.specs.declared.Value.{Value}
+use Rattle.entries.specs.Decoded.{Value}
 use Rattle.entries.specs.declared.Decoded.{Decoded}
 use Rattle.model.specs.Text.{bytes}
 use Rattle.model.specs.Print.{value_text, keys_text, data_of, answer_text}

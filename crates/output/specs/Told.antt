@@ -2,7 +2,7 @@
 use Rattle.std.specs.Prelude.{◌≡◌, List, ℕ, ◌≤◌, ◌+◌, ◌*◌, length}
 use Rattle.entries.specs.Entries.{Entry, keys_of}
 use Rattle.entries.specs.Decoded.{key_bytes, table_in}
-use Rattle.entries.specs.declared.Key.{Key}
+use Rattle.entries.specs.Decoded.{Key}
 use Rattle.entries.specs.declared.Slot.{Slot}
 use Rattle.entries.specs.declared.Decoded.{Decoded}
 use Rattle.model.specs.Print.{keys_text}

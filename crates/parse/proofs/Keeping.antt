@@ -13,8 +13,11 @@ use Rattle.model.specs.Measures.{max_key_bytes, max_value_bytes}
 use Rattle.model.specs.Calls.{Words, get, set, setif, del, keys}
 use Rattle.model.specs.Cluster.{Cluster}
 use Rattle.model.specs.Lines.{Line, cluster, elect, call, deliver, copy, lose, timeout, stop, cut, start, State, either, no_server, no_bucket_for, bad_key, bad_value, bad_words, first_of, conditions, conditions_up_to, in_cluster, in_cluster_up_to, create_cluster, perform, perform_up_to}
-use Rattle.entries.specs.Decoded.{key_bytes, value_bytes}
-use Rattle.parse.specs.Kept.{key_for, value_for, item_for, key_in, value_in, given_in}
+use Rattle.std.specs.Prelude as O
+use Rattle.std.specs.Prelude.{if◌then◌else◌, is_some}
+use Rattle.std.specs.Option.{unwrap_or}
+use Rattle.entries.specs.Decoded.{text_bytes, no_value}
+use Rattle.parse.specs.Kept.{text_for, key_for, item_for, key_in, value_in, given_in}
 use Rattle.parse.specs.Meaning.{line_for, line_in, parsed_call, parsed_line, parsed}
 use Rattle.parse.proofs.Padding.{padded_back}
 
@@ -54,11 +57,11 @@ kept_of (some l) = some (kept_line l)
 -- ---- the line by value that was read stands for that
 
 key_read : (k : List ℕ) → key_in (key_for k) ≡ kept max_key_bytes k
-unfolding key_in key_bytes key_for kept
+unfolding key_in text_bytes text_for kept
 key_read k = rw (padded_back 8 k)
 
-value_read : (v : Option (List ℕ)) → given_in (item_for v) ≡ kept_item v
-unfolding given_in item_for value_in value_bytes value_for kept kept_item
+value_read : (v : Option (List ℕ)) → given_in (if is_some (item_for v) then O.Some (unwrap_or (item_for v) no_value) else O.None) ≡ kept_item v
+unfolding given_in item_for value_in text_bytes text_for kept kept_item
 value_read none = refl
 value_read (some v) = rw (padded_back 16 v)
 

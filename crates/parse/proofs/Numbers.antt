@@ -9,10 +9,10 @@ use native.Mathlib.Omega.{arith}
 use native.Mathlib.Numerals.{add-one}
 use native.Mathlib.Nat.{zero-add, pow-suc, pow-le-pow_right}
 use native.Mathlib.Decide.{dec_lt}
-use lib.Dec.{eqb}
+use lib.Dec.{eqb, leb}
 use lib.ListN.{length, drop, get_or, drop_of_length-le}
 use lib.Seq.{drop-cons}
-use borrow.Author.Tests.{lt-ltb, le-ltb, le-leb, lt-leb, eq-eqb, ne_eqb}
+use borrow.Author.Tests.{leb-true, le-leb, lt-leb, eq-eqb, ne_eqb}
 use Rattle.model.specs.Parse.{digit, decimal_from, number}
 use Rattle.parse.specs.Digits.{optional}
 
@@ -25,17 +25,6 @@ was_some (M.some b) h = cc
 pub was_none : {A : Type 0} (o : M.Option A) → None ≡ optional o → o ≡ M.none
 was_none M.none h = refl
 was_none (M.some b) h = cc
-
--- a digit is at most 9
-pub digit_small : (b : ℕ) {d : ℕ} → digit b ≡ M.some d → d ≤ 9
-digit_small b {d} h = go (dec_lt b 48) (dec_lt b 58)
-  where
-    go : Dec (b < 48) → Dec (b < 58) → d ≤ 9
-    go (yes k) m = absurd (unfold digit in cc (lt-ltb b 48 k))
-    go (no k) (yes m) =
-        let e : M.some (b - 48) ≡ M.some d = unfold digit in rw (digit, le-ltb b 48 (omega arith), lt-ltb b 58 m) at h in
-        omega (arith, (M.some_inj).0 e)
-    go (no k) (no m) = absurd (unfold digit in cc (le-ltb b 48 (omega arith), le-ltb b 58 (omega arith)))
 
 -- ---- a number read digit by digit: n has the digits before i
 pub record Reading (l : List ℕ) (n i : ℕ) : Type 0 where
@@ -61,8 +50,8 @@ module _ {l : List ℕ} {n i : ℕ} (c : Reading l n i) where
   pub reading_small : i < length l → n < 100000000
   reading_small h = omega (arith, c.size, pow-le-pow_right {n = 10} (omega arith) {i = i} {j = 8} (omega (arith, c.short)))
 
-  pub reading_goes_on : {d : ℕ} → i < length l → Some d ≡ optional (digit (get_or l i 0)) → Reading l (n * 10 + d) (i + 1)
-  reading_goes_on {d} h e = record { inside = omega arith; short = c.short; size = rw (add-one i, pow-suc 10 i) (omega (arith, c.size, digit_small (get_or l i 0) read)); rest = c.rest ∙ more }
+  pub reading_goes_on : {d : ℕ} → i < length l → Some d ≡ optional (digit (get_or l i 0)) → d ≤ 9 → Reading l (n * 10 + d) (i + 1)
+  reading_goes_on {d} h e k = record { inside = omega arith; short = c.short; size = rw (add-one i, pow-suc 10 i) (omega (arith, c.size)); rest = c.rest ∙ more }
     where
       read : digit (get_or l i 0) ≡ M.some d
       read = was_some (digit (get_or l i 0)) e
@@ -118,8 +107,19 @@ number_read (b ∷ (c ∷ l)) h k n = rw (number, ne_eqb b 48 (n (omega arith)),
 
 -- no digit, or more than nine
 pub number_sized : (l : List ℕ) → (1 ≤ length l → 9 < length l) → None ≡ optional (number l)
-number_sized l h = go (dec_lt 9 (length l))
+number_sized l h = go (dec_lt 0 (length l))
   where
-    go : Dec (9 < length l) → None ≡ optional (number l)
-    go (yes k) = ap optional (number_long l k)
-    go (no k) = ap optional (number_none l (omega (arith, h)))
+    go : Dec (0 < length l) → None ≡ optional (number l)
+    go (yes k) = ap optional (number_long l (h k))
+    go (no k) = ap optional (number_none l (omega arith))
+
+-- the digits of a word that is a number
+pub number_digits : (l : List ℕ) {n : ℕ} → number l ≡ M.some n → (length l ≤ 9) × (decimal_from 0 l ≡ M.some n)
+number_digits [] h = absurd (unfold number in cc)
+number_digits (b ∷ []) h = unfold number in (omega arith, number_one b (digit b) refl ∙ h)
+number_digits (b ∷ (c ∷ l)) {n} h = go (eqb b 48) refl (leb (length l) 7) refl (unfold number in h)
+  where
+    go : (t : Bool) → eqb b 48 ≡ t → (u : Bool) → leb (length l) 7 ≡ u → elim (eqb b 48) [ true ↦ M.none | false ↦ elim (leb (length l) 7) [ false ↦ M.none | true ↦ decimal_from 0 (b ∷ (c ∷ l)) ] ] ≡ M.some n → (length (b ∷ (c ∷ l)) ≤ 9) × (decimal_from 0 (b ∷ (c ∷ l)) ≡ M.some n)
+    go true e u f k = absurd (cc (rw e at k))
+    go false e false f k = absurd (cc (rw (e, f) at k))
+    go false e true f k = (omega (arith, leb-true (length l) 7 f), rw (e, f) at k)

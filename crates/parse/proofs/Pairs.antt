@@ -1,30 +1,36 @@
 -- Keys and values: which words are pairs of hexadecimal digits, and the bytes that pairs stand for.
-use mathlib.Core.Path.{◌≡◌, refl, ◌∙◌}
-use mathlib.Core.List.{List, [], ◌∷◌}
-use mathlib.Core.Bool.{true, false}
+use mathlib.Core.Path.{◌≡◌, refl, sym, ap, ◌∙◌}
+use mathlib.Core.List.{List, [], ◌∷◌, map}
+use mathlib.Core.Bool.{Bool, true, false, not, ◌&&◌, ◌||◌, and-false}
+use Rattle.std.specs.Prelude as O
+use Rattle.std.specs.Prelude.{IfSome, is_some}
+use Rattle.std.specs.Option.{unwrap_or}
+use Rattle.std.specs.List.{list_all, range_with_len}
+use Rattle.std.proofs.lemmas.Option.{same_Some}
 use mathlib.Core.Option.{Option, none, some}
-use Prim.Native.Nat.{ℕ, zero, suc, ◌≤◌, ◌<◌, ◌+◌, ◌*◌, ◌/◌}
+use Prim.Native.Nat.{ℕ, zero, suc, ◌≤◌, ◌<◌, ◌+◌, ◌*◌, ◌/◌, ◌%◌}
 use native.Mathlib.Omega.{arith}
-use native.Mathlib.Numerals.{add-one}
-use lib.ListN.{length, drop, get_or, drop_of_length-le}
-use lib.Seq.{drop-cons}
-use Rattle.entries.specs.declared.Value.{Value}
+use borrow.Author.Tests.{ne_eqb}
+use lib.Dec.{eqb}
+use lib.ListN.{length, get_or}
+use Rattle.entries.specs.Decoded.{Value}
 use Rattle.table.specs.Form.{same_bytes}
 use Rattle.model.specs.Text.{bytes}
 use Rattle.model.specs.Parse.{hex_digit, pairs, hexadecimal, item}
-use Rattle.parse.specs.Digits.{digit_of, present, nibble, Nibble, pair_bytes, item_bytes}
-use Rattle.parse.specs.Kept.{padded, key_for, value_for, item_for}
-use Rattle.parse.proofs.Sameness.{same_true}
-use Rattle.parse.proofs.Numbers.{is_digit, no_digit}
-use Rattle.parse.proofs.Padding.{Padding, padding_ends}
+use Rattle.parse.specs.Digits.{optional, present, nibble, Nibble, pair_bytes, item_bytes}
+use Rattle.parse.specs.Kept.{text_for, value_for, item_for}
+use Rattle.parse.proofs.Padding.{padded_places}
 
 -- ---- a byte as a digit, 0 where it is none
 
-pub nibble_digit : {b d : ℕ} → d < 16 → digit_of 16 d ≡ hex_digit b → Nibble b d
-nibble_digit {b} {d} h e = record { is = unfold nibble in rw (nibble, ← e, is_digit 16 d h); low = omega arith }
-
-pub nibble_other : {b d : ℕ} → 16 ≤ d → digit_of 16 d ≡ hex_digit b → Nibble b 0
-nibble_other {b} {d} h e = record { is = unfold nibble in rw (nibble, ← e, no_digit 16 d h); low = omega arith }
+pub nibble_read : (b : ℕ) {o : O.Option ℕ} {r : ℕ} → o ≡ optional (hex_digit b) → IfSome o (λ d. d ≤ 15) → r ≡ unwrap_or o 0 → Nibble b r
+nibble_read b {o} {r} e h k = go (hex_digit b) refl o e h k
+  where
+    go : (x : Option ℕ) → hex_digit b ≡ x → (o : O.Option ℕ) → o ≡ optional x → IfSome o (λ d. d ≤ 15) → r ≡ unwrap_or o 0 → Nibble b r
+    go none f O.None g h k = record { is = unfold nibble in rw (nibble, f, k); low = omega arith }
+    go none f (O.Some d) g h k = absurd (cc)
+    go (some d) f O.None g h k = absurd (cc)
+    go (some d) f (O.Some x) g h k = record { is = unfold nibble in rw (nibble, f, k) (same_Some _ _ g); low = rw k h }
 
 -- ---- one pair more
 
@@ -50,57 +56,24 @@ unfolding joined present
 joined_good x y none = refl
 joined_good x y (some r) = refl
 
-joined_first_bad : (q : Option ℕ) (o : Option (List ℕ)) → present (joined none q o) ≡ false
-unfolding joined present
-joined_first_bad q o = refl
+-- pairs are an even number of digits
+pub pairs_present : (l : List ℕ) → present (pairs l) ≡ (eqb (length l % 2) 0 && list_all (λ b. is_some (optional (hex_digit b))) l)
+unfolding pairs present
+pairs_present [] = refl
+pairs_present (a ∷ []) = refl
+pairs_present (a ∷ (b ∷ l)) = pair (hex_digit a) refl (hex_digit b) refl (pairs_present l)
+  where
+    even : length (a ∷ (b ∷ l)) % 2 ≡ length l % 2
+    even = omega arith
 
-joined_second_bad : (p : Option ℕ) (o : Option (List ℕ)) → present (joined p none o) ≡ false
-unfolding joined present
-joined_second_bad none o = refl
-joined_second_bad (some x) o = refl
-
--- ---- the check, pair by pair: those before i are good
-pub record Checking (l : List ℕ) (i : ℕ) : Type 0 where
-  pub inside : i ≤ length l
-  pub rest : present (pairs l) ≡ present (pairs (drop i l))
-
-pub checking_starts : (l : List ℕ) → Checking l 0
-checking_starts l = record { inside = omega arith; rest = refl }
-
-drop_two : (l : List ℕ) (i : ℕ) → i + 1 < length l → drop i l ≡ get_or l i 0 ∷ (get_or l (i + 1) 0 ∷ drop (i + 2) l)
-drop_two l i h =
-    let n : i + 2 ≡ suc (suc i) = omega arith in
-    rw (n, add-one i, drop-cons l i 0 (omega arith), drop-cons l (suc i) 0 (omega arith))
-
-module _ {l : List ℕ} {i : ℕ} (c : Checking l i) where
-  pub checking_goes_on : {x y : ℕ} → i + 1 < length l → x ≤ 15 → y ≤ 15 → digit_of 16 x ≡ hex_digit (get_or l i 0) → digit_of 16 y ≡ hex_digit (get_or l (i + 1) 0) → Checking l (i + 2)
-  checking_goes_on {x} {y} h p q e f =
-      record {
-        inside = omega arith;
-        rest = c.rest ∙ rw (drop_two l i h, pair_step, ← e, ← f, is_digit 16 x (omega arith), is_digit 16 y (omega arith)) (joined_good x y _);
-      }
-
-  pub checking_first_bad : {x : ℕ} → i + 1 < length l → 15 < x → digit_of 16 x ≡ hex_digit (get_or l i 0) → present (pairs l) ≡ false
-  checking_first_bad {x} h p e = c.rest ∙ rw (drop_two l i h, pair_step, ← e, no_digit 16 x p) (joined_first_bad _ _)
-
-  pub checking_second_bad : {y : ℕ} → i + 1 < length l → 15 < y → digit_of 16 y ≡ hex_digit (get_or l (i + 1) 0) → present (pairs l) ≡ false
-  checking_second_bad {y} h p e = c.rest ∙ rw (drop_two l i h, pair_step, ← e, no_digit 16 y p) (joined_second_bad _ _)
-
-  -- a last digit without a second
-  pub checking_odd : length l ≤ i + 1 → i < length l → present (pairs l) ≡ false
-  checking_odd h k = c.rest ∙ (unfold pairs present in rw (drop-cons l i 0 k, ← add-one i, drop_of_length-le l {i = i + 1} h))
-
-  pub checking_ends : length l ≤ i → present (pairs l) ≡ true
-  checking_ends h = c.rest ∙ (unfold pairs present in rw (drop_of_length-le l {i = i} h))
+    pair : (x : Option ℕ) → hex_digit a ≡ x → (y : Option ℕ) → hex_digit b ≡ y → present (pairs l) ≡ (eqb (length l % 2) 0 && list_all (λ b. is_some (optional (hex_digit b))) l) → present (pairs (a ∷ (b ∷ l))) ≡ (eqb (length (a ∷ (b ∷ l)) % 2) 0 && list_all (λ b. is_some (optional (hex_digit b))) (a ∷ (b ∷ l)))
+    pair none e y f ih = rw (pair_step a b l, e) (unfold joined in sym (and-false (eqb (length (a ∷ (b ∷ l)) % 2) 0)))
+    pair (some x) e none f ih = rw (pair_step a b l, e, f) (unfold joined in sym (and-false (eqb (length (a ∷ (b ∷ l)) % 2) 0)))
+    pair (some x) e (some y) f ih = rw (pair_step a b l, e, f, even) (joined_good x y (pairs l) ∙ ih)
 
 -- ---- which words stand for bytes
 
-pub hexadecimal_none : (l : List ℕ) → length l ≡ 0 → present (hexadecimal l) ≡ false
-unfolding hexadecimal present
-hexadecimal_none [] h = refl
-hexadecimal_none (b ∷ l) h = absurd (omega arith)
-
-pub hexadecimal_dash : (l : List ℕ) → (length l ≡ 0 → ⊥) → same_bytes l (bytes "-") ≡ true → present (hexadecimal l) ≡ true
+hexadecimal_dash : (l : List ℕ) → (length l ≡ 0 → ⊥) → same_bytes l (bytes "-") ≡ true → present (hexadecimal l) ≡ true
 unfolding hexadecimal present
 hexadecimal_dash [] h e = absurd (h refl)
 hexadecimal_dash (b ∷ l) h e = rw (hexadecimal, e)
@@ -109,11 +82,6 @@ pub hexadecimal_pairs : (l : List ℕ) → (length l ≡ 0 → ⊥) → same_byt
 unfolding hexadecimal
 hexadecimal_pairs [] h e = absurd (h refl)
 hexadecimal_pairs (b ∷ l) h e = rw (hexadecimal, e)
-
-pub item_empty : (l : List ℕ) → length l ≡ 0 → present (item l) ≡ false
-unfolding item present
-item_empty [] h = refl
-item_empty (b ∷ l) h = absurd (omega arith)
 
 pub item_dash : (l : List ℕ) → (length l ≡ 0 → ⊥) → same_bytes l (bytes "-") ≡ true → item l ≡ some none
 unfolding item
@@ -135,6 +103,38 @@ unfolding present
 present_value none = refl
 present_value (some v) = refl
 
+-- the tests that the code makes
+pub key_present : (l : List ℕ) → present (hexadecimal l) ≡ (not (eqb (length l) 0) && (same_bytes l (45 ∷ []) || present (pairs l)))
+unfolding bytes
+key_present [] = unfold hexadecimal present in refl
+key_present (b ∷ l) = go (same_bytes (b ∷ l) (45 ∷ [])) refl
+  where
+    some_byte : length (b ∷ l) ≡ 0 → ⊥
+    some_byte z = absurd (omega arith)
+
+    counted : eqb (length (b ∷ l)) 0 ≡ false
+    counted = ne_eqb (length (b ∷ l)) 0 some_byte
+
+    go : (t : Bool) → same_bytes (b ∷ l) (45 ∷ []) ≡ t → present (hexadecimal (b ∷ l)) ≡ (not (eqb (length (b ∷ l)) 0) && (same_bytes (b ∷ l) (45 ∷ []) || present (pairs (b ∷ l))))
+    go true e = hexadecimal_dash (b ∷ l) some_byte e ∙ rw (e, counted)
+    go false e = ap present (hexadecimal_pairs (b ∷ l) some_byte e) ∙ rw (e, counted)
+
+pub item_present : (l : List ℕ) → present (item l) ≡ (not (eqb (length l) 0) && (same_bytes l (45 ∷ []) || (same_bytes l (46 ∷ []) || present (pairs l))))
+unfolding bytes present
+item_present [] = unfold item in refl
+item_present (b ∷ l) = go (same_bytes (b ∷ l) (45 ∷ [])) refl (same_bytes (b ∷ l) (46 ∷ [])) refl
+  where
+    some_byte : length (b ∷ l) ≡ 0 → ⊥
+    some_byte z = absurd (omega arith)
+
+    counted : eqb (length (b ∷ l)) 0 ≡ false
+    counted = ne_eqb (length (b ∷ l)) 0 some_byte
+
+    go : (t : Bool) → same_bytes (b ∷ l) (45 ∷ []) ≡ t → (u : Bool) → same_bytes (b ∷ l) (46 ∷ []) ≡ u → present (item (b ∷ l)) ≡ (not (eqb (length (b ∷ l)) 0) && (same_bytes (b ∷ l) (45 ∷ []) || (same_bytes (b ∷ l) (46 ∷ []) || present (pairs (b ∷ l)))))
+    go true e u f = ap present (item_dash (b ∷ l) some_byte e) ∙ rw (e, counted)
+    go false e true f = ap present (item_dot (b ∷ l) some_byte e f) ∙ rw (e, f, counted)
+    go false e false f = ap present (item_pairs (b ∷ l) some_byte e f) ∙ rw (e, f, counted) (present_value (pairs (b ∷ l)))
+
 -- ---- the bytes of pairs
 
 pub length_pairs : (l : List ℕ) → length (pair_bytes l) ≡ length l / 2
@@ -143,7 +143,7 @@ length_pairs [] = omega arith
 length_pairs (a ∷ []) = omega arith
 length_pairs (a ∷ (b ∷ l)) = omega (arith, length_pairs l)
 
-pub pair_byte : (l : List ℕ) (i : ℕ) → 2 * i + 1 < length l → get_or (pair_bytes l) i 0 ≡ nibble (get_or l (2 * i) 0) * 16 + nibble (get_or l (2 * i + 1) 0)
+pub pair_byte : (l : List ℕ) (i : ℕ) → i < length l / 2 → get_or (pair_bytes l) i 0 ≡ nibble (get_or l (2 * i) 0) * 16 + nibble (get_or l (2 * i + 1) 0)
 unfolding pair_bytes
 pair_byte [] i h = absurd (omega arith)
 pair_byte (a ∷ []) i h = absurd (omega arith)
@@ -155,19 +155,14 @@ pair_byte (a ∷ (b ∷ l)) (suc i) h =
 
 -- ---- keys and values by value
 
-pub key_padded : (s : List ℕ) {n i : ℕ} {b : List ℕ} {len : ℕ} → Padding 8 s n b i → n ≤ i → len ≡ length s → record { bytes = b; len = len } ≡ key_for s
-unfolding key_for
-key_padded s c h e = rw (e, padding_ends c h)
+pub text_padded : {room : ℕ} (s : List ℕ) {b : List ℕ} {len : ℕ} → b ≡ map (λ k. get_or s k 0) (range_with_len 0 room) → len ≡ length s → record { bytes = b; len = len } ≡ text_for {room = room} s
+unfolding text_for
+text_padded {room} s h e = rw (e, h, padded_places room s)
 
-pub value_padded : (s : List ℕ) {n i : ℕ} {b : List ℕ} {len : ℕ} → Padding 16 s n b i → n ≤ i → len ≡ length s → record { bytes = b; len = len } ≡ value_for s
-unfolding value_for
-value_padded s c h e = rw (e, padding_ends c h)
-
-pub item_there : (w : List ℕ) (v : Value) → same_bytes w (bytes "-") ≡ false → v ≡ value_for (pair_bytes w) → record { there = true; value = v } ≡ item_for (item_bytes w)
+pub item_there : (w : List ℕ) (v : Value) → same_bytes w (bytes "-") ≡ false → v ≡ value_for (pair_bytes w) → O.Some v ≡ item_for (item_bytes w)
 unfolding item_for item_bytes
 item_there w v h e = rw (item_bytes, h, e)
 
--- `-` has no pairs, so the value that is not there is zeros
-pub item_absent : (w : List ℕ) (v : Value) → same_bytes w (bytes "-") ≡ true → v ≡ value_for (pair_bytes w) → record { there = false; value = v } ≡ item_for (item_bytes w)
-unfolding item_for item_bytes pair_bytes bytes value_for padded
-item_absent w v h e = rw (item_bytes, h, e, same_true w (bytes "-") h)
+pub item_absent : (w : List ℕ) → same_bytes w (bytes "-") ≡ true → O.None ≡ item_for (item_bytes w)
+unfolding item_for item_bytes
+item_absent w h = rw (item_bytes, h)

@@ -6,9 +6,9 @@ use Prim.Native.Nat.{ℕ}
 use lib.Dec.{eqb}
 use Rattle.std.specs.Bool.{Decides}
 use Rattle.std.specs.Cmp.Lexicographic.{pointwise}
+use Rattle.std.specs.declared.cmp.Ordering.{Ordering}
+use Rattle.std.specs.declared.cmp.Ordering.TheVariants.{Less, Equal, Greater}
 use Rattle.std.proofs.lemmas.Slice.Eq.{bytes_eq-Decides}
-use Rattle.entries.specs.declared.Order.{Order}
-use Rattle.entries.specs.declared.Order.TheVariants.{Before, Same, After}
 use Rattle.entries.specs.Entries.{order}
 use Rattle.entries.proofs.Comparison.{order_refl, order_same}
 use Rattle.table.specs.Form.{same_bytes}
@@ -20,19 +20,19 @@ same_equal l m e = rw (e, same_bytes, order_refl m)
 pub same_different : (l m : List ℕ) → (l ≡ m → ⊥) → same_bytes l m ≡ false
 same_different l m h = go (order l m) refl
   where
-    go : (o : Order) → order l m ≡ o → same_bytes l m ≡ false
-    go Before e = unfold same_bytes in rw (same_bytes, e)
-    go Same e = absurd (h (order_same l m e))
-    go After e = unfold same_bytes in rw (same_bytes, e)
+    go : (o : Ordering) → order l m ≡ o → same_bytes l m ≡ false
+    go Less e = unfold same_bytes in rw (same_bytes, e)
+    go Equal e = absurd (h (order_same l m e))
+    go Greater e = unfold same_bytes in rw (same_bytes, e)
 
 pub same_true : (l m : List ℕ) → same_bytes l m ≡ true → l ≡ m
 unfolding same_bytes
 same_true l m h = go (order l m) refl h
   where
-    go : (o : Order) → order l m ≡ o → elim o [ Before ↦ false | Same ↦ true | After ↦ false ] ≡ true → l ≡ m
-    go Before e k = cc
-    go Same e k = order_same l m e
-    go After e k = cc
+    go : (o : Ordering) → order l m ≡ o → elim o [ Less ↦ false | Equal ↦ true | Greater ↦ false ] ≡ true → l ≡ m
+    go Less e k = cc
+    go Equal e k = order_same l m e
+    go Greater e k = cc
 
 -- so it is what `==` on slices answers
 pub same_pointwise : (l m : List ℕ) → same_bytes l m ≡ pointwise eqb l m

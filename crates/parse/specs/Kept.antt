@@ -1,11 +1,9 @@
 -- Keys and values in a line: how they stand there by value, and what is read back from that. A key or value has its whole
 -- length, and its first bytes up to the greatest length (RULES, Measures 2); zeros stand behind them.
-use Rattle.std.specs.Prelude.{List, [], ◌∷◌, ◌++◌, true, false, ℕ, zero, suc, ◌-◌, length, replicate}
+use Rattle.std.specs.Prelude.{List, [], ◌∷◌, ◌++◌, ℕ, zero, suc, ◌-◌, length, replicate, Some, None}
 use Rattle.std.proofs.Math.Option.{Option, none, some}
-use Rattle.entries.specs.declared.Key.{Key}
-use Rattle.entries.specs.declared.Value.{Value}
-use Rattle.entries.specs.declared.Item.{Item}
-use Rattle.entries.specs.Decoded.{key_bytes, value_bytes, absent_item}
+use Rattle.entries.specs.declared.Text.{Text}
+use Rattle.entries.specs.Decoded.{Key, Value, Item, key_bytes, value_bytes}
 use Rattle.model.specs.Measures.{max_key_bytes, max_value_bytes}
 
 -- n bytes: the first of l, and zeros where l has no more
@@ -14,16 +12,19 @@ padded zero l = []
 padded (suc n) [] = 0 ∷ padded n []
 padded (suc n) (b ∷ l) = b ∷ padded n l
 
-unfoldable pub key_for : List ℕ → Key
-key_for l = record { bytes = padded max_key_bytes l; len = length l }
+unfoldable pub text_for : {room : ℕ} → List ℕ → Text room
+text_for {room} l = record { bytes = padded room l; len = length l }
 
-unfoldable pub value_for : List ℕ → Value
-value_for l = record { bytes = padded max_value_bytes l; len = length l }
+abbrev pub key_for : List ℕ → Key
+key_for l = text_for l
+
+abbrev pub value_for : List ℕ → Value
+value_for l = text_for l
 
 -- a value that may be absent
 unfoldable pub item_for : Option (List ℕ) → Item
-item_for none = absent_item
-item_for (some v) = record { value = value_for v; there = true }
+item_for none = None
+item_for (some v) = Some (value_for v)
 
 -- what a key or value by value stands for, where its length may be above its room: it is refused whatever its last bytes are
 unfoldable pub key_in : Key → List ℕ
@@ -34,4 +35,5 @@ value_in v = value_bytes v ++ replicate (v.len - max_value_bytes) 0
 
 -- the same of a value that may be absent
 unfoldable pub given_in : Item → Option (List ℕ)
-given_in i = elim i.there [ true ↦ some (value_in i.value) | false ↦ none ]
+given_in (Some v) = some (value_in v)
+given_in None = none

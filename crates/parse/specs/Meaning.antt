@@ -1,6 +1,7 @@
 -- The line by value that reading gives, every byte of it (`parsed`), and what a line by value stands for (`line_in`): of a key or
 -- value that is too long the last bytes are lost. No rule can see the difference (`performed` of proofs/Keeping.antt).
-use Rattle.std.specs.Prelude.{true, false, List, [], ℕ}
+use Rattle.std.specs.Prelude.{true, false, if◌then◌else◌, List, [], ℕ, is_some}
+use Rattle.std.specs.Option.{unwrap_or}
 use Rattle.std.specs.Prelude as O
 use Rattle.std.proofs.Math.Option.{Option, none, some}
 use Rattle.table.specs.Form.{same_bytes}
@@ -8,8 +9,7 @@ use Rattle.model.specs.Text.{bytes}
 use Rattle.model.specs.Calls.{Words, get, set, setif, del, keys}
 use Rattle.model.specs.Lines.{Line, cluster, elect, call, deliver, copy, lose, timeout, stop, cut, start}
 use Rattle.model.specs.Parse.{number, made2}
-use Rattle.entries.specs.declared.Key.{Key}
-use Rattle.entries.specs.declared.Item.{Item}
+use Rattle.entries.specs.Decoded.{Key, Item, no_value}
 use Rattle.parse.specs.Kept.{key_for, item_for, key_in, given_in}
 use Rattle.parse.specs.declared.Kind.{Kind}
 use Rattle.parse.specs.declared.Kind.TheVariants as K
@@ -48,10 +48,10 @@ line_for K.Start a b k e v = some (start a)
 
 -- the expected value and the new value of a line that was read
 abbrev pub expected_item : Parsed → Item
-expected_item r = record { value = r.expected; there = r.has_expected }
+expected_item r = if r.has_expected then O.Some r.expected else O.None
 
 abbrev pub new_item : Parsed → Item
-new_item r = record { value = r.value; there = r.has_value }
+new_item r = if r.has_value then O.Some r.value else O.None
 
 unfoldable pub line_in : Parsed → Option Line
 line_in r = line_for r.kind r.first r.second (key_in r.key) (given_in (expected_item r)) (given_in (new_item r))
@@ -61,7 +61,16 @@ line_in r = line_for r.kind r.first r.second (key_in r.key) (given_in (expected_
 -- the line of a kind with its numbers, key, expected value and value
 abbrev pub line_of_parts : Kind → ℕ → ℕ → Key → Item → Item → Parsed
 line_of_parts c a b k e v =
-    record { key = k; expected = e.value; value = v.value; first = a; second = b; kind = c; has_expected = e.there; has_value = v.there }
+    record {
+      key = k;
+      expected = unwrap_or e no_value;
+      value = unwrap_or v no_value;
+      first = a;
+      second = b;
+      kind = c;
+      has_expected = is_some e;
+      has_value = is_some v;
+    }
 
 abbrev pub line_with : Kind → ℕ → ℕ → List ℕ → Option (List ℕ) → Option (List ℕ) → Parsed
 line_with c a b k e v = line_of_parts c a b (key_for k) (item_for e) (item_for v)

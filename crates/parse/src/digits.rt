@@ -1,5 +1,5 @@
 // Numbers in decimal, and the digits of hexadecimal.
-ghost use Rattle.std.specs.Prelude.{◌≡◌, ◌≤◌, length};
+ghost use Rattle.std.specs.Prelude.{◌≡◌, ◌≤◌, length, IfSome};
 ghost use Rattle.model.specs.Parse.{digit, hex_digit, decimal_from, number};
 ghost use Rattle.parse.specs.Digits.{optional};
 
@@ -9,7 +9,8 @@ const MOST_DIGITS: usize = 9;
 // The digit that a byte is.
 #[tactic(auto, unfolding(model::specs::Parse::digit))]
 fn digit(byte: u8) -> Option<u8>
-    ensures { result ≡ optional (digit byte) }
+    ensures is { result ≡ optional (digit byte) }
+    ensures low { IfSome result (λ figure. figure ≤ 9) }
 {
     match byte {
         b'0'..=b'9' => Some(byte - b'0'),
@@ -20,7 +21,8 @@ fn digit(byte: u8) -> Option<u8>
 // The hexadecimal digit that a byte is.
 #[tactic(auto, unfolding(model::specs::Parse::digit, model::specs::Parse::hex_digit))]
 pub fn hex_digit(byte: u8) -> Option<u8>
-    ensures { result ≡ optional (hex_digit byte) }
+    ensures is { result ≡ optional (hex_digit byte) }
+    ensures low { IfSome result (λ figure. figure ≤ 15) }
 {
     match byte {
         b'0'..=b'9' => Some(byte - b'0'),

@@ -1,22 +1,31 @@
 // Keys and values in hexadecimal: whether a word is one, and the bytes that it stands for.
-ghost use Rattle.std.specs.Prelude.{◌≡◌, get_or};
-ghost use Rattle.model.specs.Parse.{pairs, hexadecimal, item};
-ghost use Rattle.parse.specs.Digits.{optional_by, present, pair_bytes, item_bytes, Nibble};
-ghost use Rattle.parse.specs.Kept.{padded, key_for, value_for, item_for};
+ghost use Rattle.std.specs.Prelude.{◌≡◌, get_or, map, is_some};
+ghost use Rattle.std.specs.List.{list_all, range_with_len};
+ghost use Rattle.model.specs.Parse.{hex_digit, pairs, hexadecimal, item};
+ghost use Rattle.parse.specs.Digits.{optional, optional_by, present, pair_bytes, item_bytes, Nibble};
+ghost use Rattle.parse.specs.Kept.{text_for, key_for, item_for};
 
 use crate::digits::hex_digit;
 use crate::words::same_word;
-use entries::{Item, Key, Value};
-use std::array;
+use entries::{Key, Text, Value};
+
+// Whether the bytes of a word are digits.
+fn all_digits(word: &[u8]) -> bool
+    ensures { result ≡ list_all (λ byte. is_some (optional (hex_digit byte))) word.now }
+{
+    word.iter().all(|byte| hex_digit(*byte).is_some())
+}
 
 // Whether a word is made of pairs of digits.
+#[tactic(auto, using(crate::proofs::Pairs::pairs_present))]
 fn is_pairs(word: &[u8]) -> bool
     ensures { result ≡ present (pairs word.now) }
 {
-    word.len() % 2 == 0 && word.iter().all(|byte| hex_digit(*byte).is_some())
+    word.len() % 2 == 0 && all_digits(word)
 }
 
 // Whether a word is a key: pairs, or `-` for one of no bytes, which is refused later.
+#[tactic(auto, using(crate::proofs::Pairs::key_present))]
 fn is_key(word: &[u8]) -> bool
     ensures { result ≡ present (hexadecimal word.now) }
 {
@@ -24,6 +33,7 @@ fn is_key(word: &[u8]) -> bool
 }
 
 // Whether a word is a value: pairs, `-` for an absent one or `.` for one of no bytes.
+#[tactic(auto, using(crate::proofs::Pairs::item_present))]
 fn is_item(word: &[u8]) -> bool
     ensures { result ≡ present (item word.now) }
 {
@@ -41,47 +51,41 @@ fn nibble(byte: u8) -> u8
 fn pair_at(word: &[u8], i: usize) -> u8
     ensures { result ≡ get_or (pair_bytes word.now) i 0 }
 {
-    if i < word.len() / 2 {
-        nibble(word[2 * i]) * 16 + nibble(word[2 * i + 1])
-    } else {
-        0
+    if word.len() / 2 <= i {
+        return 0;
     }
+    nibble(word[2 * i]) * 16 + nibble(word[2 * i + 1])
 }
 
 // The bytes that pairs stand for, as many as there is room for, with zeros behind them.
 fn bytes_in<const ROOM: usize>(word: &[u8]) -> [u8; ROOM]
-    ensures { result ≡ padded ROOM (pair_bytes word.now) }
+    ensures { result ≡ map (λ i. get_or (pair_bytes word.now) i 0) (range_with_len 0 ROOM) }
 {
-    array::from_fn(|i| pair_at(word, i))
+    let mut bytes = [0; ROOM];
+    for i in 0..ROOM {
+        bytes[i] = pair_at(word, i);
+    }
+    bytes
 }
 
-// The bytes of a key, and their number.
-fn key_in(word: &[u8]) -> Key
-    ensures { result ≡ key_for (pair_bytes word.now) }
+// The key or value that pairs stand for: its first bytes, and the number of all.
+fn text_in<const ROOM: usize>(word: &[u8]) -> Text<ROOM>
+    ensures { result ≡ text_for (pair_bytes word.now) }
 {
-    Key {
+    Text {
         bytes: bytes_in(word),
         len: word.len() / 2,
     }
 }
 
-// The bytes of a value, and their number.
-fn value_in(word: &[u8]) -> Value
-    ensures { result ≡ value_for (pair_bytes word.now) }
-{
-    Value {
-        bytes: bytes_in(word),
-        len: word.len() / 2,
-    }
-}
-
-// The value that a word stands for, absent for `-`; `.` has no pairs, so it stands for no bytes.
-fn item_in(word: &[u8]) -> Item
+// The value that a word stands for, none for `-`; `.` has no pairs, so it stands for no bytes.
+fn item_in(word: &[u8]) -> Option<Value>
     ensures { result ≡ item_for (item_bytes word.now) }
 {
-    Item {
-        value: value_in(word),
-        there: !same_word(word, b"-"),
+    if same_word(word, b"-") {
+        None
+    } else {
+        Some(text_in(word))
     }
 }
 
@@ -90,14 +94,14 @@ pub fn key(word: &[u8]) -> Option<Key>
     ensures { result ≡ optional_by key_for (hexadecimal word.now) }
 {
     if is_key(word) {
-        Some(key_in(word))
+        Some(text_in(word))
     } else {
         None
     }
 }
 
 // The value that a word is.
-pub fn item(word: &[u8]) -> Option<Item>
+pub fn item(word: &[u8]) -> Option<Option<Value>>
     ensures { result ≡ optional_by item_for (item word.now) }
 {
     if is_item(word) {

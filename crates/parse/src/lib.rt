@@ -54,8 +54,8 @@ pub struct Line {
 // The most bytes of a line (RULES, Lines 2).
 pub const MAX_LINE: usize = 120;
 
-// The words of a line, whose first ends at a space; none where the line is malformed (RULES, Lines 2).
-fn well_formed(line: &[u8]) -> Option<Line>
+// The line of these bytes, none where it is malformed (RULES, Lines 2).
+fn accepted(line: &[u8]) -> Option<Line>
     ensures { result ≡ optional_by parsed_line (parse line.now) }
 {
     if MAX_LINE < line.len() {
@@ -69,5 +69,5 @@ fn well_formed(line: &[u8]) -> Option<Line>
 pub fn parse_line(line: &[u8]) -> Line
     ensures { result ≡ parsed (parse line.now) }
 {
-    well_formed(line).unwrap_or(of_numbers(Kind::Malformed, 0, 0))
+    accepted(line).unwrap_or(of_numbers(Kind::Malformed, 0, 0))
 }

@@ -9,11 +9,16 @@ use crate::digits::number;
 use crate::hexadecimals::{item, key};
 use crate::words::{first_space, same_word};
 use crate::{Kind, Line};
-use entries::keys::no_key;
-use entries::slots::absent;
-use entries::{Item, Key};
+use entries::{Key, Value};
 
-fn of_words(kind: Kind, first: u32, second: u32, key: Key, expected: Item, value: Item) -> Line
+fn of_words(
+    kind: Kind,
+    first: u32,
+    second: u32,
+    key: Key,
+    expected: Option<Value>,
+    value: Option<Value>,
+) -> Line
     ensures { result ≡ line_of_parts kind first second key expected value }
 {
     Line {
@@ -21,17 +26,17 @@ fn of_words(kind: Kind, first: u32, second: u32, key: Key, expected: Item, value
         first,
         second,
         key,
-        expected: expected.value,
-        value: value.value,
-        has_expected: expected.there,
-        has_value: value.there,
+        expected: expected.unwrap_or(Value::empty()),
+        value: value.unwrap_or(Value::empty()),
+        has_expected: expected.is_some(),
+        has_value: value.is_some(),
     }
 }
 
 pub fn of_numbers(kind: Kind, first: u32, second: u32) -> Line
     ensures { result ≡ line_with_numbers kind first second }
 {
-    of_words(kind, first, second, no_key(), absent(), absent())
+    of_words(kind, first, second, Key::empty(), None, None)
 }
 
 // A line with one number.
@@ -134,13 +139,7 @@ fn line_of_3(word: &[u8], first: &[u8], second: &[u8], third: &[u8]) -> Option<L
     }
 }
 
-fn line_of_4(
-    word: &[u8],
-    first: &[u8],
-    second: &[u8],
-    third: &[u8],
-    fourth: &[u8],
-) -> Option<Line>
+fn line_of_4(word: &[u8], first: &[u8], second: &[u8], third: &[u8], fourth: &[u8]) -> Option<Line>
     ensures { result ≡ optional_by parsed_line (line_of4 word.now first.now second.now third.now fourth.now) }
 {
     if same_word(word, b"setif") {
@@ -151,13 +150,7 @@ fn line_of_4(
 }
 
 // The words before `rest` are read, and `rest` holds one more, or several.
-fn with_four(
-    word: &[u8],
-    first: &[u8],
-    second: &[u8],
-    third: &[u8],
-    rest: &[u8],
-) -> Option<Line>
+fn with_four(word: &[u8], first: &[u8], second: &[u8], third: &[u8], rest: &[u8]) -> Option<Line>
     ensures { result ≡ optional_by parsed_line (line_of (word.now ∷ (first.now ∷ (second.now ∷ (third.now ∷ (words rest.now)))))) }
 {
     match first_space(rest) {

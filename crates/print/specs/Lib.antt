@@ -2,4 +2,3 @@ pub mod Printed
 pub mod Room
 pub mod Figures
 pub mod Answers
-pub mod Counted

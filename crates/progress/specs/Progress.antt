@@ -6,23 +6,19 @@ use Rattle.progress.specs.declared.Progress.{Progress}
 
 -- nothing taken or written yet
 abbrev pub begun_at : Tally → ℕ → ℕ → Progress
-begun_at t lines count = record { tally = t; lines = lines; held = count; taken = 0; written = 0; more = true }
-
--- no line is run any more
-abbrev pub stopped_at : Progress → Progress
-stopped_at p = record { tally = p.tally; lines = p.lines; held = p.held; taken = p.taken; written = p.written; more = false }
+begun_at t lines count = record { tally = t; lines = lines; held = count; taken = 0; written = 0 }
 
 -- the present line is not run: its bytes are kept
 abbrev pub waiting_at : Progress → (held taken : ℕ) → Progress
-waiting_at p held taken = record { tally = p.tally; lines = p.lines; held = held; taken = taken; written = p.written; more = false }
+waiting_at p held taken = record { tally = p.tally; lines = p.lines; held = held; taken = taken; written = p.written }
 
 -- the present line was run
 abbrev pub ended_at : Progress → Ending → ℕ → Progress
-ended_at p e next = record { tally = e.tally; lines = p.lines + 1; held = 0; taken = next; written = e.written; more = true }
+ended_at p e next = record { tally = e.tally; lines = p.lines + 1; held = 0; taken = next; written = e.written }
 
 -- past the last line that is read
 abbrev pub passed_at : Progress → ℕ → Progress
-passed_at p size = record { tally = p.tally; lines = p.lines; held = p.held; taken = size; written = p.written; more = false }
+passed_at p size = record { tally = p.tally; lines = p.lines; held = p.held; taken = size; written = p.written }
 
 -- what ends a line of n bytes that lacks its line feed: nothing where it is empty
 unfoldable pub last_feed : ℕ → List ℕ

@@ -1,10 +1,10 @@
 // How far a part of the input was dealt with, by value, and what is kept of it between two parts, in three lent words.
 #![tactic(auto)]
 
-ghost use Rattle.std.specs.Prelude.{◌≡◌, [], ◌∷◌, ◌+◌, ◌≤◌, ◌<◌, leb, take, set};
+ghost use Rattle.std.specs.Prelude.{◌≡◌, ◌+◌, ◌<◌, leb, set};
 ghost use Rattle.model.specs.Measures.{max_lines};
 ghost use Rattle.print.specs.Room.{line_room};
-ghost use Rattle.progress.specs.Progress.{begun_at, stopped_at, waiting_at, ended_at, passed_at, last_feed};
+ghost use Rattle.progress.specs.Progress.{begun_at, waiting_at, ended_at, passed_at, last_feed};
 
 use parse::MAX_LINE;
 use print::LINE_ROOM;
@@ -26,6 +26,7 @@ pub const BYTES_KEPT: usize = 1;
 
 pub const BYTES_WRITTEN: usize = 2;
 
+// An array, as `script_c` exports it to callers in other languages.
 pub type ReaderWords = [usize; READER_LEN];
 
 // Bytes kept of a line: one more than a line may have, so that a longer one is known.
@@ -40,8 +41,7 @@ pub struct Ending {
     pub written: usize,
 }
 
-// The tally, the lines read, the bytes held of the present line, the bytes taken of the part, the bytes written, and whether there may
-// be more to do.
+// The tally, the lines read, the bytes held of the present line, the bytes taken of the part, and the bytes written.
 #[derive(Clone, Copy)]
 pub struct Progress {
     pub tally: Tally,
@@ -49,95 +49,71 @@ pub struct Progress {
     pub held: usize,
     pub taken: usize,
     pub written: usize,
-    pub more: bool,
 }
 
-// Nothing taken or written yet.
-pub fn begun(tally: Tally, lines: usize, count: usize) -> Progress
-    ensures { result ≡ begun_at tally lines count }
-{
-    Progress {
-        tally,
-        lines,
-        held: count,
-        taken: 0,
-        written: 0,
-        more: true,
+impl Progress {
+    // Nothing taken or written yet.
+    pub fn begun(tally: Tally, lines: usize, held: usize) -> Self
+        ensures { result ≡ begun_at tally lines held }
+    {
+        Progress {
+            tally,
+            lines,
+            held,
+            taken: 0,
+            written: 0,
+        }
     }
-}
 
-// No line that ends in the part can be run any more.
-pub fn stopped(progress: Progress) -> Progress
-    ensures { result ≡ stopped_at progress }
-{
-    let mut after = progress;
-    after.more = false;
-    after
-}
-
-// The present line is not at its end, or has no room for what it prints: its bytes are kept.
-pub fn waiting(progress: Progress, held: usize, taken: usize) -> Progress
-    ensures { result ≡ waiting_at progress held taken }
-{
-    let tally = progress.tally;
-    Progress {
-        tally,
-        lines: progress.lines,
-        held,
-        taken,
-        written: progress.written,
-        more: false,
+    // The present line is not at its end, or has no room for what it prints: its bytes are kept.
+    pub fn waiting(self, held: usize, taken: usize) -> Self
+        ensures { result ≡ waiting_at self held taken }
+    {
+        Progress {
+            held,
+            taken,
+            ..self
+        }
     }
-}
 
-// The present line was run; the byte after its line feed is at `next`.
-pub fn ended(progress: Progress, ending: Ending, next: usize) -> Progress
-    requires { progress.lines < max_lines }
-    ensures { result ≡ ended_at progress ending next }
-{
-    let tally = ending.tally;
-    Progress {
-        tally,
-        lines: progress.lines + 1,
-        held: 0,
-        taken: next,
-        written: ending.written,
-        more: true,
+    // The present line was run; the byte after its line feed is at `next`.
+    pub fn ended(self, ending: Ending, next: usize) -> Self
+        requires { self.lines < max_lines }
+        ensures { result ≡ ended_at self ending next }
+    {
+        Progress {
+            tally: ending.tally,
+            lines: self.lines + 1,
+            held: 0,
+            taken: next,
+            written: ending.written,
+        }
     }
-}
 
-// Past the last line that is read: all bytes of the part are taken.
-pub fn passed(progress: Progress, size: usize) -> Progress
-    ensures { result ≡ passed_at progress size }
-{
-    let mut after = progress;
-    after.taken = size;
-    after.more = false;
-    after
+    // Past the last line that is read: all bytes of the part are taken.
+    pub fn passed(self, size: usize) -> Self
+        ensures { result ≡ passed_at self size }
+    {
+        Progress {
+            taken: size,
+            ..self
+        }
+    }
 }
 
 // Whether an output of this size has room for what a line can print.
 pub fn has_room(size: usize, written: usize) -> bool
     ensures { result ≡ leb (written + line_room) size }
 {
-    if size < written {
-        return false;
-    }
-    if size - written < LINE_ROOM {
-        return false;
-    }
-    true
+    LINE_ROOM <= size.saturating_sub(written)
 }
 
-// How many line feeds end a line of `count` bytes at the end of the input: one, unless the line is empty.
-#[tactic(auto, using(crate::proofs::Feeds::feeds_none, crate::proofs::Feeds::feeds_one), unfolding(crate::specs::Progress::last_feed))]
-pub fn line_feeds(count: usize) -> usize
-    ensures { (take result (10 ∷ []) ≡ last_feed count) × (result ≤ 1) }
+// The line feed that ends a line of `count` bytes at the end of the input: none where the line is empty.
+#[tactic(auto, using(crate::proofs::Feeds::feeds_none, crate::proofs::Feeds::feeds_one))]
+pub fn last_feed(count: usize) -> &'static [u8]
+    ensures { result.now ≡ last_feed count }
 {
-    if count == 0 {
-        return 0;
-    }
-    1
+    if count == 0 { b"" } else { b"\n" }
 }
 
 // What is kept between two parts, and how many bytes were written.

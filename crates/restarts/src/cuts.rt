@@ -2,13 +2,10 @@
 ghost use Rattle.std.specs.Prelude.{◌≡◌};
 ghost use Rattle.restarts.specs.Restarts.{changes_vote, stores_vote, stores_bucket, stores_made, cuttable, votes_by, keeps_by, cut_head, cut_move};
 
-use moves::codes::{COPY_STAYS, KEEPS_MESSAGE};
 use moves::roles::stopped_move;
-use moves::{Local, Move};
-use rounds::replies::pick_version;
+use moves::{Keeping, Local, Move};
 use server::codes::{PLEASE_VOTE, REPLICA_WRITE};
 use server::kinds::is_broadcast;
-use server::numbers::{above, chosen};
 use server::votes::{may_accept, voting};
 use server::{Head, Message};
 
@@ -44,7 +41,7 @@ fn stores_bucket(message: Message, local: Local) -> bool
 {
     if message.kind == REPLICA_WRITE {
         if may_accept(message.election, local.head) {
-            return above(message.version, local.version);
+            return message.version > local.version;
         }
         return false;
     }
@@ -56,9 +53,9 @@ fn stores_made(vote: bool, bucket: bool) -> u32
     ensures { result ≡ stores_made vote bucket }
 {
     if vote {
-        return chosen(bucket, 2, 1);
+        return if bucket { 2 } else { 1 };
     }
-    chosen(bucket, 1, 0)
+    if bucket { 1 } else { 0 }
 }
 
 // Whether the message can be cut after so many stores.
@@ -109,11 +106,11 @@ pub fn cut_move(stores: u32, message: Message, local: Local) -> Move
 {
     let kept = keeps_by(stores, message, local);
     let head = cut_head(stores, message, local.head);
-    let version = pick_version(kept, message.version, local.version);
+    let version = if kept { message.version } else { local.version };
     let mut after = local;
     after.head = head;
     after.version = version;
     let mut next = stopped_move(after);
-    next.keeps = chosen(kept, KEEPS_MESSAGE, COPY_STAYS);
+    next.keeps = if kept { Keeping::Message } else { Keeping::Stays };
     next
 }

@@ -1,17 +1,15 @@
 -- `feeding::advance` meets its contract.
-use Rattle.lines.proofs.Advancing.{line_allowed, advanced_line, advanced_stopped}
+use Rattle.lines.proofs.Advancing.{line_allowed, advanced_line, advanced_none}
 use Rattle.lines.proofs.feeding.advance.Goals as goal
 
+pub returns-in_err-read : goal.returns-in_err-read
+returns-in_err-read c = advanced_none _ _ _ _ _ c.args.progress _ _ c.requires.0 c.requires.1 c.in_err-read.ensures c.from_residual.ensures
+
 pub end_line-ending-requires : goal.end_line-ending-requires
-end_line-ending-requires c = line_allowed c.next_line-read.ensures c.if-next-ne0.true
+end_line-ending-requires c = line_allowed c.in_ok-read.ensures
 
 pub ended-requires : goal.ended-requires
-ended-requires c = (line_allowed c.next_line-read.ensures c.if-next-ne0.true).0
-
-pub returns-then-next-ne0 : goal.returns-then-next-ne0
-returns-then-next-ne0 c =
-    advanced_line _ _ _ _ _ c.args.progress _ _ c.next_line-read.result _ _ _ c.end_line-ending.result c.next_line-read.ensures c.if-next-ne0.true c.end_line-ending.ensures c.ended.ensures
+ended-requires c = (line_allowed c.in_ok-read.ensures).0
 
 pub returns : goal.returns
-returns c =
-    advanced_stopped _ _ _ _ _ c.args.progress _ _ c.next_line-read.result c.requires.0 c.requires.1 c.next_line-read.ensures c.if-next-ne0.false c.stopped.ensures
+returns c = advanced_line _ _ _ _ _ c.args.progress _ _ _ _ _ c.end_line-ending.result _ c.in_ok-read.ensures c.end_line-ending.ensures c.ended.ensures

@@ -1,17 +1,9 @@
 -- `keeping::line_feed` meets its contract.
-use native.Mathlib.Omega.{arith}
-use borrow.Author.Tests.{ne_eqb}
-use Rattle.lines.proofs.Finding.{plain_none, plain_more}
+use Rattle.lines.proofs.Finding.{feed_found, feed_missing}
 use Rattle.lines.proofs.keeping.line_feed.Goals as goal
 
-pub loop-i-init : goal.loop-i-init
-loop-i-init c = plain_none _ _ c.requires
+pub returns-in-Some : goal.returns-in-Some
+returns-in-Some c = feed_found _ _ c.requires c.in-Some.ensures.is c.in-Some.ensures.within
 
-pub returns-then-input-i-eq-LINE_FEED : goal.returns-then-input-i-eq-LINE_FEED
-returns-then-input-i-eq-LINE_FEED c = record { bytes = c.loop-i.invariant; stops = λ h. c.if-input-i-eq-LINE_FEED.true }
-
-pub loop-i-preserved : goal.loop-i-preserved
-loop-i-preserved c = plain_more _ _ c.loop-i.i c.loop-i.invariant c.loop-i-test.true (ne_eqb _ 10 c.if-input-i-eq-LINE_FEED.false)
-
-pub returns : goal.returns
-returns c = record { bytes = c.loop-i.invariant; stops = λ h. absurd (omega (arith, c.loop-i-test.false)) }
+pub returns-in-None : goal.returns-in-None
+returns-in-None c = feed_missing _ _ c.requires c.in-None.ensures.is

@@ -14,7 +14,7 @@ pub slice_bounds-read_line-end : goal.slice_bounds-read_line-end
 slice_bounds-read_line-end c = c.line_feed-feed.ensures.bytes.within
 
 pub returns-then-feed-input : goal.returns-then-feed-input
-returns-then-feed-input c = whole _ c.line_feed-feed.ensures c.if-feed-input.true refl c.read_line-present.ensures.0 c.read_line-present.ensures.1
+returns-then-feed-input c = whole _ _ refl c.line_feed-feed.ensures c.if-feed-input.true refl c.read_line-present.ensures.0 c.read_line-present.ensures.1
 
-pub returns : goal.returns
-returns c = unended c.no_line.ensures refl (feed_none _ _ _ c.line_feed-feed.ensures c.if-feed-input.false)
+pub returns-else-feed-input : goal.returns-else-feed-input
+returns-else-feed-input c = unended refl refl (feed_none _ _ _ c.line_feed-feed.ensures c.if-feed-input.false)

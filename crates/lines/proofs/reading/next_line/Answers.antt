@@ -8,5 +8,5 @@ returns-then-may_run c =
     let k = c.may_run.ensures.may c.if-may_run.true in
     found k.0 k.1 c.whole_line.ensures
 
-pub returns : goal.returns
-returns c = full (c.may_run.ensures.may_not c.if-may_run.false) c.no_line.ensures refl
+pub returns-else-may_run : goal.returns-else-may_run
+returns-else-may_run c = full (c.may_run.ensures.may_not c.if-may_run.false) refl refl

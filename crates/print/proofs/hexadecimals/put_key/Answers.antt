@@ -1,6 +1,5 @@
 -- `hexadecimals::put_key` meets its contract.
 use Rattle.entries.specs.Decoded.{key_bytes}
-use Rattle.entries.proofs.Views.{key_whole}
 use Rattle.model.specs.Text.{bytes}
 use Rattle.model.specs.Print.{hex_pairs}
 use Rattle.print.proofs.Printing.{fits_second, both}
@@ -15,9 +14,9 @@ put_bytes-next-requires c = omega (arith, c.requires, length-append (bytes " ") 
 pub put_pairs-requires : goal.put_pairs-requires
 unfolding bytes
 put_pairs-requires c =
-    rw (key_whole c.args.key c.key_length-len.ensures) (fits_second (bytes " ") (hex_pairs (key_bytes c.args.key)) (c.requires) c.put_bytes-next.ensures)
+    rw (c.as_slice.ensures) (fits_second (bytes " ") (hex_pairs (key_bytes c.args.key)) (c.requires) c.put_bytes-next.ensures)
 
 pub returns : goal.returns
 unfolding bytes
 returns c =
-    both (bytes " ") (hex_pairs (key_bytes c.args.key)) (c.requires) c.put_bytes-next.ensures (rw (key_whole c.args.key c.key_length-len.ensures) at c.put_pairs.ensures)
+    both (bytes " ") (hex_pairs (key_bytes c.args.key)) (c.requires) c.put_bytes-next.ensures (rw (c.as_slice.ensures) at c.put_pairs.ensures)

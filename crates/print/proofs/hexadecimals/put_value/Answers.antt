@@ -1,7 +1,6 @@
 -- `hexadecimals::put_value` meets its contract.
 use mathlib.Core.Option.{some}
 use Rattle.entries.specs.Decoded.{value_bytes}
-use Rattle.entries.proofs.Views.{value_whole}
 use Rattle.model.specs.Text.{bytes}
 use Rattle.model.specs.Print.{value_text}
 use Rattle.print.proofs.Printing.{fits_second, both}
@@ -16,9 +15,9 @@ put_bytes-next-requires c = omega (arith, c.requires, length-append (bytes " ") 
 pub put_there-requires : goal.put_there-requires
 unfolding bytes
 put_there-requires c =
-    rw (value_whole c.args.value c.value_length-len.ensures) (fits_second (bytes " ") (value_text (some (value_bytes c.args.value))) (c.requires) c.put_bytes-next.ensures)
+    rw (c.as_slice.ensures) (fits_second (bytes " ") (value_text (some (value_bytes c.args.value))) (c.requires) c.put_bytes-next.ensures)
 
 pub returns : goal.returns
 unfolding bytes
 returns c =
-    both (bytes " ") (value_text (some (value_bytes c.args.value))) (c.requires) c.put_bytes-next.ensures (rw (value_whole c.args.value c.value_length-len.ensures) at c.put_there.ensures)
+    both (bytes " ") (value_text (some (value_bytes c.args.value))) (c.requires) c.put_bytes-next.ensures (rw (c.as_slice.ensures) at c.put_there.ensures)

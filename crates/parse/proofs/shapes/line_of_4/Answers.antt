@@ -1,0 +1,14 @@
+-- `shapes::line_of_4` meets its contract: by the first word.
+use mathlib.Core.Path.{sym, ◌∙◌}
+use Rattle.model.specs.Text.{bytes}
+use Rattle.model.specs.Parse.{line_of4}
+use Rattle.parse.proofs.Forms.{setif_line}
+use Rattle.parse.proofs.shapes.line_of_4.Goals as goal
+
+pub returns-then-same_word : goal.returns-then-same_word
+unfolding line_of4 bytes
+returns-then-same_word c = c.call_line.ensures ∙ setif_line _ _ _ _ ∙ rw (line_of4, sym c.same_word.ensures ∙ c.if-same_word.true)
+
+pub returns-else-same_word : goal.returns-else-same_word
+unfolding line_of4 bytes
+returns-else-same_word c = rw (line_of4, sym c.same_word.ensures ∙ c.if-same_word.false)

@@ -1,0 +1,12 @@
+-- `shapes::with_four` meets its contract: where the next word ends.
+use mathlib.Core.Path.{◌∙◌}
+use Rattle.model.specs.Parse.{line_of}
+use Rattle.parse.proofs.Splitting.{words_cut, words_whole, too_many}
+use Rattle.parse.proofs.shapes.with_four.Goals as goal
+
+pub returns-in-None : goal.returns-in-None
+unfolding line_of
+returns-in-None c = c.line_of_4.ensures ∙ rw (← words_whole _ c.in-None.ensures.is)
+
+pub returns-in-Some : goal.returns-in-Some
+returns-in-Some c = rw (← words_cut _ c.in-Some.ensures.is, too_many)

@@ -1,0 +1,14 @@
+-- `shapes::with_word` meets its contract: where the next word ends.
+use borrow.Author.Rules.{rules}
+use mathlib.Core.Path.{sym, ◌∙◌}
+use lib.Seq.{length-take-le}
+use Rattle.model.specs.Parse.{line_of}
+use Rattle.parse.proofs.Splitting.{words_cut, words_whole}
+use Rattle.parse.proofs.shapes.with_word.Goals as goal
+
+pub returns-in-None : goal.returns-in-None
+unfolding line_of
+returns-in-None c = c.line_of_1.ensures ∙ rw (← words_whole _ c.in-None.ensures.is)
+
+pub returns-in-Some : goal.returns-in-Some
+returns-in-Some c = rw (words_cut _ c.in-Some.ensures.is) at c.with_two.ensures
