@@ -12,4 +12,4 @@ next_counts-requires c = c.leave-count.ensures.few
 pub returns : goal.returns
 returns c =
     let m = memory_of (regions c.args.words.now) (contents c.args.bytes.now) in
-    lost_out c.args.cluster c.args.step m _ _ _ c.args.effect _ c.leave-count.ensures (rw (c.store_counts.ensures, c.next_counts.ensures)) refl
+    lost_out c.args.cluster c.args.step m _ _ _ _ c.leave-count.ensures (rw (c.store_counts.ensures, c.next_counts.ensures)) (rw c.bare_report.ensures)
