@@ -1,5 +1,5 @@
 -- The plan of a line, from the arrays that it looks at, and the run that follows it.
-use Rattle.std.proofs.Common.{◌≡◌, ℕ, Bool, true, false, List, [], sym, refl, ap, ◌∙◌, subst, arith}
+use Rattle.std.proofs.Common.{◌≡◌, ⊥, ℕ, Bool, true, false, List, [], sym, refl, ap, ◌∙◌, subst, arith}
 use Rattle.server.specs.declared.Words.{Words}
 use Rattle.server.specs.declared.Effect.{Effect}
 use Rattle.memory.specs.declared.Counts.{Counts}
@@ -52,7 +52,60 @@ module _ (heads slots copies queue : List ℕ) (c : Counts) (x : Line) (p : Plan
   called : (w : Words) (k : Kind) → x.kind ≡ k → w ≡ words_of x.kind x → CallPlanned heads slots copies c x.first w p → CallPlanned heads slots copies c x.first (words_of k x) p
   called w k e q g = subst (λ v. CallPlanned heads slots copies c x.first v p) (q ∙ ap (λ k. words_of k x) e) g
 
-  -- @CALL
+  call_planned : (w : Words) (k : Kind) → x.kind ≡ k → is_planned k ≡ true
+      → (k ≡ K.Elect → ⊥) → (k ≡ K.Lose → ⊥) → (k ≡ K.Timeout → ⊥) → (k ≡ K.Stop → ⊥) → (k ≡ K.Cut → ⊥) → (k ≡ K.Start → ⊥)
+      → w ≡ words_of x.kind x → CallPlanned heads slots copies c x.first w p → LinePlanned heads slots copies queue c x p
+  unfolding line_plan call_at is_planned
+  call_planned w K.Malformed e z elect lose timeout stop cut start q g = let no : ◌≡◌ {A = ℕ} 0 1 = cc in absurd (omega arith)
+  call_planned w K.Cluster e z elect lose timeout stop cut start q g = let no : ◌≡◌ {A = ℕ} 0 1 = cc in absurd (omega arith)
+  call_planned w K.Elect e z elect lose timeout stop cut start q g = absurd (elect refl)
+  call_planned w K.Get e z elect lose timeout stop cut start q g =
+      let h = called w K.Get e q g in
+      simply K.Get e h.is (λ _. h.effect)
+  call_planned w K.Set e z elect lose timeout stop cut start q g =
+      let h = called w K.Set e q g in
+      simply K.Set e h.is (λ _. h.effect)
+  call_planned w K.SetIf e z elect lose timeout stop cut start q g =
+      let h = called w K.SetIf e q g in
+      simply K.SetIf e h.is (λ _. h.effect)
+  call_planned w K.Del e z elect lose timeout stop cut start q g =
+      let h = called w K.Del e q g in
+      simply K.Del e h.is (λ _. h.effect)
+  call_planned w K.Keys e z elect lose timeout stop cut start q g =
+      let h = called w K.Keys e q g in
+      simply K.Keys e h.is (λ _. h.effect)
+  call_planned w K.Deliver e z elect lose timeout stop cut start q g = let no : ◌≡◌ {A = ℕ} 0 1 = cc in absurd (omega arith)
+  call_planned w K.Copy e z elect lose timeout stop cut start q g = let no : ◌≡◌ {A = ℕ} 0 1 = cc in absurd (omega arith)
+  call_planned w K.Lose e z elect lose timeout stop cut start q g = absurd (lose refl)
+  call_planned w K.Timeout e z elect lose timeout stop cut start q g = absurd (timeout refl)
+  call_planned w K.Stop e z elect lose timeout stop cut start q g = absurd (stop refl)
+  call_planned w K.Cut e z elect lose timeout stop cut start q g = absurd (cut refl)
+  call_planned w K.Start e z elect lose timeout stop cut start q g = absurd (start refl)
+
+  -- a line that is planned and none of the others is a call
+  pub planned_call : (w : Words) → is_planned x.kind ≡ true
+      → (x.kind ≡ K.Elect → ⊥) → (x.kind ≡ K.Lose → ⊥) → (x.kind ≡ K.Timeout → ⊥) → (x.kind ≡ K.Stop → ⊥) → (x.kind ≡ K.Cut → ⊥) → (x.kind ≡ K.Start → ⊥)
+      → w ≡ words_of x.kind x → CallPlanned heads slots copies c x.first w p → LinePlanned heads slots copies queue c x p
+  planned_call w = call_planned w x.kind refl
+
+-- a line that is neither malformed nor of a cluster and hands no message over is planned
+pub planned_by_default : (k : Kind) → (k ≡ K.Malformed → ⊥) → (k ≡ K.Cluster → ⊥) → (k ≡ K.Deliver → ⊥) → (k ≡ K.Copy → ⊥) → is_planned k ≡ true
+unfolding is_planned
+planned_by_default K.Malformed malformed cluster deliver copy = absurd (malformed refl)
+planned_by_default K.Cluster malformed cluster deliver copy = absurd (cluster refl)
+planned_by_default K.Elect malformed cluster deliver copy = refl
+planned_by_default K.Get malformed cluster deliver copy = refl
+planned_by_default K.Set malformed cluster deliver copy = refl
+planned_by_default K.SetIf malformed cluster deliver copy = refl
+planned_by_default K.Del malformed cluster deliver copy = refl
+planned_by_default K.Keys malformed cluster deliver copy = refl
+planned_by_default K.Deliver malformed cluster deliver copy = absurd (deliver refl)
+planned_by_default K.Copy malformed cluster deliver copy = absurd (copy refl)
+planned_by_default K.Lose malformed cluster deliver copy = refl
+planned_by_default K.Timeout malformed cluster deliver copy = refl
+planned_by_default K.Stop malformed cluster deliver copy = refl
+planned_by_default K.Cut malformed cluster deliver copy = refl
+planned_by_default K.Start malformed cluster deliver copy = refl
 
 -- ---- a plan looks at four of the arrays, and at a fifth only for a message that is handed over
 
@@ -151,16 +204,16 @@ module _ (m : Memory) (l : List ℕ) (x : Line) where
 
   other_run : (m' : Memory) (l' : List ℕ) (r : Report) (k : Kind) → x.kind ≡ k → is_planned k ≡ true → RanPlan m l x m' l' r → RanLine m l x m' l' r
   unfolding run_by is_planned
-  other_run m' l' r K.Malformed e z h = cc
-  other_run m' l' r K.Cluster e z h = cc
+  other_run m' l' r K.Malformed e z h = let no : ◌≡◌ {A = ℕ} 0 1 = cc in absurd (omega arith)
+  other_run m' l' r K.Cluster e z h = let no : ◌≡◌ {A = ℕ} 0 1 = cc in absurd (omega arith)
   other_run m' l' r K.Elect e z h = by_kind K.Elect e h.is (subst (λ k. EffectAsked m x k r.effect) e h.effect)
   other_run m' l' r K.Get e z h = by_kind K.Get e h.is (subst (λ k. EffectAsked m x k r.effect) e h.effect)
   other_run m' l' r K.Set e z h = by_kind K.Set e h.is (subst (λ k. EffectAsked m x k r.effect) e h.effect)
   other_run m' l' r K.SetIf e z h = by_kind K.SetIf e h.is (subst (λ k. EffectAsked m x k r.effect) e h.effect)
   other_run m' l' r K.Del e z h = by_kind K.Del e h.is (subst (λ k. EffectAsked m x k r.effect) e h.effect)
   other_run m' l' r K.Keys e z h = by_kind K.Keys e h.is (subst (λ k. EffectAsked m x k r.effect) e h.effect)
-  other_run m' l' r K.Deliver e z h = cc
-  other_run m' l' r K.Copy e z h = cc
+  other_run m' l' r K.Deliver e z h = let no : ◌≡◌ {A = ℕ} 0 1 = cc in absurd (omega arith)
+  other_run m' l' r K.Copy e z h = let no : ◌≡◌ {A = ℕ} 0 1 = cc in absurd (omega arith)
   other_run m' l' r K.Lose e z h = by_kind K.Lose e h.is (subst (λ k. EffectAsked m x k r.effect) e h.effect)
   other_run m' l' r K.Timeout e z h = by_kind K.Timeout e h.is (subst (λ k. EffectAsked m x k r.effect) e h.effect)
   other_run m' l' r K.Stop e z h = by_kind K.Stop e h.is (subst (λ k. EffectAsked m x k r.effect) e h.effect)

@@ -1,7 +1,7 @@
 -- A cut as a move: the stores that a message makes, and the first of them.
 use mathlib.Core.Path.{◌≡◌, refl, sym, ap, ◌∙◌, subst⁻¹}
 use mathlib.Core.Logic.{◌⊎◌, inl, inr}
-use mathlib.Core.Bool.{Bool, true, false}
+use mathlib.Core.Bool.{Bool, true, false, cond}
 use mathlib.Core.List.{List, [], ◌∷◌, ◌++◌}
 use Prim.Native.Nat.{ℕ, zero, suc}
 use native.Mathlib.Omega.{arith}
@@ -25,6 +25,8 @@ use Rattle.server.specs.declared.Version.{Version}
 use Rattle.server.specs.Views.{version_in, copy_in, flag_in, chosen, is_broadcast}
 use Rattle.server.specs.Heads.{voting_head}
 use Rattle.rounds.specs.Rounds.{pick_version, no_version}
+use Rattle.moves.specs.declared.Filling.TheVariants as filling
+use Rattle.moves.specs.declared.Keeping.TheVariants as keeping
 use Rattle.moves.specs.declared.Local.{Local}
 use Rattle.moves.specs.declared.Move.{Move}
 use Rattle.moves.specs.Moves.{local_of, no_answer, stores, stopped_head}
@@ -271,8 +273,8 @@ module _ (n b : ℕ) (x : Message) (s : cluster.Server) (l : Local) (t : Tables)
             (pick_version bucket x.version l.version) l.round l.call;
         sends = 0;
         written = no_version;
-        fills = 0;
-        keeps = chosen bucket 2 0;
+        fills = filling.Stays;
+        keeps = cond bucket keeping.Message keeping.Stays;
         answer = no_answer;
         ceases = false;
         forgets = false;
@@ -280,7 +282,7 @@ module _ (n b : ℕ) (x : Message) (s : cluster.Server) (l : Local) (t : Tables)
 
   moved_by : (vote bucket : Bool)
       → ◌≡◌ {A = cluster.Server} (record { stored = cut_stored vote bucket; volatile = (placed n b l t words s).volatile; stopped = true }) (moved_server n b (move_by vote bucket) t words s)
-  unfolding pick_version chosen copy_after work_after flag_in
+  unfolding pick_version copy_after work_after flag_in
   moved_by true true = refl
   moved_by true false = refl
   moved_by false true = refl

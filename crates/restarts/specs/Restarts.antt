@@ -1,12 +1,14 @@
 -- Cuts and starts (RULES, Restarts), number by number. The laws in proofs/ tie them to the definitions of the stores that a
 -- message makes (crates/model/specs/Stores.antt) and of lines (`cut_server`, `restarted` in crates/model/specs/Lines.antt).
-use Rattle.std.specs.Prelude.{Bool, true, false, [], ℕ, eqb, ltb, leb, replicate}
+use Rattle.std.specs.Prelude.{Bool, true, false, [], ℕ, eqb, ltb, leb, replicate, if◌then◌else◌}
 use Rattle.model.specs.Replica.{may_accept}
 use Rattle.server.specs.declared.Head.{Head}
 use Rattle.server.specs.declared.Message.{Message}
 use Rattle.server.specs.Views.{stored_in, chosen, is_broadcast}
 use Rattle.server.specs.Heads.{voting_head}
 use Rattle.rounds.specs.Rounds.{pick_version, no_version}
+use Rattle.moves.specs.declared.Filling.TheVariants as filling
+use Rattle.moves.specs.declared.Keeping.TheVariants as keeping
 use Rattle.moves.specs.declared.Local.{Local}
 use Rattle.moves.specs.declared.Move.{Move}
 use Rattle.moves.specs.Moves.{local_of, no_answer, with_head, stores, stopped_head}
@@ -25,8 +27,8 @@ restarted_move l =
       local = with_head (restarted_head l.head) l;
       sends = 0;
       written = no_version;
-      fills = 0;
-      keeps = 0;
+      fills = filling.Stays;
+      keeps = keeping.Stays;
       answer = no_answer;
       ceases = true;
       forgets = true;
@@ -83,8 +85,8 @@ cut_move k m l =
       local = local_of (stopped_head (cut_head k m l.head)) (pick_version (keeps_by k m l) m.version l.version) l.round l.call;
       sends = 0;
       written = no_version;
-      fills = 0;
-      keeps = chosen (keeps_by k m l) 2 0;
+      fills = filling.Stays;
+      keeps = if keeps_by k m l then keeping.Message else keeping.Stays;
       answer = no_answer;
       ceases = false;
       forgets = false;

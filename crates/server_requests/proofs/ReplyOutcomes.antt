@@ -1,6 +1,6 @@
 -- What comes of a reply, counted once, stands for the move that crate `moves` makes of it.
 use mathlib.Core.Path.{◌≡◌, refl, sym, ap, ap₂, ◌∙◌}
-use mathlib.Core.Bool.{Bool, true, false}
+use mathlib.Core.Bool.{Bool, true, false, cond}
 use mathlib.Core.List.{[]}
 use Prim.Native.Nat.{ℕ}
 use lib.Dec.{eqb}
@@ -9,12 +9,14 @@ use Rattle.model.specs.Leader.{closes, fails}
 use Rattle.server.specs.declared.Counted.{Counted}
 use Rattle.server.specs.declared.Message.{Message}
 use Rattle.server.specs.declared.Handling.TheVariants.{Reply}
-use Rattle.server.specs.Views.{mark_in, among, open_in, round_in, chosen}
+use Rattle.server.specs.Views.{mark_in, among, open_in, round_in}
 use Rattle.rounds.specs.Rounds.{is_silent, pick_version, no_version, counted_of, matching}
 use Rattle.rounds.specs.Kinds.{handling_in}
 use Rattle.moves.specs.declared.Local.{Local}
 use Rattle.moves.specs.declared.Move.{Move}
 use Rattle.moves.specs.Moves.{quiet, with_round, fetching, closed_move, ceased_move, counted_move, reply_move, handling_move, handled_move, reads_by, reads_table}
+use Rattle.server.specs.declared.Round.{Round}
+use Rattle.server_requests.specs.declared.Outcome.TheVariants.{Unmatched, Waiting, Closed, Failed}
 use Rattle.server_requests.specs.declared.Replied.{Replied}
 use Rattle.server_requests.specs.Replies.{outcome_of, replied_with, count_reply, replied_move, closes_check}
 
@@ -31,8 +33,8 @@ outcome_moves : (me result : ℕ) (k : Counted) (l : Local) (x y : Bool)
       | true ↦ fetching k.better (closed_move me result (with_round k.round l))
       | false ↦ elim y [ true ↦ ceased_move l | false ↦ fetching k.better (quiet (with_round k.round l)) ]
     ])
-    ≡ replied_move me result l (record { round = k.round; better = k.better; outcome = elim x [ true ↦ 2 | false ↦ chosen y 3 1 ] })
-unfolding replied_move chosen
+    ≡ replied_move me result l (record { round = k.round; better = k.better; outcome = cond x Closed (cond y Failed Waiting) })
+unfolding replied_move
 outcome_moves me result k l true y = refl
 outcome_moves me result k l false true = refl
 outcome_moves me result k l false false = refl
@@ -44,29 +46,29 @@ counted_moves n me result k l = outcome_moves me result k l (closes n (open_in n
 -- ---- the four moves
 
 module _ (me result : ℕ) (l : Local) (k : Replied) where
-  pub unmatched_moves : k.outcome ≡ 0 → replied_move me result l k ≡ quiet l
+  pub unmatched_moves : k.outcome ≡ Unmatched → replied_move me result l k ≡ quiet l
   unfolding replied_move
   unmatched_moves e = rw e refl
 
-  pub waiting_moves : k.outcome ≡ 1 → replied_move me result l k ≡ fetching k.better (quiet (with_round k.round l))
+  pub waiting_moves : k.outcome ≡ Waiting → replied_move me result l k ≡ fetching k.better (quiet (with_round k.round l))
   unfolding replied_move
   waiting_moves e = rw e refl
 
-  pub closed_moves : k.outcome ≡ 2 → replied_move me result l k ≡ fetching k.better (closed_move me result (with_round k.round l))
+  pub closed_moves : k.outcome ≡ Closed → replied_move me result l k ≡ fetching k.better (closed_move me result (with_round k.round l))
   unfolding replied_move
   closed_moves e = rw e refl
 
-  pub failed_moves : k.outcome ≡ 3 → replied_move me result l k ≡ ceased_move l
+  pub failed_moves : k.outcome ≡ Failed → replied_move me result l k ≡ ceased_move l
   unfolding replied_move
   failed_moves e = rw e refl
 
 -- ---- tests
 
-closed_outcome : (x y : Bool) → eqb (elim x [ true ↦ 2 | false ↦ chosen y 3 1 ]) 2 ≡ x
-unfolding chosen
-closed_outcome true y = refl
-closed_outcome false true = refl
-closed_outcome false false = refl
+closed_outcome : (x y : Bool) (r : Round) (better : Bool) → closes_check (record { round = r; better = better; outcome = cond x Closed (cond y Failed Waiting) }) ≡ elim x [ true ↦ eqb r.purpose 3 | false ↦ false ]
+unfolding closes_check
+closed_outcome true y r better = refl
+closed_outcome false true r better = refl
+closed_outcome false false r better = refl
 
 both : (p z : Bool) → ◌≡◌ {A = Bool} (elim p [ false ↦ false | true ↦ z ]) (elim z [ true ↦ p | false ↦ false ])
 both true true = refl
@@ -127,10 +129,11 @@ module _ (n : ℕ) (m : Message) (l : Local) (mark : ℕ) (reports : Bool) where
   reads_where_lem x e = ap reads_where e
 
   check_closed : closes_check (replied_with n counted) ≡ elim (closes n (open_in n counted.round [])) [ true ↦ eqb l.round.purpose 3 | false ↦ false ]
-  unfolding closes_check outcome_of
+  unfolding outcome_of
   check_closed =
-      let shut = closed_outcome (closes n (open_in n counted.round [])) (fails n (open_in n counted.round [])) in
-      ap₂ (λ z p. elim z as (λ _. Bool) [ true ↦ eqb p 3 | false ↦ false ]) shut (counted_purpose _ refl)
+      let k = counted in
+      closed_outcome (closes n (open_in n k.round [])) (fails n (open_in n k.round [])) k.round k.better
+      ∙ ap (λ p. elim (closes n (open_in n k.round [])) as (λ _. Bool) [ true ↦ eqb p 3 | false ↦ false ]) (counted_purpose _ refl)
 
   checks_by : (x : Bool) → matched ≡ x → reads_where x ≡ closes_check (count_reply n m mark reports l.round)
   unfolding count_reply closes_check

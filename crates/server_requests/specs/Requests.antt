@@ -1,6 +1,6 @@
 -- Requests, PLEASEVOTE among them (RULES, Elections 2, Replicas), by what they look at. The laws in proofs/ tie each answer to the move of crate `moves`
 -- that it stands for.
-use Rattle.std.specs.Prelude.{Bool, true, false, ℕ, eqb, ltb}
+use Rattle.std.specs.Prelude.{Bool, true, false, ℕ, eqb, ltb, if◌then◌else◌}
 use Rattle.model.specs.Cluster as cluster
 use Rattle.model.specs.Leader.{acts}
 use Rattle.server.specs.declared.Version.{Version}
@@ -9,6 +9,8 @@ use Rattle.server.specs.declared.Message.{Message}
 use Rattle.server.specs.Views.{role_in, version_in, chosen, is_broadcast}
 use Rattle.server.specs.Heads.{voting_head, ceased_head}
 use Rattle.rounds.specs.Rounds.{pick_version, no_version}
+use Rattle.moves.specs.declared.Filling.TheVariants as filling
+use Rattle.moves.specs.declared.Keeping.TheVariants as keeping
 use Rattle.moves.specs.declared.Local.{Local}
 use Rattle.moves.specs.declared.Move.{Move}
 use Rattle.moves.specs.Moves.{local_of, no_answer}
@@ -101,8 +103,8 @@ answered_move m l a =
       local = local_of (answered_head a l.head) (pick_version a.stores m.version l.version) l.round l.call;
       sends = a.kind;
       written = carried_by a.kind l.version;
-      fills = 0;
-      keeps = chosen a.stores 2 0;
+      fills = filling.Stays;
+      keeps = if a.stores then keeping.Message else keeping.Stays;
       answer = no_answer;
       ceases = a.ceases;
       forgets = false;

@@ -30,6 +30,15 @@ pub struct Answered {
     pub stores: bool,
 }
 
+// What comes of a reply: it is none to this round; the round stays open; it closes; it fails, and leading ends.
+#[derive(Clone, Copy)]
+pub enum Outcome {
+    Unmatched,
+    Waiting,
+    Closed,
+    Failed,
+}
+
 // What a reply makes of the round of a slot.
 #[derive(Clone, Copy)]
 pub struct Replied {
@@ -37,6 +46,5 @@ pub struct Replied {
     pub round: Round,
     // whether the reported copy is now the best one
     pub better: bool,
-    // UNMATCHED, WAITING, CLOSED or FAILED
-    pub outcome: u32,
+    pub outcome: Outcome,
 }

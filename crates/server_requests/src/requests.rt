@@ -5,21 +5,18 @@ ghost use Rattle.server_requests.specs.Requests.{steps_down, left_answer, voted_
 use crate::{Answered, Seat};
 use moves::replicas::role_acts;
 use rounds::opening::no_version;
-use rounds::replies::pick_version;
 use server::codes::{
     ACK_READ, ACK_VOTE, ACK_WRITE, NACK_READ, NACK_VOTE, NACK_WRITE, PLEASE_VOTE, REPLICA_WRITE,
 };
-use server::numbers::{above, chosen};
+use server::numbers::above;
 use server::{Message, Version};
 
 // Whether a leader or candidate is one no more where its vote becomes this number.
+#[tactic(auto, unfolding(crate::specs::Requests::steps_down))]
 fn steps_down(seat: Seat, vote: u32) -> bool
     ensures { result ≡ steps_down seat vote }
 {
-    if role_acts(seat.role) {
-        return seat.number < vote;
-    }
-    false
+    role_acts(seat.role) && seat.number < vote
 }
 
 // Vote, leader and copy stay.
@@ -39,64 +36,70 @@ fn left_answer(seat: Seat, kind: u32, ceases: bool) -> Answered
 fn voted_answer(seat: Seat, message: Message, kind: u32, stores: bool) -> Answered
     ensures { result ≡ voted_answer seat message kind stores }
 {
-    let ceases = steps_down(seat, message.election);
     Answered {
         vote: message.election,
         leader: message.sender,
         kind,
-        ceases,
+        ceases: steps_down(seat, message.election),
         stores,
     }
 }
 
 // Whether the vote is the sender's already.
+#[tactic(auto, unfolding(crate::specs::Requests::has_vote))]
 fn has_vote(seat: Seat, message: Message) -> bool
     ensures { result ≡ has_vote seat message }
 {
-    if message.election == seat.vote {
-        return message.sender == seat.leader;
-    }
-    false
+    message.election == seat.vote && message.sender == seat.leader
 }
 
 // PLEASEVOTE: a vote under a higher number is given; one that is given already is acknowledged again.
+#[tactic(auto, unfolding(crate::specs::Requests::vote_answer, server::specs::Views::chosen))]
 fn vote_answer(seat: Seat, message: Message) -> Answered
     ensures { result ≡ vote_answer seat message }
 {
     if seat.vote < message.election {
-        return voted_answer(seat, message, ACK_VOTE, false);
+        voted_answer(seat, message, ACK_VOTE, false)
+    } else {
+        let kind = if has_vote(seat, message) {
+            ACK_VOTE
+        } else {
+            NACK_VOTE
+        };
+        left_answer(seat, kind, steps_down(seat, seat.vote))
     }
-    let kind = chosen(has_vote(seat, message), ACK_VOTE, NACK_VOTE);
-    left_answer(seat, kind, steps_down(seat, seat.vote))
 }
 
 // REPLICAWRITE: the copy is stored only if its version is above that of the server's own.
+#[tactic(auto, unfolding(crate::specs::Requests::write_answer))]
 fn write_answer(seat: Seat, message: Message, own: Version) -> Answered
     ensures { result ≡ write_answer seat message own }
 {
     if message.election < seat.vote {
-        return left_answer(seat, NACK_WRITE, false);
+        left_answer(seat, NACK_WRITE, false)
+    } else {
+        voted_answer(seat, message, ACK_WRITE, above(message.version, own))
     }
-    let stores = above(message.version, own);
-    voted_answer(seat, message, ACK_WRITE, stores)
 }
 
 // REPLICAREAD.
+#[tactic(auto, unfolding(crate::specs::Requests::read_answer))]
 fn read_answer(seat: Seat, message: Message) -> Answered
     ensures { result ≡ read_answer seat message }
 {
     if message.election < seat.vote {
-        return left_answer(seat, NACK_READ, false);
+        left_answer(seat, NACK_READ, false)
+    } else {
+        voted_answer(seat, message, ACK_READ, false)
     }
-    voted_answer(seat, message, ACK_READ, false)
 }
 
 // What a server makes of a request; `own` is the version of its copy. Any other kind is answered as a read: nobody asks for it.
+#[tactic(auto, unfolding(crate::specs::Requests::answer_to))]
 pub fn answer_to(seat: Seat, message: Message, own: Version) -> Answered
     ensures { result ≡ answer_to seat message own }
 {
-    let kind = message.kind;
-    match kind {
+    match message.kind {
         PLEASE_VOTE => vote_answer(seat, message),
         REPLICA_WRITE => write_answer(seat, message, own),
         _ => read_answer(seat, message),
@@ -105,17 +108,16 @@ pub fn answer_to(seat: Seat, message: Message, own: Version) -> Answered
 
 // The reply of this kind goes to the sender, with the bucket, the election number and the round of what it answers; ACKREAD
 // carries the version of the server's own copy, any other reply none.
+#[tactic(auto, unfolding(rounds::specs::Rounds::pick_version))]
 pub fn reply_to(me: u32, message: Message, kind: u32, own: Version) -> Message
     ensures { result ≡ reply_message me message kind own }
 {
-    let version = pick_version(kind == ACK_READ, own, no_version());
+    let version = if kind == ACK_READ { own } else { no_version() };
     Message {
         kind,
         sender: me,
         receiver: message.sender,
-        bucket: message.bucket,
-        election: message.election,
-        round: message.round,
         version,
+        ..message
     }
 }
