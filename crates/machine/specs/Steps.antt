@@ -2,6 +2,7 @@
 use Rattle.std.specs.Prelude.{◌≡◌, ℕ, ◌<◌, ◌≤◌, Bool, true, false, List, [], replicate, Result, Ok, Err}
 use Rattle.server.specs.declared.Effect.{Effect}
 use Rattle.server.specs.declared.Message.{Message}
+use Rattle.server.specs.declared.Words.{Words}
 use Rattle.server.specs.Views.{effect_in}
 use Rattle.memory.specs.declared.Counts.{Counts}
 use Rattle.memory.specs.Layout.{bucket_room, slot_of, counts_at, fresh_places, message_at, put_counts, put_words, put_texts}
