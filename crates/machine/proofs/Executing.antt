@@ -12,7 +12,7 @@ use Rattle.plans.specs.declared.Plan.{Plan}
 use Rattle.plans.specs.declared.Plan.TheVariants.{Loses, Moves, Takes}
 use Rattle.runs.specs.declared.Report.{Report}
 use Rattle.runs.specs.Carrying.{Carriable}
-use Rattle.runs.specs.Runs.{Ran, ran, bare_report, lost_run, planned_carried, taken, accepted}
+use Rattle.runs.specs.Runs.{Ran, ran, lost_run, planned_carried, taken, accepted}
 use Rattle.machine.specs.Steps.{Lost, Took}
 
 -- the server and the bucket of a move have a slot
@@ -45,10 +45,3 @@ module _ (counts heads slots copies working texts queue payloads l : List ℕ) (
       → z ≡ planned_carried (memory counts heads slots' copies working texts' queue payloads) l c y → z ≡ accepted before l c p
   unfolding accepted taken
   executes_taken p w y z e t q = q ∙ rw (t.numbers, t.bytes, e)
-
--- what is reported of a message that is lost
-abbrev pub lost_as : Report → (copied count : ℕ) → Report
-lost_as b k n = record { effect = b.effect; answers = b.answers; sent = b.sent; copied = k; delivered = b.delivered; lost = 1; messages = n }
-
-pub lost_report : (b : Report) (k n : ℕ) → b ≡ bare_report → lost_as b k n ≡ lost_as bare_report k n
-lost_report b k n e = ap (λ b. lost_as b k n) e

@@ -1,5 +1,5 @@
 -- `carrying::carry` meets its contract: what a move told, reported with its effect.
-use Rattle.machine.proofs.Assembling.{reported}
+use Rattle.runs.proofs.Reporting.{reported}
 use Rattle.machine.proofs.carrying.carry.Goals as goal
 
 pub returns : goal.returns

@@ -1,5 +1,5 @@
 -- `carrying::lose` meets its contract: the list, then the counts.
-use Rattle.machine.proofs.Executing.{lost_report}
+use Rattle.runs.proofs.Reporting.{lost_report}
 use Rattle.machine.proofs.carrying.lose.Goals as goal
 
 pub returns : goal.returns

@@ -2,7 +2,7 @@
 use Rattle.std.proofs.Common.{sym, ◌∙◌}
 use Rattle.std.proofs.lemmas.Result.{err_from_is_err_and}
 use Rattle.plans.proofs.Judging.{step_slot}
-use Rattle.machine.proofs.Assembling.{reported}
+use Rattle.runs.proofs.Reporting.{reported}
 use Rattle.machine.proofs.Messages.{losable, handable, carries, handled, no_places_left, listed_lost, listed_handed}
 use Rattle.machine.proofs.handing.hand_listed.Goals as goal
 
