@@ -35,9 +35,10 @@ fn leave(words: &mut Words, bytes: &Bytes, cluster: Counts, step: Step) -> usize
 {
     let count = cluster.messages as usize;
     if step.removes {
-        return remove(words, bytes, count, step.index as usize);
+        remove(words, bytes, count, step.index as usize)
+    } else {
+        count
     }
-    count
 }
 
 // The answers, then the server; the working content is filled before. `place` is that of the message handed over.
