@@ -47,10 +47,8 @@ fn end_calls(answers: &mut AnswerWords, slots: &SlotWords, server: usize, bucket
     ensures { Listed (ended_calls slots.now server buckets (was answers)) (is answers) result }
 {
     let mut count = 0;
-    let mut bucket = 0;
-    while bucket < buckets {
+    for bucket in 0..buckets {
         count = end_call(answers, slots, slot_of(server, bucket), count);
-        bucket += 1;
     }
     count as u32
 }

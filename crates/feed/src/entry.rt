@@ -1,6 +1,5 @@
 // The public calls: a part of the input, and its end, on lent arrays. They are given the tally by value, and answer what is to be added
 // to it.
-ghost use Rattle.std.specs.Prelude.{◌≡◌, length};
 ghost use Rattle.memory.specs.Lent.{was, read_only};
 ghost use Rattle.views.specs.Lent.{lent};
 ghost use Rattle.feed.specs.Lent.{FeedsValue, FinishesValue};
@@ -13,18 +12,12 @@ use memory::{
 };
 use output::put_end;
 use print::{LINE_ROOM, TALLY_ROOM};
-use progress::{BYTES_KEPT, KeptLine, LINE_FEED, LINES_READ, ReaderWords, line_feeds, put_reader};
+use progress::{BYTES_KEPT, KeptLine, LINES_READ, ReaderWords, last_feed, put_reader};
 use runs::Tally;
 use tally::change;
 
 // Bytes of output for what a line and the tally print.
 const FINISH_ROOM: usize = LINE_ROOM + TALLY_ROOM;
-
-// The sizes of two arrays, for the caller's proof: it does nothing.
-fn sizes(reader: &[usize], line: &[u8])
-    requires { (length reader.now ≡ 3) × (length line.now ≡ 121) }
-    ensures { (length reader.now ≡ 3) × (length line.now ≡ 121) }
-{}
 
 // A part of the input.
 pub fn feed_value(
@@ -45,7 +38,6 @@ pub fn feed_value(
 ) -> FedPart
     ensures { FeedsValue (lent counts heads slots copies working texts queue payloads answers) reader line tally (read_only input) out result }
 {
-    sizes(reader, line);
     let lines = reader[LINES_READ];
     let count = reader[BYTES_KEPT];
     let progress = feed_part(
@@ -53,9 +45,8 @@ pub fn feed_value(
         tally, lines, count,
     );
     put_reader(reader, progress, progress.written);
-    let after = progress.tally;
     FedPart {
-        change: change(tally, after),
+        change: change(tally, progress.tally),
         taken: progress.taken,
     }
 }
@@ -79,7 +70,6 @@ pub fn finish_value(
 ) -> FedEnd
     ensures { FinishesValue (lent counts heads slots copies working texts queue payloads answers) reader line tally out result }
 {
-    sizes(reader, line);
     if out.len() < FINISH_ROOM {
         return FedEnd {
             change: change(tally, tally),
@@ -88,8 +78,6 @@ pub fn finish_value(
     }
     let lines = reader[LINES_READ];
     let count = reader[BYTES_KEPT];
-    let feed = [LINE_FEED; 1];
-    let feeds = line_feeds(count);
     let progress = feed_part(
         counts,
         heads,
@@ -102,16 +90,15 @@ pub fn finish_value(
         answers,
         line,
         &mut out[..LINE_ROOM],
-        &feed[..feeds],
+        last_feed(count),
         tally,
         lines,
         count,
     );
-    let after = progress.tally;
-    let written = put_end(out, progress.written, after);
+    let written = put_end(out, progress.written, progress.tally);
     put_reader(reader, progress, written);
     FedEnd {
-        change: change(tally, after),
+        change: change(tally, progress.tally),
         written,
     }
 }

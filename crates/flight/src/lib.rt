@@ -34,7 +34,7 @@ fn unless_vote(kind: u32, number: u32) -> u32
 }
 
 // What a step of server `me` sends to all others; the receiver is filled in for each.
-fn broadcast_of(me: u32, at: u32, next: Move) -> Message
+pub fn broadcast_of(me: u32, at: u32, next: Move) -> Message
     ensures { result ≡ broadcast_of me at next }
 {
     let local = next.local;
@@ -55,7 +55,7 @@ fn broadcast_of(me: u32, at: u32, next: Move) -> Message
 }
 
 // A reply carries bucket, election number and round of what it answers.
-fn reply_of(me: u32, asked: Message, next: Move) -> Message
+pub fn reply_of(me: u32, asked: Message, next: Move) -> Message
     ensures { result ≡ reply_of me asked next }
 {
     let version = next.written;
@@ -70,12 +70,14 @@ fn reply_of(me: u32, asked: Message, next: Move) -> Message
     }
 }
 
-fn message_to(message: Message, receiver: u32) -> Message
+// The message to this receiver.
+pub fn message_to(message: Message, receiver: u32) -> Message
     ensures { result ≡ message_to message receiver }
 {
-    let mut addressed = message;
-    addressed.receiver = receiver;
-    addressed
+    Message {
+        receiver,
+        ..message
+    }
 }
 
 // A message goes to one server, with the working content of the slot, unless that server is its sender.
@@ -119,10 +121,8 @@ fn send_all(
     ensures { Flown (spread (block content_size slot working.now) message servers (old_flight queue payloads count)) (is queue) (is payloads) result }
 {
     let mut sent = count;
-    let mut receiver = 0;
-    while receiver < servers {
+    for receiver in 0..servers {
         sent = send_to(queue, payloads, working, sent, message, receiver, slot);
-        receiver += 1;
     }
     sent
 }

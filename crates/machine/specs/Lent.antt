@@ -1,12 +1,13 @@
 -- The contracts of `machine` over the lent arrays: what each function makes of what they were. The records are those of Steps.antt and
 -- Meaning.antt.
-use Rattle.std.specs.Prelude.{◌≡◌, ℕ, Bool, List, length}
+use Rattle.std.specs.Prelude.{◌≡◌, ℕ, Bool, List, length, Result, Ok}
 use Rattle.std.specs.Borrow.{Bor}
 use Rattle.entries.specs.declared.Decoded.{Decoded}
 use Rattle.entries.specs.Decoded.{table_in}
 use Rattle.memory.specs.declared.Counts.{Counts}
 use Rattle.memory.specs.Layout.{slot_of}
 use Rattle.memory.specs.Lent.{Lent, was, is}
+use Rattle.refusals.specs.declared.Refusal.{Refusal}
 use Rattle.moves.specs.declared.Move.{Move}
 use Rattle.views.specs.Memory.{memory, Sized}
 use Rattle.views.specs.Lent.{Lents, old, new, old_answers, new_answers}
@@ -14,14 +15,16 @@ use Rattle.views.specs.Changes.{answers_room}
 use Rattle.views.specs.Queue.{without_message, sent}
 use Rattle.flight.specs.Flown.{Flown, old_flight}
 use Rattle.plans.specs.declared.Step.{Step}
+use Rattle.plans.specs.declared.Carried.{Carried}
 use Rattle.plans.specs.declared.Plan.{Plan}
 use Rattle.parse.specs.declared.Line.{Line}
 use Rattle.runs.specs.declared.Report.{Report}
 use Rattle.runs.specs.declared.Tally.{Tally}
-use Rattle.runs.specs.Runs.{carried_run, executed}
-use Rattle.machine.specs.declared.Told.{Told}
+use Rattle.runs.specs.declared.Told.{Told}
+use Rattle.runs.specs.Carrying.{CarriedOut}
+use Rattle.runs.specs.Runs.{ran, carried_run, planned_carried, accepted}
 use Rattle.machine.specs.declared.Stepped.{Stepped}
-use Rattle.machine.specs.Steps.{ServerChanged, CarriedOn, CarriedOut, Reported, HandedListed, HandRan, Clustered, RanPlan, RanLine}
+use Rattle.machine.specs.Steps.{ServerChanged, CarriedOn, HandedListed, HandRan, Clustered, RanPlan, RanLine}
 use Rattle.machine.specs.Meaning.{Performed}
 
 -- ---- a plan is carried out
@@ -67,26 +70,29 @@ abbrev pub CarriesOut : Lents → Counts → Step → Move → Decoded → Told 
 CarriesOut a c x v table r = CarriedOut (carried_run (old a) (old_answers a) c x v (table_in table)) x (new a) (new_answers a) r
 
 abbrev pub Executes : Lents → Counts → Plan → Report → Type 0
-Executes a c p r = Reported (executed (old a) (old_answers a) c p) p.effect (new a) (new_answers a) r
+Executes a c p r = ran (new a) (new_answers a) (Ok r) ≡ accepted (old a) (old_answers a) c p
+
+abbrev pub CarriesPlan : Lents → Counts → Carried → Report → Type 0
+CarriesPlan a c p r = ran (new a) (new_answers a) (Ok r) ≡ planned_carried (old a) (old_answers a) c p
 
 -- ---- a message is handed over: message i of the list, or any number
 
-abbrev pub HandsListed : Lents → Counts → ℕ → Bool → Report → Type 0
+abbrev pub HandsListed : Lents → Counts → ℕ → Bool → Result Report Refusal → Type 0
 HandsListed a c i removes r = HandedListed (old a) (old_answers a) c i removes (new a) (new_answers a) r
 
-abbrev pub Hands : Lents → ℕ → Bool → Report → Type 0
+abbrev pub Hands : Lents → ℕ → Bool → Result Report Refusal → Type 0
 Hands a i removes r = HandRan (old a) (old_answers a) i removes (new a) (new_answers a) r
 
 -- ---- the cluster line, a line that needs a cluster, any line, and a line with the tally
 
-abbrev pub Clusters : (counts heads slots copies queue : Lent) → (n b r : ℕ) → Type 0
+abbrev pub Clusters : (counts heads slots copies queue : Lent) → (n b : ℕ) → Result (Unit {0}) Refusal → Type 0
 Clusters counts heads slots copies queue n b r =
     Clustered (was counts) (was heads) (was slots) (was copies) (was queue) n b (is counts) (is heads) (is slots) (is copies) (is queue) r
 
-abbrev pub RunsPlan : Lents → Line → Report → Type 0
+abbrev pub RunsPlan : Lents → Line → Result Report Refusal → Type 0
 RunsPlan a x r = RanPlan (old a) (old_answers a) x (new a) (new_answers a) r
 
-abbrev pub RunsLine : Lents → Line → Report → Type 0
+abbrev pub RunsLine : Lents → Line → Result Report Refusal → Type 0
 RunsLine a x r = RanLine (old a) (old_answers a) x (new a) (new_answers a) r
 
 abbrev pub Performs : Lents → Tally → Line → Stepped → Type 0

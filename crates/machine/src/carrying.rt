@@ -5,11 +5,10 @@ ghost use Rattle.memory.specs.Lent.{was, is, read_only};
 ghost use Rattle.views.specs.Queue.{without_message};
 ghost use Rattle.views.specs.Lent.{lent};
 ghost use Rattle.flight.specs.Flown.{Flown, old_flight};
-ghost use Rattle.runs.specs.Runs.{next_counts};
-ghost use Rattle.machine.specs.Steps.{Carriable, Losable, carried_report, Lost, Took, Executable};
-ghost use Rattle.machine.specs.Lent.{ChangesServer, ChangesFlight, CarriesOn, CarriesOut, Executes};
+ghost use Rattle.runs.specs.Carrying.{Carriable, Losable};
+ghost use Rattle.machine.specs.Steps.{Lost, Took, Executable};
+ghost use Rattle.machine.specs.Lent.{ChangesServer, ChangesFlight, CarriesOn, CarriesOut, CarriesPlan, Executes};
 
-use crate::Told;
 use answers::answer;
 use entries::Decoded;
 use flight::{remove, send};
@@ -19,47 +18,14 @@ use memory::{
 };
 use messages::place_of;
 use moves::Move;
-use plans::{Plan, Step};
+use plans::{Carried, Plan, Step};
 use records::counters::store_counts;
 use records::words::store_words;
-use refusals::codes::NONE;
 use refusals::send_count;
-use runs::Report;
-use server::Effect;
-use std::num::wrapping_add_u32;
+use runs::{Report, Told, bare_report, next_counts, report_of};
+use server::Words;
 use steps::contents::fill_work;
 use steps::locals::move_server;
-
-// What a line came to that sends and answers nothing: refused with this number, or accepted with 0.
-pub fn bare_report(refusal: u32, effect: Effect) -> Report
-    ensures { result ≡ record { refusal = refusal; answers = 0; sent = 0; copied = 0; delivered = 0; lost = 0; messages = 0; effect = effect } }
-{
-    Report {
-        refusal,
-        answers: 0,
-        sent: 0,
-        copied: 0,
-        delivered: 0,
-        lost: 0,
-        messages: 0,
-        effect,
-    }
-}
-
-// One more accepted line.
-fn next_counts(cluster: Counts, messages: usize, calls: u32) -> Counts
-    requires { messages ≤ message_room }
-    ensures { result ≡ next_counts cluster messages calls }
-{
-    let lines = wrapping_add_u32(cluster.lines, 1);
-    Counts {
-        servers: cluster.servers,
-        buckets: cluster.buckets,
-        messages: messages as u32,
-        lines,
-        calls,
-    }
-}
 
 // The message handed over leaves the list, where it is not a copy.
 fn leave(
@@ -73,9 +39,10 @@ fn leave(
     ensures { Flown (without_message removes index (old_flight queue (read_only payloads) count)) (is queue) payloads.now result }
 {
     if removes {
-        return remove(queue, payloads, count, index);
+        remove(queue, payloads, count, index)
+    } else {
+        count
     }
-    count
 }
 
 // The answers, then the server's arrays; the working content is filled before. `place` is that of the message handed over.
@@ -178,22 +145,6 @@ fn carry_on(
     }
 }
 
-// What a move that is carried out came to.
-pub fn report_of(told: Told, step: Step, effect: Effect) -> Report
-    ensures { result ≡ carried_report told step effect }
-{
-    Report {
-        refusal: NONE,
-        answers: told.answers,
-        sent: told.sent,
-        copied: step.copied,
-        delivered: step.delivered,
-        lost: step.lost,
-        messages: told.messages,
-        effect,
-    }
-}
-
 // A move is carried out; `table` is the new one, where the move writes one.
 pub fn carry_out(
     counts: &mut CountWords,
@@ -228,10 +179,9 @@ pub fn lose(
     payloads: &PayloadBytes,
     cluster: Counts,
     step: Step,
-    effect: Effect,
 ) -> Report
     requires { Losable cluster step }
-    ensures { Lost (was counts) (was queue) payloads.now cluster step effect (is counts) (is queue) payloads.now result }
+    ensures { Lost (was counts) (was queue) payloads.now cluster step (is counts) (is queue) payloads.now result }
 {
     let count = leave(
         queue,
@@ -242,32 +192,59 @@ pub fn lose(
     );
     store_counts(counts, next_counts(cluster, count, step.calls));
     Report {
-        refusal: NONE,
-        answers: 0,
-        sent: 0,
         copied: step.copied,
-        delivered: 0,
         lost: 1,
         messages: count as u32,
-        effect,
+        ..bare_report()
     }
 }
 
 // The words of a call that is taken are stored.
-fn take(slots: &mut SlotWords, texts: &mut TextBytes, plan: Plan)
-    requires { (plan.step.server < server_room) × (plan.step.bucket < bucket_room) }
-    ensures { Took (was slots) (was texts) plan (is slots) (is texts) }
+fn take(slots: &mut SlotWords, texts: &mut TextBytes, words: Words, step: Step)
+    requires { (step.server < server_room) × (step.bucket < bucket_room) }
+    ensures { Took (was slots) (was texts) words step (is slots) (is texts) }
 {
-    let step = plan.step;
-    let words = plan.words;
-    if plan.takes {
-        let slot = slot_of(step.server as usize, step.bucket as usize);
-        store_words(slots, texts, slot, words);
-        return;
-    }
+    let slot = slot_of(step.server as usize, step.bucket as usize);
+    store_words(slots, texts, slot, words);
 }
 
-// A plan is carried out, or the line is refused.
+// A planned move is carried out.
+fn carry(
+    counts: &mut CountWords,
+    heads: &mut HeadWords,
+    slots: &mut SlotWords,
+    copies: &mut CopyBytes,
+    working: &mut WorkingBytes,
+    texts: &TextBytes,
+    queue: &mut QueueWords,
+    payloads: &mut PayloadBytes,
+    answers: &mut AnswerWords,
+    cluster: Counts,
+    carried: Carried,
+) -> Report
+    requires { Carriable cluster carried.step carried.next }
+    ensures { CarriesPlan (lent counts heads slots copies working (read_only texts) queue payloads answers) cluster carried result }
+{
+    let Carried { step, next, effect } = carried;
+    let told = carry_out(
+        counts,
+        heads,
+        slots,
+        copies,
+        working,
+        texts,
+        queue,
+        payloads,
+        answers,
+        cluster,
+        step,
+        next,
+        effect.table,
+    );
+    report_of(told, step, effect)
+}
+
+// A plan is carried out.
 pub fn execute(
     counts: &mut CountWords,
     heads: &mut HeadWords,
@@ -284,29 +261,18 @@ pub fn execute(
     requires { Executable cluster plan }
     ensures { Executes (lent counts heads slots copies working texts queue payloads answers) cluster plan result }
 {
-    let effect = plan.effect;
-    let step = plan.step;
-    if plan.refusal == NONE {
-        if plan.loses {
-            return lose(counts, queue, payloads, cluster, step, effect);
+    match plan {
+        Plan::Loses(step) => lose(counts, queue, payloads, cluster, step),
+        Plan::Moves(carried) => carry(
+            counts, heads, slots, copies, working, texts, queue, payloads, answers, cluster,
+            carried,
+        ),
+        Plan::Takes(words, carried) => {
+            take(slots, texts, words, carried.step);
+            carry(
+                counts, heads, slots, copies, working, texts, queue, payloads, answers, cluster,
+                carried,
+            )
         }
-        take(slots, texts, plan);
-        let told = carry_out(
-            counts,
-            heads,
-            slots,
-            copies,
-            working,
-            texts,
-            queue,
-            payloads,
-            answers,
-            cluster,
-            step,
-            plan.next,
-            effect.table,
-        );
-        return report_of(told, step, effect);
     }
-    bare_report(plan.refusal, effect)
 }

@@ -8,11 +8,10 @@ use messages::load_message;
 use plans::Plan;
 use plans::cuts::{cut_plan, cut_step};
 use plans::deliveries::receiver;
-use plans::parts::{no_effect, refused_plan};
-use refusals::codes::NONE;
-use refusals::message_refusal;
+use refusals::{Refusal, message_refusal};
 
 // 5, 7 and 18, or the cut of the message with this index after so many stores.
+#[tactic(auto, unfolding(plans::specs::Plans::cut_at, plans::specs::Plans::unless))]
 pub fn plan_cut(
     heads: &HeadWords,
     slots: &SlotWords,
@@ -20,17 +19,13 @@ pub fn plan_cut(
     cluster: Counts,
     index: u32,
     stores: u32,
-) -> Plan
+) -> Result<Plan, Refusal>
     requires { Measured cluster }
-    ensures { result ≡ cut_in heads.now slots.now queue.now cluster index stores result.effect }
+    ensures { result ≡ cut_in heads.now slots.now queue.now cluster index stores }
 {
-    let effect = no_effect();
-    let refusal = message_refusal(cluster, index);
-    if refusal == NONE {
-        let message = load_message(queue, index as usize);
-        let step = cut_step(cluster, index, message);
-        let local = receiver(heads, slots, step);
-        return cut_plan(cluster, step, stores, message, local, effect);
-    }
-    refused_plan(refusal, effect)
+    message_refusal(cluster, index)?;
+    let message = load_message(queue, index as usize);
+    let step = cut_step(cluster, index, message);
+    let local = receiver(heads, slots, step);
+    cut_plan(cluster, step, stores, message, local)
 }

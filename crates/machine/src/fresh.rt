@@ -12,28 +12,6 @@ use memory::{
 };
 use records::counters::store_counts;
 
-fn zero_words(dst: &mut [u32], len: usize)
-    requires { length dst.old ≡ len }
-    ensures { is dst ≡ replicate len 0 }
-{
-    let mut i = 0;
-    while i < len {
-        dst[i] = 0;
-        i += 1;
-    }
-}
-
-fn zero_bytes(dst: &mut [u8], len: usize)
-    requires { length dst.old ≡ len }
-    ensures { is dst ≡ replicate len 0 }
-{
-    let mut i = 0;
-    while i < len {
-        dst[i] = 0;
-        i += 1;
-    }
-}
-
 fn fresh_counts(servers: u32, buckets: u32) -> Counts
     ensures { result ≡ fresh_counts servers buckets }
 {
@@ -47,23 +25,13 @@ fn fresh_counts(servers: u32, buckets: u32) -> Counts
 }
 
 // Every word of the order names its own place.
-fn number_words(dst: &mut [u32], len: usize)
-    requires { (length dst.old ≡ len) × (len ≤ message_room) }
-    ensures { is dst ≡ rising 0 len }
+fn number_words(order: &mut [u32])
+    requires { length order.old ≤ message_room }
+    ensures { is order ≡ rising 0 (length (was order)) }
 {
-    let mut i = 0;
-    while i < len {
-        dst[i] = i as u32;
-        i += 1;
+    for (i, word) in order.iter_mut().enumerate() {
+        *word = i as u32;
     }
-}
-
-// All places are free.
-fn free_places(queue: &mut [u32])
-    requires { length queue.old ≡ queue_length }
-    ensures { is queue ≡ fresh_places (was queue) }
-{
-    number_words(&mut queue[ORDER_AT..], MESSAGES);
 }
 
 // A cluster of so many servers and buckets.
@@ -78,9 +46,9 @@ pub fn create(
 )
     ensures { Created (was counts) (was queue) servers buckets (is counts) (is heads) (is slots) (is copies) (is queue) }
 {
-    zero_words(heads, HEADS_LEN);
-    zero_words(slots, SLOTS_LEN);
-    zero_bytes(copies, CONTENTS_LEN);
-    free_places(queue);
+    heads.fill(0);
+    slots.fill(0);
+    copies.fill(0);
+    number_words(&mut queue[ORDER_AT..]);
     store_counts(counts, fresh_counts(servers, buckets));
 }

@@ -2,6 +2,7 @@
 // what that stands for in specs/Meaning.antt.
 #![tactic(auto)]
 
+use refusals::Refusal;
 use runs::{Report, Tally};
 
 mod carrying;
@@ -12,17 +13,9 @@ mod handing;
 mod numbers;
 mod one_line;
 
-// What a move that is carried out tells: how many answers were written, how many messages sent, and how many are in flight.
-#[derive(Clone, Copy)]
-pub struct Told {
-    pub answers: u32,
-    pub sent: u32,
-    pub messages: u32,
-}
-
-// What a line came to, and the tally after it.
+// What a line came to or why it is refused, and the tally after it.
 #[derive(Clone, Copy)]
 pub struct Stepped {
-    pub report: Report,
+    pub report: Result<Report, Refusal>,
     pub tally: Tally,
 }

@@ -1,20 +1,18 @@
 // One line: refused, or a cluster made, or its plan carried out.
-ghost use Rattle.std.specs.Prelude.{◌≡◌};
+ghost use Rattle.std.specs.Prelude.{◌≡◌, true, if◌then◌else◌, Some, None};
 ghost use Rattle.memory.specs.Lent.{was};
 ghost use Rattle.views.specs.Lent.{lent};
 ghost use Rattle.plans.specs.Arrays.{Measured};
 ghost use Rattle.runs.specs.Runs.{words_with, words_of};
-ghost use Rattle.machine.specs.Steps.{LinePlanned, route_of, planned_line};
+ghost use Rattle.machine.specs.Steps.{LinePlanned, is_planned};
 ghost use Rattle.machine.specs.Lent.{RunsPlan, RunsLine, Clusters};
 
-use crate::carrying::{bare_report, execute};
+use crate::carrying::execute;
 use crate::cutting::plan_cut;
 use crate::fresh::create;
 use crate::handing::hand_line;
 use crate::numbers::{standing, within};
-use entries::keys::no_key;
-use entries::slots::absent;
-use entries::{Item, Key};
+use entries::{Key, Value};
 use memory::{
     AnswerWords, CopyBytes, CountWords, Counts, HeadWords, PayloadBytes, QueueWords, SlotWords,
     TextBytes, WorkingBytes,
@@ -23,27 +21,16 @@ use parse::{Kind, Line};
 use plans::Plan;
 use plans::calls::plan_call;
 use plans::deliveries::plan_lose;
-use plans::parts::{no_effect, no_words, refused_plan};
+use plans::parts::no_words;
 use plans::servers::{plan_elect, plan_start, plan_stop, plan_timeout};
 use records::counters::load_counts;
-use refusals::codes::{CLUSTER_WRONG, MALFORMED, NO_SUCH_MESSAGE, NONE};
-use runs::Report;
+use refusals::Refusal;
+use runs::{Report, bare_report};
 use server::Words;
 use server::codes::{DEL, GET, KEYS, SET, SETIF};
 use server::measures::{MAX_BUCKETS, MAX_SERVERS};
 
-// Ways to run a line: refused at once; a cluster made; planned, then carried out; a message handed over, which leaves the list or stays.
-const MALFORMED_LINE: u32 = 0;
-
-const CLUSTER_LINE: u32 = 1;
-
-const PLANNED_LINE: u32 = 2;
-
-const DELIVER_LINE: u32 = 3;
-
-const COPY_LINE: u32 = 4;
-
-fn words(kind: u32, bucket: u32, key: Key, expected: Item, value: Item) -> Words
+fn words(kind: u32, bucket: u32, key: Key, expected: Option<Value>, value: Option<Value>) -> Words
     ensures { result ≡ words_with kind bucket key expected value }
 {
     Words {
@@ -55,43 +42,34 @@ fn words(kind: u32, bucket: u32, key: Key, expected: Item, value: Item) -> Words
     }
 }
 
+// A value that is there or not.
+fn item(there: bool, value: Value) -> Option<Value>
+    ensures { result ≡ (if there then Some value else None) }
+{
+    if there { Some(value) } else { None }
+}
+
 // The words of a call: what its kind does not use is none.
+#[tactic(auto, unfolding(runs::specs::Runs::words_of))]
 fn words_of(line: Line) -> Words
     ensures { result ≡ words_of line.kind line }
 {
-    let kind = line.kind;
     let key = line.key;
-    let expected_value = line.expected;
-    let new_value = line.value;
-    let expected = Item {
-        value: expected_value,
-        there: line.has_expected,
-    };
-    let value = Item {
-        value: new_value,
-        there: line.has_value,
-    };
-    let none = absent();
-    match kind {
-        Kind::Malformed => no_words(),
-        Kind::Cluster => no_words(),
-        Kind::Elect => no_words(),
-        Kind::Get => words(GET, 0, key, none, none),
-        Kind::Set => words(SET, 0, key, none, value),
-        Kind::SetIf => words(SETIF, 0, key, expected, value),
-        Kind::Del => words(DEL, 0, key, none, none),
-        Kind::Keys => words(KEYS, line.second, no_key(), none, none),
-        Kind::Deliver => no_words(),
-        Kind::Copy => no_words(),
-        Kind::Lose => no_words(),
-        Kind::Timeout => no_words(),
-        Kind::Stop => no_words(),
-        Kind::Cut => no_words(),
-        Kind::Start => no_words(),
+    let value = item(line.has_value, line.value);
+    match line.kind {
+        Kind::Get => words(GET, 0, key, None, None),
+        Kind::Set => words(SET, 0, key, None, value),
+        Kind::SetIf => {
+            let expected = item(line.has_expected, line.expected);
+            words(SETIF, 0, key, expected, value)
+        }
+        Kind::Del => words(DEL, 0, key, None, None),
+        Kind::Keys => words(KEYS, line.second, Key::empty(), None, None),
+        _ => no_words(),
     }
 }
 
-// What a line would do, by its kind. Messages that are handed over are carried out without a plan.
+// What a line would do, by its kind. Only a line that needs a cluster and hands no message over is planned.
 fn plan_line(
     heads: &HeadWords,
     slots: &SlotWords,
@@ -99,52 +77,19 @@ fn plan_line(
     queue: &QueueWords,
     cluster: Counts,
     line: Line,
-) -> Plan
-    requires { Measured cluster × (route_of line.kind ≡ planned_line) }
+) -> Result<Plan, Refusal>
+    requires { Measured cluster × (is_planned line.kind ≡ true) }
     ensures { LinePlanned heads.now slots.now copies.now queue.now cluster line result }
 {
-    let kind = line.kind;
     let server = line.first;
-    let words = words_of(line);
-    match kind {
-        Kind::Malformed => refused_plan(MALFORMED, no_effect()),
-        Kind::Cluster => refused_plan(CLUSTER_WRONG, no_effect()),
+    match line.kind {
         Kind::Elect => plan_elect(heads, slots, cluster, server),
-        Kind::Get => plan_call(heads, slots, copies, cluster, server, words),
-        Kind::Set => plan_call(heads, slots, copies, cluster, server, words),
-        Kind::SetIf => plan_call(heads, slots, copies, cluster, server, words),
-        Kind::Del => plan_call(heads, slots, copies, cluster, server, words),
-        Kind::Keys => plan_call(heads, slots, copies, cluster, server, words),
-        Kind::Deliver => refused_plan(NO_SUCH_MESSAGE, no_effect()),
-        Kind::Copy => refused_plan(NO_SUCH_MESSAGE, no_effect()),
         Kind::Lose => plan_lose(cluster, server),
         Kind::Timeout => plan_timeout(heads, slots, cluster, server, line.second),
         Kind::Stop => plan_stop(heads, slots, cluster, server),
         Kind::Cut => plan_cut(heads, slots, queue, cluster, server, line.second),
         Kind::Start => plan_start(heads, slots, cluster, server),
-    }
-}
-
-// How a line is run, by its kind.
-fn route_of(kind: Kind) -> u32
-    ensures { result ≡ route_of kind }
-{
-    match kind {
-        Kind::Malformed => MALFORMED_LINE,
-        Kind::Cluster => CLUSTER_LINE,
-        Kind::Elect => PLANNED_LINE,
-        Kind::Get => PLANNED_LINE,
-        Kind::Set => PLANNED_LINE,
-        Kind::SetIf => PLANNED_LINE,
-        Kind::Del => PLANNED_LINE,
-        Kind::Keys => PLANNED_LINE,
-        Kind::Deliver => DELIVER_LINE,
-        Kind::Copy => COPY_LINE,
-        Kind::Lose => PLANNED_LINE,
-        Kind::Timeout => PLANNED_LINE,
-        Kind::Stop => PLANNED_LINE,
-        Kind::Cut => PLANNED_LINE,
-        Kind::Start => PLANNED_LINE,
+        _ => plan_call(heads, slots, copies, cluster, server, words_of(line)),
     }
 }
 
@@ -157,19 +102,17 @@ fn cluster_line(
     queue: &mut QueueWords,
     servers: u32,
     buckets: u32,
-) -> u32
+) -> Result<(), Refusal>
     ensures { Clusters counts heads slots copies queue servers buckets result }
 {
     if standing(load_counts(counts)) {
-        return CLUSTER_WRONG;
+        return Err(Refusal::ClusterWrong);
     }
-    if within(MAX_SERVERS, servers) {
-        if within(MAX_BUCKETS, buckets) {
-            create(counts, heads, slots, copies, queue, servers, buckets);
-            return NONE;
-        }
+    if within(MAX_SERVERS, servers) && within(MAX_BUCKETS, buckets) {
+        create(counts, heads, slots, copies, queue, servers, buckets);
+        return Ok(());
     }
-    CLUSTER_WRONG
+    Err(Refusal::ClusterWrong)
 }
 
 // A line that needs a cluster and hands no message over.
@@ -184,18 +127,18 @@ fn planned_line(
     payloads: &mut PayloadBytes,
     answers: &mut AnswerWords,
     line: Line,
-) -> Report
-    requires { route_of line.kind ≡ planned_line }
+) -> Result<Report, Refusal>
+    requires { is_planned line.kind ≡ true }
     ensures { RunsPlan (lent counts heads slots copies working texts queue payloads answers) line result }
 {
     let cluster = load_counts(counts);
-    if standing(cluster) {
-        let plan = plan_line(heads, slots, copies, queue, cluster, line);
-        return execute(
-            counts, heads, slots, copies, working, texts, queue, payloads, answers, cluster, plan,
-        );
+    if !standing(cluster) {
+        return Err(Refusal::ClusterWrong);
     }
-    bare_report(CLUSTER_WRONG, no_effect())
+    let plan = plan_line(heads, slots, copies, queue, cluster, line)?;
+    Ok(execute(
+        counts, heads, slots, copies, working, texts, queue, payloads, answers, cluster, plan,
+    ))
 }
 
 // One line of a script.
@@ -210,34 +153,25 @@ pub fn run_line(
     payloads: &mut PayloadBytes,
     answers: &mut AnswerWords,
     line: Line,
-) -> Report
+) -> Result<Report, Refusal>
     ensures { RunsLine (lent counts heads slots copies working texts queue payloads answers) line result }
 {
-    let kind = line.kind;
-    let route = route_of(kind);
-    if route == MALFORMED_LINE {
-        return bare_report(MALFORMED, no_effect());
-    }
-    if route == CLUSTER_LINE {
-        let refusal = cluster_line(counts, heads, slots, copies, queue, line.first, line.second);
-        return bare_report(refusal, no_effect());
-    }
-    if route == PLANNED_LINE {
-        return planned_line(
+    match line.kind {
+        Kind::Malformed => Err(Refusal::Malformed),
+        Kind::Cluster => {
+            cluster_line(counts, heads, slots, copies, queue, line.first, line.second)?;
+            Ok(bare_report())
+        }
+        Kind::Deliver => hand_line(
+            counts, heads, slots, copies, working, texts, queue, payloads, answers, line.first,
+            true,
+        ),
+        Kind::Copy => hand_line(
+            counts, heads, slots, copies, working, texts, queue, payloads, answers, line.first,
+            false,
+        ),
+        _ => planned_line(
             counts, heads, slots, copies, working, texts, queue, payloads, answers, line,
-        );
+        ),
     }
-    hand_line(
-        counts,
-        heads,
-        slots,
-        copies,
-        working,
-        texts,
-        queue,
-        payloads,
-        answers,
-        line.first,
-        route == DELIVER_LINE,
-    )
 }

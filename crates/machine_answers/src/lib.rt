@@ -49,10 +49,8 @@ fn end_calls(answers: &mut AnswerWords, words: &Words, server: usize, buckets: u
     ensures { Listed (ended_calls (old_regions (read_only words)).slots server buckets (was answers)) (is answers) result }
 {
     let mut count = 0;
-    let mut bucket = 0;
-    while bucket < buckets {
+    for bucket in 0..buckets {
         count = end_call(answers, words, slot_of(server, bucket), count);
-        bucket += 1;
     }
     count as u32
 }

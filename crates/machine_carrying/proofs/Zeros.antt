@@ -1,29 +1,17 @@
--- Zeros stored over a whole list, one by one, and over a region of the words or bytes that is lent alone.
-use Rattle.std.proofs.Common.{◌≡◌, ℕ, ◌+◌, ◌<◌, ◌≤◌, List, ◌++◌, length, take, drop, set, replicate, ap, ◌∙◌, append-nil, zero-add, arith, drop_of_length-le}
-use lib.ListN.{length-replicate, get_or-replicate}
-use lib.Seq.{sets, sets-eq}
+-- Zeros over a region of the words or bytes.
+use Rattle.std.proofs.Common.{◌≡◌, ℕ, ◌+◌, ◌≤◌, List, ◌++◌, length, take, drop, replicate, ap, ◌∙◌, arith, length-drop}
+use lib.ListN.{length-replicate}
+use lib.Seq.{sets, length-take-le}
 use Rattle.memory_regions.specs.Cuts.{region, size}
 use Rattle.memory_regions.specs.Regions.{word_sizes, word_count, heads_place, slots_place, regions, regions_of, with_heads, with_slots}
 use Rattle.memory_regions.specs.Contents.{byte_sizes, byte_count, contents, contents_of, with_copies}
 use Rattle.memory_regions.proofs.Cuts.{cut_lent, lent_sets}
-use Rattle.table.proofs.Filling.{Putting, putting_starts, putting_goes_on, putting_ends}
 
--- all of them are put: the list is z
-put_all : {l out z : List ℕ} {n i : ℕ} → length l ≡ n → length z ≡ n → Putting l 0 z n out i → n ≤ i → out ≡ z
-put_all {l} {out} {z} {n} {i} h s p e = putting_ends p e ∙ sets-eq z l 0 (omega arith) ∙ rw (s, drop_of_length-le l {i = 0 + n} (omega arith)) (append-nil z)
-
--- the first i of n elements are zero
-abbrev pub Zeroed : (l : List ℕ) (n : ℕ) (out : List ℕ) (i : ℕ) → Type 0
-Zeroed l n out i = Putting l 0 (replicate n 0) n out i
-
-pub zeros_start : (l : List ℕ) (n : ℕ) → length l ≡ n → Zeroed l n l 0
-zeros_start l n h = putting_starts l 0 (replicate n 0) (length-replicate n 0) (omega arith)
-
-pub zeros_go_on : {l out : List ℕ} {n i : ℕ} → Zeroed l n out i → i < n → Zeroed l n (set out i 0) (i + 1)
-zeros_go_on {l} {out} {n} {i} p h = rw zero-add at (putting_goes_on p h (get_or-replicate n i 0 0 h))
-
-pub zeros_end : {l out : List ℕ} {n i : ℕ} → length l ≡ n → Zeroed l n out i → n ≤ i → out ≡ replicate n 0
-zeros_end {n = n} h p e = put_all h (length-replicate n 0) p e
+-- n numbers from a on, filled with 0
+filled_zeros : (l part : List ℕ) (a n : ℕ) → a + n ≤ length l
+    → (((y : ℕ) → y ≡ 0 → y ≡ 0) → part ≡ replicate (length (take n (drop a l))) 0) → part ≡ replicate n 0
+filled_zeros l part a n fits filled =
+    filled (λ y h. h) ∙ ap (λ k. replicate k 0) (length-take-le n (drop a l) (rw length-drop (omega arith)))
 
 -- ---- a region lent alone came back with other words or bytes
 
@@ -36,15 +24,17 @@ module _ (w part : List ℕ) (long : length w ≡ word_count) where
   unfolding regions region
   slots_set whole = ap regions_of (cut_lent word_sizes 2 part w (omega arith) whole (omega arith))
 
-  pub heads_zeroed : part ≡ replicate (size word_sizes 1) 0
+  pub heads_zeroed : (((y : ℕ) → y ≡ 0 → y ≡ 0) → part ≡ replicate (length (take (size word_sizes 1) (drop heads_place w))) 0)
       → regions (take heads_place w ++ (part ++ drop (size word_sizes 1) (drop heads_place w))) ≡ with_heads (regions w) (replicate (size word_sizes 1) 0)
-  heads_zeroed z =
+  heads_zeroed filled =
+      let z : part ≡ replicate (size word_sizes 1) 0 = filled_zeros w part heads_place (size word_sizes 1) (omega arith) filled in
       let whole : length part ≡ size word_sizes 1 = ap length z ∙ length-replicate {A = ℕ} (size word_sizes 1) 0 in
       ap regions (lent_sets heads_place (size word_sizes 1) w part whole (omega arith)) ∙ heads_set whole ∙ ap (with_heads (regions w)) z
 
-  pub slots_zeroed : part ≡ replicate (size word_sizes 2) 0
+  pub slots_zeroed : (((y : ℕ) → y ≡ 0 → y ≡ 0) → part ≡ replicate (length (take (size word_sizes 2) (drop slots_place w))) 0)
       → regions (take slots_place w ++ (part ++ drop (size word_sizes 2) (drop slots_place w))) ≡ with_slots (regions w) (replicate (size word_sizes 2) 0)
-  slots_zeroed z =
+  slots_zeroed filled =
+      let z : part ≡ replicate (size word_sizes 2) 0 = filled_zeros w part slots_place (size word_sizes 2) (omega arith) filled in
       let whole : length part ≡ size word_sizes 2 = ap length z ∙ length-replicate {A = ℕ} (size word_sizes 2) 0 in
       ap regions (lent_sets slots_place (size word_sizes 2) w part whole (omega arith)) ∙ slots_set whole ∙ ap (with_slots (regions w)) z
 
@@ -53,8 +43,9 @@ module _ (b part : List ℕ) (long : length b ≡ byte_count) where
   unfolding contents region
   copies_set whole = ap contents_of (cut_lent byte_sizes 0 part b (omega arith) whole (omega arith))
 
-  pub copies_zeroed : part ≡ replicate (size byte_sizes 0) 0
+  pub copies_zeroed : (((y : ℕ) → y ≡ 0 → y ≡ 0) → part ≡ replicate (length (take (size byte_sizes 0) (drop 0 b))) 0)
       → contents (take 0 b ++ (part ++ drop (size byte_sizes 0) (drop 0 b))) ≡ with_copies (contents b) (replicate (size byte_sizes 0) 0)
-  copies_zeroed z =
+  copies_zeroed filled =
+      let z : part ≡ replicate (size byte_sizes 0) 0 = filled_zeros b part 0 (size byte_sizes 0) (omega arith) filled in
       let whole : length part ≡ size byte_sizes 0 = ap length z ∙ length-replicate {A = ℕ} (size byte_sizes 0) 0 in
       ap contents (lent_sets 0 (size byte_sizes 0) b part whole (omega arith)) ∙ copies_set whole ∙ ap (with_copies (contents b)) z

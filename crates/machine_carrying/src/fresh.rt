@@ -1,58 +1,32 @@
 // A new cluster: all numbers 0, all copies empty and all places of messages free.
-ghost use Rattle.std.specs.Prelude.{◌≡◌, length, replicate};
-ghost use Rattle.memory.specs.Lent.{is};
-ghost use Rattle.memory_regions.specs.Regions.{word_count, old_regions, new_regions, with_heads, with_slots};
-ghost use Rattle.memory_regions.specs.Contents.{byte_count, old_contents, new_contents, with_copies};
+ghost use Rattle.std.specs.Prelude.{◌≡◌, replicate};
+ghost use Rattle.memory_regions.specs.Regions.{old_regions, new_regions, with_heads, with_slots};
+ghost use Rattle.memory_regions.specs.Contents.{old_contents, new_contents, with_copies};
 ghost use Rattle.views.specs.Arrays.{old_memory, new_memory};
 ghost use Rattle.runs.specs.Runs.{fresh_counts, fresh_memory};
 
-use memory::{CONTENTS_LEN, Counts, HEADS_LEN, SLOTS_LEN};
+use memory::Counts;
 use memory_messages::free_places;
 use memory_records::counters::store_counts;
 use memory_regions::{Bytes, COPIES_AT, HEADS_AT, QUEUE_AT, SLOTS_AT, WORKING_AT, Words};
 
-fn zero_words(dst: &mut [u32], len: usize)
-    requires { length dst.old ≡ len }
-    ensures { is dst ≡ replicate len 0 }
-{
-    let mut i = 0;
-    while i < len {
-        dst[i] = 0;
-        i += 1;
-    }
-}
-
-fn zero_bytes(dst: &mut [u8], len: usize)
-    requires { length dst.old ≡ len }
-    ensures { is dst ≡ replicate len 0 }
-{
-    let mut i = 0;
-    while i < len {
-        dst[i] = 0;
-        i += 1;
-    }
-}
-
-// The regions that are 0 in a new cluster; each array is lent as a slice, so that the region alone can be lent on.
-fn zero_heads(words: &mut [u32])
-    requires { length words.old ≡ word_count }
+// The regions that are 0 in a new cluster.
+fn zero_heads(words: &mut Words)
     ensures { new_regions words ≡ with_heads (old_regions words) (replicate 112 0) }
 {
-    zero_words(&mut words[HEADS_AT..SLOTS_AT], HEADS_LEN);
+    words[HEADS_AT..SLOTS_AT].fill(0);
 }
 
-fn zero_slots(words: &mut [u32])
-    requires { length words.old ≡ word_count }
+fn zero_slots(words: &mut Words)
     ensures { new_regions words ≡ with_slots (old_regions words) (replicate 1792 0) }
 {
-    zero_words(&mut words[SLOTS_AT..QUEUE_AT], SLOTS_LEN);
+    words[SLOTS_AT..QUEUE_AT].fill(0);
 }
 
-fn zero_copies(bytes: &mut [u8])
-    requires { length bytes.old ≡ byte_count }
+fn zero_copies(bytes: &mut Bytes)
     ensures { new_contents bytes ≡ with_copies (old_contents bytes) (replicate 7168 0) }
 {
-    zero_bytes(&mut bytes[COPIES_AT..WORKING_AT], CONTENTS_LEN);
+    bytes[COPIES_AT..WORKING_AT].fill(0);
 }
 
 fn fresh_counts(servers: u32, buckets: u32) -> Counts

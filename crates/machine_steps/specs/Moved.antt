@@ -9,15 +9,17 @@ use Rattle.memory_regions.specs.Regions.{Regions, with_heads, with_slots}
 use Rattle.memory_regions.specs.Contents.{Contents, with_copies, with_working}
 use Rattle.moves.specs.declared.Local.{Local}
 use Rattle.moves.specs.declared.Move.{Move}
+use Rattle.moves.specs.declared.Filling.{Filling}
+use Rattle.moves.specs.declared.Keeping.{Keeping}
 use Rattle.views.specs.Memory.{Memory, memory}
 use Rattle.views.specs.Changes.{filled_from, kept_from, put_local, slots_after}
 
 -- the working content of slot k is filled; `made` is the new table
-abbrev pub filled_contents : Contents → ℕ → ℕ → List Entry → ℕ → Contents
+abbrev pub filled_contents : Contents → ℕ → ℕ → List Entry → Filling → Contents
 filled_contents c k i made fills = with_working c (filled_from c.working c.copies c.payloads k i made fills)
 
 -- the copy at slot k keeps a content
-abbrev pub kept_contents : Contents → ℕ → ℕ → ℕ → Contents
+abbrev pub kept_contents : Contents → ℕ → ℕ → Keeping → Contents
 kept_contents c k i keeps = with_copies c (kept_from c.copies c.working c.payloads k i keeps)
 
 -- the records of slot k

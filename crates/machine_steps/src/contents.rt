@@ -11,38 +11,31 @@ use memory_contents::{
     copy_from_payload, copy_from_working, working_from_copy, working_from_payload,
 };
 use memory_regions::Bytes;
-use moves::codes::{FILLS_COPY, FILLS_MESSAGE, FILLS_TABLE, KEEPS_MESSAGE, KEEPS_WORK};
+use moves::{Filling, Keeping};
 
-// The working content of this slot, by the number of what fills it; `place` is that of the message handed over.
-pub fn fill_work(bytes: &mut Bytes, slot: usize, place: usize, fills: u32, table: Decoded)
+// The working content of this slot, by what fills it; `place` is that of the message handed over.
+#[tactic(auto, unfolding(views::specs::Changes::filled_from, views::specs::Changes::put_table))]
+pub fn fill_work(bytes: &mut Bytes, slot: usize, place: usize, fills: Filling, table: Decoded)
     requires { (slot < slot_room) × (place < message_room) }
     ensures { new_contents bytes ≡ filled_contents (old_contents bytes) slot place (table_in table) fills }
 {
-    if fills == FILLS_COPY {
-        working_from_copy(bytes, slot);
-        return;
-    }
-    if fills == FILLS_TABLE {
-        working_from_table(bytes, slot, table);
-        return;
-    }
-    if fills == FILLS_MESSAGE {
-        working_from_payload(bytes, slot, place);
-        return;
+    match fills {
+        Filling::Stays => {}
+        Filling::Copy => working_from_copy(bytes, slot),
+        Filling::Table => working_from_table(bytes, slot, table),
+        Filling::Message => working_from_payload(bytes, slot, place),
     }
 }
 
-// The content of the copy at this slot, by the number of what is kept.
-pub fn keep_copy(bytes: &mut Bytes, slot: usize, place: usize, keeps: u32)
+// The content of the copy at this slot, by what is kept.
+#[tactic(auto, unfolding(views::specs::Changes::kept_from))]
+pub fn keep_copy(bytes: &mut Bytes, slot: usize, place: usize, keeps: Keeping)
     requires { (slot < slot_room) × (place < message_room) }
     ensures { new_contents bytes ≡ kept_contents (old_contents bytes) slot place keeps }
 {
-    if keeps == KEEPS_WORK {
-        copy_from_working(bytes, slot);
-        return;
-    }
-    if keeps == KEEPS_MESSAGE {
-        copy_from_payload(bytes, slot, place);
-        return;
+    match keeps {
+        Keeping::Stays => {}
+        Keeping::Working => copy_from_working(bytes, slot),
+        Keeping::Message => copy_from_payload(bytes, slot, place),
     }
 }

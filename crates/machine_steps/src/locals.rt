@@ -35,16 +35,15 @@ fn store_slot(words: &mut Words, slot: usize, version: Version, round: Round, ca
 }
 
 // Whether there is neither a round nor a call.
+#[tactic(auto, unfolding(views::specs::Changes::is_idle))]
 fn is_idle(round: Round, call: Call) -> bool
     ensures { result ≡ is_idle round call }
 {
-    if round.purpose == NO_ROUND {
-        return call.kind == NO_CALL;
-    }
-    false
+    round.purpose == NO_ROUND && call.kind == NO_CALL
 }
 
 // This slot has no round and no call any more.
+#[tactic(auto, unfolding(views::specs::Changes::cleared_slot))]
 fn clear_slot(words: &mut Words, slot: usize)
     requires { slot < slot_room }
     ensures { new_regions words ≡ with_slots (old_regions words) (cleared_slot (old_regions words).slots slot) }
@@ -63,14 +62,13 @@ pub fn clear_slots(words: &mut Words, server: usize, buckets: usize)
     requires { (server < server_room) × (buckets ≤ bucket_room) }
     ensures { new_regions words ≡ with_slots (old_regions words) (cleared_slots (old_regions words).slots server buckets) }
 {
-    let mut bucket = 0;
-    while bucket < buckets {
+    for bucket in 0..buckets {
         clear_slot(words, slot_of(server, bucket));
-        bucket += 1;
     }
 }
 
 // A server's head and slots after a move.
+#[tactic(auto, unfolding(views::specs::Changes::slots_after))]
 fn settle(words: &mut Words, buckets: usize, server: usize, slot: usize, next: Move)
     requires { (server < server_room) × ((slot < slot_room) × (buckets ≤ bucket_room)) }
     ensures { new_regions words ≡ settled (old_regions words) buckets server slot next }
@@ -78,7 +76,6 @@ fn settle(words: &mut Words, buckets: usize, server: usize, slot: usize, next: M
     store_local(words, server, slot, next.local);
     if next.ceases {
         clear_slots(words, server, buckets);
-        return;
     }
 }
 

@@ -1,14 +1,12 @@
 -- Where each field of the cluster's records lies in the lent arrays. Every reading is total: any numbers in the arrays stand for something.
 -- A record has its own words at a fixed offset of a block: `..Row` lists its fields in the order of these words, `..Of` reads them back,
 -- `..At` is the record of block k and `put..` the array with that record replaced. `..Fields` and `..Stores` are the same, written out.
-use Rattle.std.specs.Prelude.{◌≡◌, List, [], ◌∷◌, ◌++◌, true, false, ℕ, ◌+◌, ◌-◌, ◌*◌, ltb, length, get_or, take, drop, set}
+use Rattle.std.specs.Prelude.{◌≡◌, List, [], ◌∷◌, ◌++◌, Some, None, true, false, ℕ, zero, suc, ◌+◌, ◌*◌, ltb, length, get_or, take, drop, set}
 use Rattle.std.proofs.Math.Seq.{paste}
 use Rattle.blocks.specs.Blocks.{blocks, block, refilled}
 use Rattle.blocks.specs.Order.{place, rotated, rising}
-use Rattle.entries.specs.declared.Key.{Key}
-use Rattle.entries.specs.declared.Value.{Value}
-use Rattle.entries.specs.declared.Item.{Item}
-use Rattle.entries.specs.Decoded.{key_bytes, value_bytes}
+use Rattle.entries.specs.declared.Text.{Text}
+use Rattle.entries.specs.Decoded.{Key, Value, Item, key_bytes, value_bytes, no_value}
 use Rattle.server.specs.declared.Version.{Version}
 use Rattle.server.specs.declared.Head.{Head}
 use Rattle.server.specs.declared.Round.{Round}
@@ -229,7 +227,8 @@ put_numbers l k n = numbers_stores l k n
 
 -- the word of a value: 0 where there is none, else one above its length
 unfoldable pub item_word : Item → ℕ
-item_word i = elim i.there [ true ↦ length (value_bytes i.value) + 1 | false ↦ 0 ]
+item_word (Some v) = length (value_bytes v) + 1
+item_word None = 0
 
 -- the numbers of a call's words: a length above the room is stored as all of it
 abbrev pub numbers_in : Words → Numbers
@@ -244,15 +243,24 @@ numbers_in w =
 
 -- ---- the words of open calls: their numbers in the slots, their bytes (eight, sixteen and sixteen) in blocks of their own
 
+abbrev pub text_from : (room : ℕ) → List ℕ → ℕ → ℕ → Text room
+text_from room m p len = record { bytes = take room (drop p m); len = len }
+
 abbrev pub key_from : List ℕ → ℕ → ℕ → Key
-key_from m p len = record { bytes = take key_room (drop p m); len = len }
+key_from m p len = text_from key_room m p len
 
 abbrev pub value_from : List ℕ → ℕ → ℕ → Value
-value_from m p len = record { bytes = take value_room (drop p m); len = len }
+value_from m p len = text_from value_room m p len
 
 -- a value by its word, with its bytes from p on: none for 0, else of a length one below it
 abbrev pub item_from : List ℕ → ℕ → ℕ → Item
-item_from m p x = record { there = ltb 0 x; value = value_from m p (x - 1) }
+item_from m p zero = None
+item_from m p (suc len) = Some (value_from m p len)
+
+-- the value whose bytes are stored: zeros for an absent one
+abbrev pub stored_value : Item → Value
+stored_value (Some v) = v
+stored_value None = no_value
 
 unfoldable pub words_at : List ℕ → List ℕ → ℕ → Words
 words_at l m k =
@@ -272,16 +280,16 @@ put_words l k w = put_numbers l k (numbers_in w)
 unfoldable pub put_texts : List ℕ → ℕ → Words → List ℕ
 put_texts m k w =
     paste
-    (paste (paste m (k * text_size + key_place) w.key.bytes key_room) (k * text_size + expected_place) w.expected.value.bytes value_room)
+    (paste (paste m (k * text_size + key_place) w.key.bytes key_room) (k * text_size + expected_place) (stored_value w.expected).bytes value_room)
     (k * text_size + value_place)
-    w.value.value.bytes
+    (stored_value w.value).bytes
     value_room
 
 -- words whose arrays have eight, sixteen and sixteen bytes
 pub record Whole (w : Words) : Type 0 where
   pub key_length : length w.key.bytes ≡ key_room
-  pub expected_length : length w.expected.value.bytes ≡ value_room
-  pub value_length : length w.value.value.bytes ≡ value_room
+  pub expected_length : length (stored_value w.expected).bytes ≡ value_room
+  pub value_length : length (stored_value w.value).bytes ≡ value_room
 
 -- ---- contents: those of the copies and the working contents, at the slot; those of the messages, at their places
 

@@ -2,10 +2,8 @@
 // table is written as one in `tables`.
 #![tactic(auto)]
 
-ghost use Rattle.std.specs.Prelude.{◌≡◌, ◌+◌, ◌*◌, ◌<◌, ◌≤◌, length, drop};
-ghost use Rattle.std.proofs.Math.Seq.{paste};
+ghost use Rattle.std.specs.Prelude.{◌≡◌, ◌<◌};
 ghost use Rattle.memory.specs.Layout.{slot_room, message_room};
-ghost use Rattle.memory.specs.Lent.{was, is};
 ghost use Rattle.memory_regions.specs.Contents.{content_room, old_content, old_contents, new_contents, copy_of, working_of, payload_of, put_copy, put_working, put_payload};
 ghost use Rattle.memory_contents.specs.Copied.{CopiesContent};
 
@@ -14,25 +12,13 @@ use memory_regions::{Bytes, FIRST_COPY, FIRST_PAYLOAD, FIRST_WORKING};
 
 pub mod tables;
 
-// The part that begins at `from` and has this length is copied to `to`, which does not lie behind `from` within it.
-fn copy_within(list: &mut [u8], to: usize, from: usize, len: usize)
-    requires { (to + len ≤ length list.old) × ((from + len ≤ length list.old) × (from < to → from + len ≤ to)) }
-    ensures { is list ≡ paste (was list) to (drop from (was list)) len }
-{
-    let mut j = 0; // bytes copied
-    while j < len {
-        let byte = list[from + j];
-        list[to + j] = byte;
-        j += 1;
-    }
-}
-
 // Content `to` gets the bytes of content `from`; both are numbers of blocks of the whole array.
 pub fn copy_content(bytes: &mut Bytes, to: usize, from: usize)
     requires { (to < content_room) × (from < content_room) }
     ensures { CopiesContent bytes to from }
 {
-    copy_within(bytes, to * CONTENT_SIZE, from * CONTENT_SIZE, CONTENT_SIZE);
+    let start = from * CONTENT_SIZE;
+    bytes.copy_within(start..start + CONTENT_SIZE, to * CONTENT_SIZE);
 }
 
 // The working content of this slot gets the bytes of the content of its copy.

@@ -16,10 +16,3 @@ pub const ITEM_ROOM: usize = 1 + KEY_ROOM;
 pub const FOUND_LEN: usize = ITEMS_AT + TABLE_ROOM * ITEM_ROOM;
 
 pub type FoundBytes = [u8; FOUND_LEN];
-
-// A part of the array: `len` bytes from `from` on.
-#[derive(Clone, Copy)]
-pub struct Part {
-    pub from: usize,
-    pub len: usize,
-}

@@ -5,7 +5,7 @@ use mathlib.Core.List.{List, [], ◌++◌, append-nil}
 use Prim.Native.Nat.{ℕ, ◌+◌, ◌-◌, ◌≤◌, ◌<◌}
 use native.Mathlib.Omega.{arith}
 use lib.ListN.{length, take, drop, drop_of_length-le, length-drop}
-use lib.Seq.{sets, sets-eq, take_all}
+use lib.Seq.{sets, sets-eq, take_all, length-take-le}
 use borrow.Author.Tests.{lt-ltb}
 use Rattle.blocks.specs.Order.{rotated, rising}
 use Rattle.blocks.proofs.Order.{length_rotated, length_rising}
@@ -45,30 +45,28 @@ module _ (w : List ℕ) (long : length w ≡ word_count) where
 
   -- the order came back as another
   order_replaced : (part : List ℕ) → length part ≡ message_room
-      → regions (take order_start w ++ (part ++ drop (length w - order_start) (drop order_start w))) ≡ with_queue (regions w) (take order_place (regions w).queue ++ part)
+      → regions (take order_start w ++ (part ++ drop message_room (drop order_start w))) ≡ with_queue (regions w) (take order_place (regions w).queue ++ part)
   order_replaced part whole =
-      let rest : length w - order_start ≡ message_room = omega arith in
       let q = queue_length_lem in
-      ap (λ k. regions (take order_start w ++ (part ++ drop k (drop order_start w)))) rest
-      ∙ ap regions (lent_sets order_start message_room w part whole (omega arith))
+      ap regions (lent_sets order_start message_room w part whole (omega arith))
       ∙ order_sets w part whole
       ∙ ap (with_queue (regions w)) (sets_last (regions w).queue part q whole)
 
-  pub order_freed : (part : List ℕ) → part ≡ rising 0 message_room
-      → regions (take order_start w ++ (part ++ drop (length w - order_start) (drop order_start w))) ≡ with_queue (regions w) (fresh_places (regions w).queue)
+  pub order_freed : (part : List ℕ) → part ≡ rising 0 (length (take message_room (drop order_start w)))
+      → regions (take order_start w ++ (part ++ drop message_room (drop order_start w))) ≡ with_queue (regions w) (fresh_places (regions w).queue)
   unfolding fresh_places
-  order_freed part e =
+  order_freed part numbered =
+      let e : part ≡ rising 0 message_room = numbered ∙ ap (rising 0) (length-take-le message_room (drop order_start w) (rw length-drop (omega arith))) in
       order_replaced part (ap length e ∙ length_rising message_room 0) ∙ ap (λ p. with_queue (regions w) (take order_place (regions w).queue ++ p)) e
 
-  pub order_rotated : (n i : ℕ) (part : List ℕ) → i < n → n ≤ message_room → part ≡ rotated n i (take (length w - order_start) (drop order_start w))
-      → regions (take order_start w ++ (part ++ drop (length w - order_start) (drop order_start w))) ≡ with_queue (regions w) (without_place n i (regions w).queue)
+  pub order_rotated : (n i : ℕ) (part : List ℕ) → i < n → n ≤ message_room → part ≡ rotated n i (take message_room (drop order_start w))
+      → regions (take order_start w ++ (part ++ drop message_room (drop order_start w))) ≡ with_queue (regions w) (without_place n i (regions w).queue)
   unfolding without_place
   order_rotated n i part among few e =
-      let rest : length w - order_start ≡ message_room = omega arith in
       let order : List ℕ = drop order_place (regions w).queue in
       let q = queue_length_lem in
       let size : length order ≡ message_room = rw length-drop (omega arith) in
-      let same : part ≡ rotated n i order = e ∙ ap (λ k. rotated n i (take k (drop order_start w))) rest ∙ ap (rotated n i) order_part in
+      let same : part ≡ rotated n i order = e ∙ ap (rotated n i) order_part in
       let whole : length part ≡ message_room = ap length same ∙ length_rotated n i order among (omega arith) ∙ size in
       let kept : take order_place (regions w).queue ++ part ≡ without_place n i (regions w).queue = rw (without_place, lt-ltb i n among, same) in
       order_replaced part whole ∙ ap (with_queue (regions w)) kept

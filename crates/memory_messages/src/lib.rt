@@ -7,7 +7,7 @@ ghost use Rattle.blocks.specs.Order.{rising};
 ghost use Rattle.memory.specs.Rows.{row, put_row};
 ghost use Rattle.memory.specs.Layout.{message_room, message_size, order_place, place_at, without_place, fresh_places, message_row, message_of, header_at, message_at, put_header};
 ghost use Rattle.memory.specs.Lent.{was, is, read_only};
-ghost use Rattle.memory_regions.specs.Regions.{word_count, queue_place, old_regions, new_regions, with_queue};
+ghost use Rattle.memory_regions.specs.Regions.{queue_place, old_regions, new_regions, with_queue};
 ghost use Rattle.memory_regions.specs.Contents.{content_room, old_content};
 ghost use Rattle.memory_messages.specs.Appended.{AppendsHeader, Appends};
 
@@ -20,12 +20,6 @@ use memory::{HEADER_SIZE, MESSAGES, ORDER_AT};
 use memory_contents::payload_from_content;
 use memory_regions::{Bytes, QUEUE_AT, Words};
 use server::{Message, Version};
-
-fn wide(number: u32) -> usize
-    ensures { result ≡ number }
-{
-    number as usize
-}
 
 // The place of the message with this index: every number in the order names one.
 pub fn place_of(words: &Words, index: usize) -> usize
@@ -40,7 +34,7 @@ fn place_field(words: &Words, index: usize) -> usize
     requires { index < message_room }
     ensures { result ≡ get_or words.now (queue_place + (order_place + index)) 0 % message_room }
 {
-    wide(words[QUEUE_AT + (ORDER_AT + index)]) % MESSAGES
+    words[QUEUE_AT + (ORDER_AT + index)] as usize % MESSAGES
 }
 
 // The header of the message with this index.
@@ -135,14 +129,6 @@ pub fn remove_message(words: &mut Words, count: usize, index: usize)
     requires { (index < count) × (count ≤ message_room) }
     ensures { new_regions words ≡ with_queue (old_regions words) (without_place count index (old_regions words).queue) }
 {
-    remove_place(words, count, index);
-}
-
-// The same, with the array lent as a slice, so that its order alone, which ends it, can be lent on.
-fn remove_place(words: &mut [u32], count: usize, index: usize)
-    requires { (length words.old ≡ word_count) × ((index < count) × (count ≤ message_room)) }
-    ensures { new_regions words ≡ with_queue (old_regions words) (without_place count index (old_regions words).queue) }
-{
     rotate_words(&mut words[QUEUE_AT + ORDER_AT..], count, index);
 }
 
@@ -150,25 +136,15 @@ fn remove_place(words: &mut [u32], count: usize, index: usize)
 pub fn free_places(words: &mut Words)
     ensures { new_regions words ≡ with_queue (old_regions words) (fresh_places (old_regions words).queue) }
 {
-    number_places(words);
-}
-
-// The same, with the array lent as a slice, so that its order alone can be lent on.
-fn number_places(words: &mut [u32])
-    requires { length words.old ≡ word_count }
-    ensures { new_regions words ≡ with_queue (old_regions words) (fresh_places (old_regions words).queue) }
-{
-    number_words(&mut words[QUEUE_AT + ORDER_AT..], MESSAGES);
+    number_words(&mut words[QUEUE_AT + ORDER_AT..]);
 }
 
 // Every word is its own index.
-fn number_words(dst: &mut [u32], len: usize)
-    requires { (length dst.old ≡ len) × (len ≤ message_room) }
-    ensures { is dst ≡ rising 0 len }
+fn number_words(order: &mut [u32])
+    requires { length order.old ≤ message_room }
+    ensures { is order ≡ rising 0 (length (was order)) }
 {
-    let mut i = 0;
-    while i < len {
-        dst[i] = i as u32;
-        i += 1;
+    for (i, word) in order.iter_mut().enumerate() {
+        *word = i as u32;
     }
 }

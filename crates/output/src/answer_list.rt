@@ -46,13 +46,14 @@ fn key_list(table: Decoded) -> KeyList
     ensures { KeysOf table result }
 {
     let slots = table.slots;
-    let first = key_of(slots[0]);
-    let second = key_of(slots[1]);
-    let third = key_of(slots[2]);
-    let fourth = key_of(slots[3]);
     KeyList {
         count: table.count,
-        keys: [first, second, third, fourth],
+        keys: [
+            key_of(slots[0]),
+            key_of(slots[1]),
+            key_of(slots[2]),
+            key_of(slots[3]),
+        ],
     }
 }
 
@@ -82,14 +83,12 @@ fn put_one(out: &mut [u8], at: usize, answer: Answer, value: Value, table: Decod
     requires { at + answer_room ≤ length out.old }
     ensures { Printed (answer_text (answer_in answer (value_bytes value) (table_in table))) (was out) at (is out) result × (result ≤ at + answer_room) }
 {
-    let keys = key_list(table);
-    let word = result_word(answer.result);
     let printed = AnswerLine {
         call: answer.call,
-        word,
+        word: result_word(answer.result),
         rounds: answer.rounds,
         value,
-        keys,
+        keys: key_list(table),
     };
     put_answer(out, at, printed)
 }
@@ -107,11 +106,9 @@ pub fn put_answers(
     ensures { Told (answer_texts (answers_at count answers.now (value_bytes value) (table_in table))) (was out) at (is out) result }
 {
     let mut next = at;
-    let mut i = 0;
-    while i < count {
+    for i in 0..count {
         let answer = load_answer(answers, i);
         next = put_one(out, next, answer, value, table);
-        i += 1;
     }
     next
 }

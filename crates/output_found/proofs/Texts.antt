@@ -32,6 +32,17 @@ line_text call o rounds l = rw (word_of_lem o (item_of l 0) l) (simp append_asso
 pub next_item : (l : List (List ℕ)) (i : ℕ) → i < length l → Next key_list l i (bytes " " ++ hex_pairs (item_of l i))
 next_item l i h = record { is = ap key_list (rw (add-one i, drop-cons l i [] h)) ∙ key_text (item_of l i) (drop (i + 1) l) }
 
+-- no keys are `-`
+pub keys_none : (l : List (List ℕ)) → length l ≡ 0 → keys_text l ≡ bytes " -"
+unfolding keys_text
+keys_none [] h = refl
+keys_none (k ∷ l) h = absurd (omega arith)
+
+pub keys_some : (l : List (List ℕ)) → (length l ≡ 0 → ⊥) → keys_text l ≡ key_list l
+unfolding keys_text
+keys_some [] h = absurd (h refl)
+keys_some (k ∷ l) h = refl
+
 -- ---- room
 
 length_pairs : (l : List ℕ) → length (hex_pairs l) ≡ 2 * length l

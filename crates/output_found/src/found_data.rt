@@ -1,5 +1,5 @@
 // The data of an answer: a value or keys, from what its call found.
-ghost use Rattle.std.specs.Prelude.{◌++◌, ◌≤◌, ◌+◌, length, take, drop};
+ghost use Rattle.std.specs.Prelude.{◌++◌, ◌≤◌, ◌+◌, length};
 ghost use Rattle.std.proofs.Math.Option.{some};
 ghost use Rattle.model.specs.Text.{bytes};
 ghost use Rattle.model.specs.Print.{hex_pairs, value_text, key_list, keys_text, data_of};
@@ -14,42 +14,22 @@ use print::ResultWord;
 use print::bytes::put_bytes;
 use print::hexadecimals::{put_pairs, put_there};
 
-// A part of a list as a value, after a space.
-fn put_value_part(out: &mut [u8], at: usize, list: &[u8], from: usize, len: usize) -> usize
-    requires { (from + len ≤ length list.now) × (at + length (bytes " " ++ value_text (some (take len (drop from list.now)))) ≤ length out.old) }
-    ensures { Printed (bytes " " ++ value_text (some (take len (drop from list.now)))) (was out) at (is out) result }
-{
-    let end = from + len;
-    let next = put_bytes(out, at, b" ");
-    put_there(out, next, &list[from..end])
-}
-
-// A part of a list as a key, after a space.
-fn put_key_part(out: &mut [u8], at: usize, list: &[u8], from: usize, len: usize) -> usize
-    requires { (from + len ≤ length list.now) × (at + length (bytes " " ++ hex_pairs (take len (drop from list.now))) ≤ length out.old) }
-    ensures { Printed (bytes " " ++ hex_pairs (take len (drop from list.now))) (was out) at (is out) result }
-{
-    let end = from + len;
-    let next = put_bytes(out, at, b" ");
-    put_pairs(out, next, &list[from..end])
-}
-
-// The first item, as a value.
+// The first item as a value, after a space.
 fn put_value(out: &mut [u8], at: usize, found: &FoundBytes) -> usize
     requires { at + length (bytes " " ++ value_text (some (item_of (found_in found.now) 0))) ≤ length out.old }
     ensures { Printed (bytes " " ++ value_text (some (item_of (found_in found.now) 0))) (was out) at (is out) result }
 {
-    let part = found_at(found, 0);
-    put_value_part(out, at, found, part.from, part.len)
+    let next = put_bytes(out, at, b" ");
+    put_there(out, next, found_at(found, 0))
 }
 
-// Item i, as a key.
+// Item i as a key, after a space.
 fn put_key(out: &mut [u8], at: usize, found: &FoundBytes, i: usize) -> usize
     requires { at + length (bytes " " ++ hex_pairs (item_of (found_in found.now) i)) ≤ length out.old }
     ensures { Printed (bytes " " ++ hex_pairs (item_of (found_in found.now) i)) (was out) at (is out) result }
 {
-    let part = found_at(found, i);
-    put_key_part(out, at, found, part.from, part.len)
+    let next = put_bytes(out, at, b" ");
+    put_pairs(out, next, found_at(found, i))
 }
 
 // All items, as keys.
@@ -57,12 +37,9 @@ fn put_each_key(out: &mut [u8], at: usize, found: &FoundBytes) -> usize
     requires { at + length (key_list (found_in found.now)) ≤ length out.old }
     ensures { Printed (key_list (found_in found.now)) (was out) at (is out) result }
 {
-    let count = found_count(found);
     let mut end = at;
-    let mut i = 0;
-    while i < count {
+    for i in 0..found_count(found) {
         end = put_key(out, end, found, i);
-        i += 1;
     }
     end
 }
@@ -73,9 +50,10 @@ fn put_keys(out: &mut [u8], at: usize, found: &FoundBytes) -> usize
     ensures { Printed (keys_text (found_in found.now)) (was out) at (is out) result }
 {
     if found_count(found) == 0 {
-        return put_bytes(out, at, b" -");
+        put_bytes(out, at, b" -")
+    } else {
+        put_each_key(out, at, found)
     }
-    put_each_key(out, at, found)
 }
 
 // The data that the word of a result asks for.
@@ -86,11 +64,7 @@ pub fn put_data(out: &mut [u8], at: usize, word: ResultWord, found: &FoundBytes)
     match word {
         ResultWord::Value => put_value(out, at, found),
         ResultWord::Keys => put_keys(out, at, found),
-        ResultWord::Done => at,
-        ResultWord::Mismatch => at,
-        ResultWord::Full => at,
-        ResultWord::NotDone => at,
-        ResultWord::Unknown => at,
         ResultWord::Absent => put_bytes(out, at, b" -"),
+        _ => at,
     }
 }

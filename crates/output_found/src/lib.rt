@@ -1,10 +1,10 @@
 // An answer's line, with its data from the lent bytes of what its call found.
 #![tactic(auto)]
 
-ghost use Rattle.std.specs.Prelude.{◌≡◌, ◌≤◌, ◌+◌, length};
+ghost use Rattle.std.specs.Prelude.{◌≤◌, ◌+◌, length};
 ghost use Rattle.model.specs.Print.{answer_text};
 ghost use Rattle.memory.specs.Lent.{was, is};
-ghost use Rattle.memory_found.specs.Found.{found_len, found_in};
+ghost use Rattle.memory_found.specs.Found.{found_in};
 ghost use Rattle.print.specs.Printed.{Printed};
 ghost use Rattle.print.specs.Room.{answer_room};
 ghost use Rattle.output_found.specs.Answers.{answer_of};
@@ -16,12 +16,6 @@ use print::answer_text::put_head;
 use print::bytes::put_bytes;
 
 mod found_data;
-
-// An array of what was found is as long as its type says; this tells the proof of its caller.
-fn whole(found: &[u8])
-    requires { length found.now ≡ found_len }
-    ensures { length found.now ≡ found_len }
-{}
 
 // The call's number, its result's word, its rounds and its data.
 fn put_line(
@@ -52,6 +46,5 @@ pub fn put_found_answer(
     requires { at + answer_room ≤ length out.old }
     ensures { Printed (answer_text (answer_of call word rounds (found_in found.now))) (was out) at (is out) result × (result ≤ at + answer_room) }
 {
-    whole(found);
     put_line(out, at, call, word, rounds, found)
 }

@@ -51,11 +51,10 @@ fn nibble(byte: u8) -> u8
 fn pair_at(word: &[u8], i: usize) -> u8
     ensures { result ≡ get_or (pair_bytes word.now) i 0 }
 {
-    if i < word.len() / 2 {
-        nibble(word[2 * i]) * 16 + nibble(word[2 * i + 1])
-    } else {
-        0
+    if word.len() / 2 <= i {
+        return 0;
     }
+    nibble(word[2 * i]) * 16 + nibble(word[2 * i + 1])
 }
 
 // The bytes that pairs stand for, as many as there is room for, with zeros behind them.

@@ -1,5 +1,5 @@
 -- The plans of specs/Plans.antt, from the arrays that each looks at.
-use Rattle.std.specs.Prelude.{◌≡◌, ℕ, ◌≤◌, true, false, List, []}
+use Rattle.std.specs.Prelude.{◌≡◌, ℕ, ◌≤◌, true, false, List, [], Result}
 use Rattle.model.specs.Measures.{max_servers, max_buckets, max_messages}
 use Rattle.model.specs.Calls as calls
 use Rattle.server.specs.declared.Words.{Words}
@@ -7,6 +7,7 @@ use Rattle.server.specs.declared.Effect.{Effect}
 use Rattle.server.specs.Views.{words_in}
 use Rattle.memory.specs.declared.Counts.{Counts}
 use Rattle.memory.specs.Layout.{slot_of, words_at}
+use Rattle.refusals.specs.declared.Refusal.{Refusal}
 use Rattle.refusals.specs.Refusals.{inside}
 use Rattle.moves.specs.Reactions.{EffectNeeded}
 use Rattle.views.specs.Memory.{Memory, memory, local_at, table_at}
@@ -26,34 +27,36 @@ pub record Measured (c : Counts) : Type 0 where
 abbrev pub servers : (heads slots : List ℕ) → Memory
 servers heads slots = memory [] heads slots [] [] [] [] []
 
-abbrev pub elect_in : (heads slots : List ℕ) → Counts → ℕ → Effect → Plan
-elect_in heads slots c s f = elect_at (servers heads slots) c s f
+abbrev pub elect_in : (heads slots : List ℕ) → Counts → ℕ → Result Plan Refusal
+elect_in heads slots c s = elect_at (servers heads slots) c s
 
-abbrev pub timeout_in : (heads slots : List ℕ) → Counts → ℕ → ℕ → Effect → Plan
-timeout_in heads slots c s b f = timeout_at (servers heads slots) c s b f
+abbrev pub timeout_in : (heads slots : List ℕ) → Counts → ℕ → ℕ → Result Plan Refusal
+timeout_in heads slots c s b = timeout_at (servers heads slots) c s b
 
-abbrev pub stop_in : (heads slots : List ℕ) → Counts → ℕ → Effect → Plan
-stop_in heads slots c s f = stop_at (servers heads slots) c s f
+abbrev pub stop_in : (heads slots : List ℕ) → Counts → ℕ → Result Plan Refusal
+stop_in heads slots c s = stop_at (servers heads slots) c s
 
-abbrev pub start_in : (heads slots : List ℕ) → Counts → ℕ → Effect → Plan
-start_in heads slots c s f = start_at (servers heads slots) c s f
+abbrev pub start_in : (heads slots : List ℕ) → Counts → ℕ → Result Plan Refusal
+start_in heads slots c s = start_at (servers heads slots) c s
 
-abbrev pub cut_in : (heads slots queue : List ℕ) → Counts → ℕ → ℕ → Effect → Plan
-cut_in heads slots queue c i k f = cut_at (memory [] heads slots [] [] [] queue []) c i k f
+abbrev pub cut_in : (heads slots queue : List ℕ) → Counts → ℕ → ℕ → Result Plan Refusal
+cut_in heads slots queue c i k = cut_at (memory [] heads slots [] [] [] queue []) c i k
 
 -- ---- plans that may ask for a call's effect on its bucket's table
 
 -- the words of the call fit, and its bucket b is there
-pub record Called (heads slots copies : List ℕ) (c : Counts) (s b : ℕ) (w : Words) (p : Plan) : Type 0 where
-  pub is : p ≡ call_plan c s b w (local_at (servers heads slots) s (slot_of s b)) p.effect
-  pub effect : EffectNeeded c.servers (local_at (servers heads slots) s (slot_of s b)) (words_in w) (table_at copies (slot_of s b)) p.effect
+pub record Called (heads slots copies : List ℕ) (c : Counts) (s b : ℕ) (w : Words) (p : Result Plan Refusal) : Type 0 where
+  pub effect : Effect
+  pub needed : EffectNeeded c.servers (local_at (servers heads slots) s (slot_of s b)) (words_in w) (table_at copies (slot_of s b)) effect
+  pub is : p ≡ call_plan c s b w (local_at (servers heads slots) s (slot_of s b)) effect
 
 -- the same unless it is refused with 3 or 4; the effect decides what is sent, so it is there before 12 is judged
-pub record CallPlanned (heads slots copies : List ℕ) (c : Counts) (s : ℕ) (w : Words) (p : Plan) : Type 0 where
-  pub is : p ≡ call_at (servers heads slots) c s w p.effect
-  pub effect : inside c s (call_bucket c w) ≡ true → bad_lengths w ≡ false →
+pub record CallPlanned (heads slots copies : List ℕ) (c : Counts) (s : ℕ) (w : Words) (p : Result Plan Refusal) : Type 0 where
+  pub effect : Effect
+  pub needed : inside c s (call_bucket c w) ≡ true → bad_lengths w ≡ false →
       let k = slot_of s (call_bucket c w) in
-      EffectNeeded c.servers (local_at (servers heads slots) s k) (words_in w) (table_at copies k) p.effect
+      EffectNeeded c.servers (local_at (servers heads slots) s k) (words_in w) (table_at copies k) effect
+  pub is : p ≡ call_at (servers heads slots) c s w effect
 
 -- what the call does that stands where a message is handed over
 abbrev pub asked_at : Memory → Step → calls.Effect

@@ -9,123 +9,95 @@ ghost use Rattle.memory.specs.Layout.{server_room, bucket_room, slot_room, conte
 ghost use Rattle.moves.specs.Reactions.{EffectNeeded};
 ghost use Rattle.memory.specs.Lent.{was};
 ghost use Rattle.views.specs.Memory.{table_at};
-ghost use Rattle.plans.specs.Plans.{bad_key, bad_item, bad_lengths, call_bucket, call_step, call_refusal, call_plan};
+ghost use Rattle.plans.specs.Plans.{bad_key, bad_item, bad_lengths, call_bucket, call_step, leader_refusal, call_plan};
 ghost use Rattle.plans.specs.Arrays.{Measured, Called, CallPlanned};
 
-use crate::parts::{no_effect, no_message, refused_plan, take_plan};
-use crate::room::if_places_left;
+use crate::parts::{line_step, no_effect};
 use crate::servers::load_local;
-use crate::{Plan, Step};
+use crate::{Carried, Plan, Step};
 use decoding::decode;
 use effects::effect;
-use entries::keys::key_length;
-use entries::{Item, KEY_ROOM, Key, VALUE_ROOM};
+use entries::{KEY_ROOM, Key, VALUE_ROOM, Value};
 use hash::bucket_of;
 use memory::{CONTENT_SIZE, CopyBytes, Counts, HeadWords, SlotWords, slot_of};
 use moves::Local;
 use moves::leading::{begun_move, needs_effect};
-use refusals::codes::{BAD_LENGTH, BUCKET_OCCUPIED, NONE, NOT_LEADING, NOT_THERE};
-use refusals::{inside, server_refusal};
+use refusals::{Refusal, inside, places_refusal, server_refusal};
 use server::codes::{KEYS, LEADING, NOTDONE};
 use server::kinds::is_open_call;
 use server::{Effect, Words};
-use std::num::wrapping_add_u32;
 use table::BUCKET_SIZE;
 
+#[tactic(auto, unfolding(crate::specs::Plans::bad_key))]
 fn bad_key(len: usize) -> bool
     ensures { result ≡ bad_key len }
 {
-    if len == 0 {
-        return true;
-    }
-    KEY_ROOM < len
+    len == 0 || KEY_ROOM < len
 }
 
 // A value that is there and too long.
-fn bad_item(item: Item) -> bool
+#[tactic(auto, unfolding(crate::specs::Plans::bad_item))]
+fn bad_item(item: Option<Value>) -> bool
     ensures { result ≡ bad_item item }
 {
-    let value = item.value;
-    if item.there {
-        return VALUE_ROOM < value.len;
+    match item {
+        Some(value) => VALUE_ROOM < value.len,
+        None => false,
     }
-    false
 }
 
 // 4: a key or value of wrong length.
+#[tactic(auto, unfolding(crate::specs::Plans::bad_lengths))]
 fn bad_lengths(words: Words) -> bool
     ensures { result ≡ bad_lengths words }
 {
-    let key = words.key;
-    let expected = words.expected;
-    let value = words.value;
-    if words.kind == KEYS {
-        return false;
-    }
-    if bad_key(key.len) {
-        return true;
-    }
-    if bad_item(expected) {
-        return true;
-    }
-    bad_item(value)
+    words.kind != KEYS
+        && (bad_key(words.key.len) || bad_item(words.expected) || bad_item(words.value))
 }
 
 fn key_bucket(key: Key, buckets: u32) -> u32
     ensures { result ≡ bucket_of buckets (key_bytes key) }
 {
-    let len = key_length(key);
-    let bytes = key.bytes;
-    bucket_of(&bytes[..len], buckets)
+    bucket_of(key.as_slice(), buckets)
 }
 
 // A key's bucket, or the one named.
+#[tactic(auto, unfolding(crate::specs::Plans::call_bucket))]
 fn call_bucket(cluster: Counts, words: Words) -> u32
     ensures { result ≡ call_bucket cluster words }
 {
     if words.kind == KEYS {
-        return words.bucket;
+        words.bucket
+    } else {
+        key_bucket(words.key, cluster.buckets)
     }
-    key_bucket(words.key, cluster.buckets)
 }
 
-// 5, 6, 8 and 9, or 0.
-fn call_refusal(cluster: Counts, local: Local) -> u32
-    ensures { result ≡ call_refusal cluster local }
+// 8 and 9.
+#[tactic(auto, unfolding(crate::specs::Plans::leader_refusal))]
+fn leader_refusal(local: Local) -> Result<(), Refusal>
+    ensures { result ≡ leader_refusal local }
 {
-    let head = local.head;
-    let call = local.call;
-    let refusal = server_refusal(cluster, head);
-    if refusal == NONE {
-        if head.role == LEADING {
-            return if is_open_call(call.kind) {
-                BUCKET_OCCUPIED
-            } else {
-                NONE
-            };
-        }
-        return NOT_LEADING;
+    if local.head.role != LEADING {
+        Err(Refusal::NotLeading)
+    } else if is_open_call(local.call.kind) {
+        Err(Refusal::BucketOccupied)
+    } else {
+        Ok(())
     }
-    refusal
 }
 
 fn call_step(cluster: Counts, server: u32, bucket: u32) -> Step
     ensures { result ≡ call_step cluster server bucket }
 {
     Step {
-        server,
-        bucket,
-        index: 0,
-        removes: false,
-        asked: no_message(),
-        copied: 0,
-        delivered: 0,
-        lost: 0,
-        calls: wrapping_add_u32(cluster.calls, 1),
+        calls: cluster.calls.wrapping_add(1),
+        ..line_step(cluster, server, bucket)
     }
 }
 
 // 5 to 12, or the call.
+#[tactic(auto, unfolding(crate::specs::Plans::call_plan, crate::specs::Plans::unless))]
 fn call_plan(
     cluster: Counts,
     server: u32,
@@ -133,24 +105,23 @@ fn call_plan(
     words: Words,
     local: Local,
     effect: Effect,
-) -> Plan
+) -> Result<Plan, Refusal>
     requires { Measured cluster }
     ensures { result ≡ call_plan cluster server bucket words local effect }
 {
-    let refusal = call_refusal(cluster, local);
-    if refusal == NONE {
-        let step = call_step(cluster, server, bucket);
-        let next = begun_move(
-            cluster.servers,
-            server,
-            step.calls,
-            words.kind,
-            effect.result,
-            local,
-        );
-        return if_places_left(cluster, take_plan(step, words, next, effect));
-    }
-    refused_plan(refusal, effect)
+    server_refusal(cluster, local.head)?;
+    leader_refusal(local)?;
+    let step = call_step(cluster, server, bucket);
+    let next = begun_move(
+        cluster.servers,
+        server,
+        step.calls,
+        words.kind,
+        effect.result,
+        local,
+    );
+    places_refusal(cluster, step.removes, next.sends)?;
+    Ok(Plan::Takes(words, Carried { step, next, effect }))
 }
 
 // What a call does to the table of this slot's copy.
@@ -173,12 +144,14 @@ pub fn effect_of(copies: &CopyBytes, slot: usize, words: Words) -> Effect
 }
 
 // What stands for an effect that writes nothing: any result but 0 will do.
+#[tactic(auto, unfolding(model::specs::Calls::effect_writes, server::specs::Views::effect_in))]
 fn nothing_written() -> Effect
     ensures { calls.effect_writes (effect_in result) ≡ none }
 {
-    let mut effect = no_effect();
-    effect.result = NOTDONE;
-    effect
+    Effect {
+        result: NOTDONE,
+        ..no_effect()
+    }
 }
 
 // What the line of a call needs of the call's effect; where it needs nothing, nothing is worked out.
@@ -207,7 +180,7 @@ fn plan_at(
     server: u32,
     bucket: u32,
     words: Words,
-) -> Plan
+) -> Result<Plan, Refusal>
     requires { Measured cluster × ((server < server_room) × (bucket < bucket_room)) }
     ensures { Called heads.now slots.now copies.now cluster server bucket words result }
 {
@@ -225,16 +198,16 @@ pub fn plan_call(
     cluster: Counts,
     server: u32,
     words: Words,
-) -> Plan
+) -> Result<Plan, Refusal>
     requires { Measured cluster }
     ensures { CallPlanned heads.now slots.now copies.now cluster server words result }
 {
     let bucket = call_bucket(cluster, words);
-    if inside(cluster, server, bucket) {
-        if bad_lengths(words) {
-            return refused_plan(BAD_LENGTH, no_effect());
-        }
-        return plan_at(heads, slots, copies, cluster, server, bucket, words);
+    if !inside(cluster, server, bucket) {
+        return Err(Refusal::NotThere);
     }
-    refused_plan(NOT_THERE, no_effect())
+    if bad_lengths(words) {
+        return Err(Refusal::BadLength);
+    }
+    plan_at(heads, slots, copies, cluster, server, bucket, words)
 }

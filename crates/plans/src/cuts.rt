@@ -4,45 +4,40 @@ ghost use Rattle.plans.specs.Plans.{cut_step, cut_plan};
 ghost use Rattle.plans.specs.Arrays.{Measured};
 
 use crate::deliveries::{is_gone, message_step};
-use crate::parts::{move_plan, refused_plan};
-use crate::room::if_places_left;
+use crate::parts::{move_plan, no_effect};
 use crate::{Plan, Step};
 use memory::Counts;
 use moves::Local;
-use refusals::codes::BAD_CUT_OR_START;
+use refusals::Refusal;
 use restarts::cuts::{can_cut, cut_move};
-use server::{Effect, Message};
+use server::Message;
 
 // The message leaves the list and counts as lost.
+#[tactic(auto, unfolding(server::specs::Views::chosen))]
 pub fn cut_step(cluster: Counts, index: u32, message: Message) -> Step
     ensures { result ≡ cut_step cluster index message }
 {
-    let mut step = message_step(cluster, index, true, message);
-    step.delivered = 0;
-    step.lost = 1;
-    step
+    Step {
+        delivered: 0,
+        lost: 1,
+        ..message_step(cluster, index, true, message)
+    }
 }
 
 // 18, or the cut after so many stores.
+#[tactic(auto, unfolding(crate::specs::Plans::cut_plan))]
 pub fn cut_plan(
     cluster: Counts,
     step: Step,
     stores: u32,
     message: Message,
     local: Local,
-    effect: Effect,
-) -> Plan
+) -> Result<Plan, Refusal>
     requires { Measured cluster }
-    ensures { result ≡ cut_plan cluster step stores message local effect }
+    ensures { result ≡ cut_plan cluster step stores message local }
 {
-    if is_gone(cluster, step, local) {
-        return refused_plan(BAD_CUT_OR_START, effect);
+    if is_gone(cluster, step, local) || !can_cut(stores, message, local) {
+        return Err(Refusal::BadCutOrStart);
     }
-    if can_cut(stores, message, local) {
-        return if_places_left(
-            cluster,
-            move_plan(step, cut_move(stores, message, local), effect),
-        );
-    }
-    refused_plan(BAD_CUT_OR_START, effect)
+    move_plan(cluster, step, cut_move(stores, message, local), no_effect())
 }

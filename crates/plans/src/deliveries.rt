@@ -1,73 +1,54 @@
 // Messages that are handed over or lost: the parts of `deliver` and `copy`, and `lose`.
-ghost use Rattle.std.specs.Prelude.{◌≡◌, ◌<◌, min, true, []};
+ghost use Rattle.std.specs.Prelude.{◌≡◌, ◌<◌, true, []};
 ghost use Rattle.server.specs.Views.{effect_in};
 ghost use Rattle.memory.specs.Layout.{server_room, bucket_room, slot_of};
 ghost use Rattle.moves.specs.Moves.{reads_table};
 ghost use Rattle.memory.specs.Lent.{was};
 ghost use Rattle.views.specs.Memory.{memory, local_at};
-ghost use Rattle.plans.specs.Plans.{message_step, lost_plan, gone, lose_at};
+ghost use Rattle.plans.specs.Plans.{message_step, lost_step, gone, lose_at};
 ghost use Rattle.plans.specs.Arrays.{asked_at};
 
 use crate::calls::effect_of;
-use crate::parts::{no_effect, no_message, no_move, no_words};
-use crate::room::unless;
+use crate::parts::{line_step, no_effect};
 use crate::servers::load_local;
 use crate::{Plan, Step};
 use memory::{CopyBytes, Counts, HeadWords, SlotWords, TextBytes, slot_of};
 use moves::Local;
 use moves::handling::reads_table;
 use records::words::load_words;
-use refusals::codes::NONE;
-use refusals::{has_no_receiver, message_refusal};
+use refusals::{Refusal, has_no_receiver, message_refusal};
 use server::measures::{LAST_BUCKET, LAST_SERVER};
-use server::numbers::chosen;
 use server::{Effect, Message};
 
-fn lesser(top: u32, number: u32) -> u32
-    ensures { result ≡ min top number }
-{
-    if top < number { top } else { number }
-}
-
 // A message that is handed over; `copy` leaves it in the list.
+#[tactic(auto, unfolding(server::specs::Views::chosen))]
 pub fn message_step(cluster: Counts, index: u32, removes: bool, message: Message) -> Step
     ensures { result ≡ message_step cluster index removes message }
 {
     Step {
-        server: lesser(LAST_SERVER, message.receiver),
-        bucket: lesser(LAST_BUCKET, message.bucket),
+        server: message.receiver.min(LAST_SERVER),
+        bucket: message.bucket.min(LAST_BUCKET),
         index,
         removes,
         asked: message,
-        copied: chosen(removes, 0, 1),
+        copied: u32::from(!removes),
         delivered: 1,
         lost: 0,
         calls: cluster.calls,
     }
 }
 
-fn lost_plan(cluster: Counts, index: u32, removes: bool, effect: Effect) -> Plan
-    ensures { result ≡ lost_plan cluster index removes effect }
+// A message that is lost; what happens is at no server.
+#[tactic(auto, unfolding(server::specs::Views::chosen))]
+fn lost_step(cluster: Counts, index: u32, removes: bool) -> Step
+    ensures { result ≡ lost_step cluster index removes }
 {
-    let step = Step {
-        server: 0,
-        bucket: 0,
+    Step {
         index,
         removes,
-        asked: no_message(),
-        copied: chosen(removes, 0, 1),
-        delivered: 0,
+        copied: u32::from(!removes),
         lost: 1,
-        calls: cluster.calls,
-    };
-    Plan {
-        refusal: NONE,
-        loses: true,
-        takes: false,
-        words: no_words(),
-        step,
-        next: no_move(),
-        effect,
+        ..line_step(cluster, 0, 0)
     }
 }
 
@@ -86,8 +67,7 @@ pub fn receiver(heads: &HeadWords, slots: &SlotWords, step: Step) -> Local
 pub fn is_gone(cluster: Counts, step: Step, local: Local) -> bool
     ensures { result ≡ gone cluster step local }
 {
-    let message = step.asked;
-    has_no_receiver(cluster, message.receiver, local.head)
+    has_no_receiver(cluster, step.asked.receiver, local.head)
 }
 
 // What the call does that stands where a message is handed over.
@@ -119,10 +99,11 @@ pub fn asked_effect(
     no_effect()
 }
 
-pub fn plan_lose(cluster: Counts, index: u32) -> Plan
-    ensures { result ≡ lose_at cluster index result.effect }
+// 5 and 7, or the loss of the message.
+#[tactic(auto, unfolding(crate::specs::Plans::lose_at, crate::specs::Plans::unless))]
+pub fn plan_lose(cluster: Counts, index: u32) -> Result<Plan, Refusal>
+    ensures { result ≡ lose_at cluster index }
 {
-    let effect = no_effect();
-    let refusal = message_refusal(cluster, index);
-    unless(refusal, effect, lost_plan(cluster, index, true, effect))
+    message_refusal(cluster, index)?;
+    Ok(Plan::Loses(lost_step(cluster, index, true)))
 }

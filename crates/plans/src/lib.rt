@@ -1,4 +1,4 @@
-// What a line would do, judged before anything changes: the number it is refused with, or the move to carry out.
+// What a line would do, judged before anything changes: why it is refused, or the move to carry out.
 // The rules are those of specs/Plans.antt.
 #![tactic(auto)]
 
@@ -9,7 +9,6 @@ pub mod calls;
 pub mod cuts;
 pub mod deliveries;
 pub mod parts;
-mod room;
 pub mod servers;
 
 // Where a move happens, what hands it over, and what it adds to the tally beside the messages sent.
@@ -28,16 +27,19 @@ pub struct Step {
     pub calls: u32,
 }
 
-// With refusal NONE the line is accepted: its message is lost and nothing else happens (`loses`), or its move is carried out. A message that is
-// cut counts as lost with its move.
+// A move that is carried out: where, and what the call does that it answers or writes.
 #[derive(Clone, Copy)]
-pub struct Plan {
-    pub refusal: u32,
-    pub loses: bool,
-    // whether a call is taken, with these words
-    pub takes: bool,
-    pub words: Words,
+pub struct Carried {
     pub step: Step,
     pub next: Move,
     pub effect: Effect,
+}
+
+// What a line that is accepted does: its message is lost and nothing else happens; or a move is carried out, where a message that is cut counts
+// as lost; or a call is taken with these words, and its first move carried out.
+#[derive(Clone, Copy)]
+pub enum Plan {
+    Loses(Step),
+    Moves(Carried),
+    Takes(Words, Carried),
 }

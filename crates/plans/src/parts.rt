@@ -1,35 +1,27 @@
-// The parts of a plan: what is refused, what is carried out, and what stands where there is nothing.
-ghost use Rattle.std.specs.Prelude.{◌≡◌, []};
-ghost use Rattle.entries.specs.Decoded.{table_in};
-ghost use Rattle.rounds.specs.Rounds.{no_version};
-ghost use Rattle.moves.specs.Moves.{no_round, no_call, local_of};
-ghost use Rattle.plans.specs.Plans.{no_words, no_message, no_step, no_head, no_move, refused_plan, line_step, move_plan, take_plan};
+// The parts of a plan: where it happens, and what stands where there is nothing.
+ghost use Rattle.std.specs.Prelude.{◌≡◌, ◌≤◌};
+ghost use Rattle.memory.specs.Layout.{server_room, message_room};
+ghost use Rattle.plans.specs.Plans.{no_words, no_message, no_effect, line_step, move_plan};
 
-use crate::{Plan, Step};
-use entries::keys::{no_key, no_value};
-use entries::slots::{absent, no_table};
+use crate::{Carried, Plan, Step};
+use entries::{Decoded, Key, Slot, TABLE_ROOM, Value};
 use memory::Counts;
-use moves::codes::{COPY_STAYS, WORK_STAYS};
-use moves::nothing::{no_call, no_round};
-use moves::{Local, Move};
-use refusals::codes::NONE;
+use moves::Move;
+use refusals::{Refusal, places_refusal};
 use rounds::opening::no_version;
-use server::codes::{FOLLOWER, NO_CALL, NO_MESSAGE, NO_RESULT, RUNNING};
-use server::measures::SERVERS;
-use server::{Answer, Effect, Head, Message, Words};
+use server::codes::{NO_CALL, NO_MESSAGE, NO_RESULT};
+use server::{Effect, Message, Words};
 
 // The words of no call.
 pub fn no_words() -> Words
     ensures { result ≡ no_words }
 {
-    let key = no_key();
-    let none = absent();
     Words {
         kind: NO_CALL,
         bucket: 0,
-        key,
-        expected: none,
-        value: none,
+        key: Key::empty(),
+        expected: None,
+        value: None,
     }
 }
 
@@ -48,93 +40,21 @@ pub fn no_message() -> Message
     }
 }
 
-fn no_step() -> Step
-    ensures { result ≡ no_step }
-{
-    Step {
-        server: 0,
-        bucket: 0,
-        index: 0,
-        removes: false,
-        asked: no_message(),
-        copied: 0,
-        delivered: 0,
-        lost: 0,
-        calls: 0,
-    }
-}
-
-fn no_head() -> Head
-    ensures { result ≡ no_head }
-{
-    Head {
-        number: 0,
-        vote: 0,
-        leader: 0,
-        role: FOLLOWER,
-        last: 0,
-        stopped: RUNNING,
-        votes: [0u32; SERVERS],
-    }
-}
-
-fn no_local() -> Local
-    ensures { result ≡ local_of no_head no_version no_round no_call }
-{
-    Local {
-        head: no_head(),
-        version: no_version(),
-        round: no_round(),
-        call: no_call(),
-    }
-}
-
-// A move that is never carried out.
-pub fn no_move() -> Move
-    ensures { result ≡ no_move }
-{
-    let answer = Answer {
-        call: 0,
-        result: NO_RESULT,
-        rounds: 0,
-    };
-    Move {
-        local: no_local(),
-        sends: NO_MESSAGE,
-        written: no_version(),
-        fills: WORK_STAYS,
-        keeps: COPY_STAYS,
-        answer,
-        ceases: false,
-        forgets: false,
-    }
-}
-
 // No result, no value and no entry, which stand for the effect where a line asks for none.
 pub fn no_effect() -> Effect
-    ensures { (result.result ≡ 0) × (table_in result.table ≡ []) }
+    ensures { result ≡ no_effect }
 {
-    let value = no_value();
-    let table = no_table();
+    let empty = Slot {
+        key: Key::empty(),
+        value: Value::empty(),
+    };
     Effect {
         result: NO_RESULT,
-        value,
-        table,
-    }
-}
-
-// The line is refused with this number.
-pub fn refused_plan(refusal: u32, effect: Effect) -> Plan
-    ensures { result ≡ refused_plan refusal effect }
-{
-    Plan {
-        refusal,
-        loses: false,
-        takes: false,
-        words: no_words(),
-        step: no_step(),
-        next: no_move(),
-        effect,
+        value: Value::empty(),
+        table: Decoded {
+            count: 0,
+            slots: [empty; TABLE_ROOM],
+        },
     }
 }
 
@@ -155,32 +75,12 @@ pub fn line_step(cluster: Counts, server: u32, bucket: u32) -> Step
     }
 }
 
-// A move is carried out.
-pub fn move_plan(step: Step, next: Move, effect: Effect) -> Plan
-    ensures { result ≡ move_plan step next effect }
+// 12, or the move.
+#[tactic(auto, unfolding(crate::specs::Plans::unless))]
+pub fn move_plan(cluster: Counts, step: Step, next: Move, effect: Effect) -> Result<Plan, Refusal>
+    requires { (cluster.servers ≤ server_room) × (cluster.messages ≤ message_room) }
+    ensures { result ≡ move_plan cluster step next effect }
 {
-    Plan {
-        refusal: NONE,
-        loses: false,
-        takes: false,
-        words: no_words(),
-        step,
-        next,
-        effect,
-    }
-}
-
-// A call is taken, and its first move carried out.
-pub fn take_plan(step: Step, words: Words, next: Move, effect: Effect) -> Plan
-    ensures { result ≡ take_plan step words next effect }
-{
-    Plan {
-        refusal: NONE,
-        loses: false,
-        takes: true,
-        words,
-        step,
-        next,
-        effect,
-    }
+    places_refusal(cluster, step.removes, next.sends)?;
+    Ok(Plan::Moves(Carried { step, next, effect }))
 }

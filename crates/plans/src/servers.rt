@@ -7,18 +7,15 @@ ghost use Rattle.plans.specs.Plans.{elect_plan, timeout_plan, stop_plan, start_p
 ghost use Rattle.plans.specs.Arrays.{Measured, elect_in, timeout_in, stop_in, start_in};
 
 use crate::Plan;
-use crate::parts::{line_step, move_plan, no_effect, refused_plan};
-use crate::room::{if_places_left, unless};
+use crate::parts::{line_step, move_plan, no_effect};
 use memory::{Counts, HeadWords, SlotWords, slot_of};
 use moves::Local;
 use moves::roles::{ceased_move, elected_move, stopped_move};
 use records::heads::load_head;
 use records::slots::{load_call, load_round, load_version};
-use refusals::codes::{LAST_ELECTION, NO_ROUND_OPEN, NONE, NOT_THERE};
-use refusals::{inside, server_refusal, start_refusal};
+use refusals::{Refusal, inside, server_refusal, start_refusal};
 use restarts::starts::restarted_move;
 use rounds::replies::is_open;
-use server::Effect;
 use server::votes::last_number;
 
 // The head of this server with this slot.
@@ -35,136 +32,125 @@ pub fn load_local(heads: &HeadWords, slots: &SlotWords, server: usize, slot: usi
 }
 
 // 5, 6, 11 and 12, or the election.
-fn elect_plan(cluster: Counts, server: u32, local: Local, effect: Effect) -> Plan
+#[tactic(auto, unfolding(crate::specs::Plans::elect_plan, crate::specs::Plans::unless))]
+fn elect_plan(cluster: Counts, server: u32, local: Local) -> Result<Plan, Refusal>
     requires { Measured cluster }
-    ensures { result ≡ elect_plan cluster server local effect }
+    ensures { result ≡ elect_plan cluster server local }
 {
-    let head = local.head;
-    let refusal = server_refusal(cluster, head);
-    if refusal == NONE {
-        if last_number(head) {
-            return refused_plan(LAST_ELECTION, effect);
-        }
-        return if_places_left(
-            cluster,
-            move_plan(
-                line_step(cluster, server, 0),
-                elected_move(cluster.servers, server, local),
-                effect,
-            ),
-        );
+    server_refusal(cluster, local.head)?;
+    if last_number(local.head) {
+        return Err(Refusal::LastElection);
     }
-    refused_plan(refusal, effect)
+    let step = line_step(cluster, server, 0);
+    let next = elected_move(cluster.servers, server, local);
+    move_plan(cluster, step, next, no_effect())
 }
 
-pub fn plan_elect(heads: &HeadWords, slots: &SlotWords, cluster: Counts, server: u32) -> Plan
+#[tactic(auto, unfolding(crate::specs::Plans::elect_at))]
+pub fn plan_elect(
+    heads: &HeadWords,
+    slots: &SlotWords,
+    cluster: Counts,
+    server: u32,
+) -> Result<Plan, Refusal>
     requires { Measured cluster }
-    ensures { result ≡ elect_in heads.now slots.now cluster server result.effect }
+    ensures { result ≡ elect_in heads.now slots.now cluster server }
 {
-    let effect = no_effect();
-    if inside(cluster, server, 0) {
-        let at = server as usize;
-        let local = load_local(heads, slots, at, slot_of(at, 0));
-        return elect_plan(cluster, server, local, effect);
+    if !inside(cluster, server, 0) {
+        return Err(Refusal::NotThere);
     }
-    refused_plan(NOT_THERE, effect)
+    let at = server as usize;
+    let local = load_local(heads, slots, at, slot_of(at, 0));
+    elect_plan(cluster, server, local)
 }
 
 // 5, 6 and 10, or the end of leading; it sends nothing, so the test of places left never gives 12 (RULES, Refusals 6).
-fn timeout_plan(cluster: Counts, server: u32, bucket: u32, local: Local, effect: Effect) -> Plan
+#[tactic(auto, unfolding(crate::specs::Plans::timeout_plan, crate::specs::Plans::unless))]
+fn timeout_plan(cluster: Counts, server: u32, bucket: u32, local: Local) -> Result<Plan, Refusal>
     requires { Measured cluster }
-    ensures { result ≡ timeout_plan cluster server bucket local effect }
+    ensures { result ≡ timeout_plan cluster server bucket local }
 {
-    let refusal = server_refusal(cluster, local.head);
-    if refusal == NONE {
-        if is_open(local.round) {
-            return if_places_left(
-                cluster,
-                move_plan(
-                    line_step(cluster, server, bucket),
-                    ceased_move(local),
-                    effect,
-                ),
-            );
-        }
-        return refused_plan(NO_ROUND_OPEN, effect);
+    server_refusal(cluster, local.head)?;
+    if !is_open(local.round) {
+        return Err(Refusal::NoRoundOpen);
     }
-    refused_plan(refusal, effect)
+    let step = line_step(cluster, server, bucket);
+    move_plan(cluster, step, ceased_move(local), no_effect())
 }
 
+#[tactic(auto, unfolding(crate::specs::Plans::timeout_at))]
 pub fn plan_timeout(
     heads: &HeadWords,
     slots: &SlotWords,
     cluster: Counts,
     server: u32,
     bucket: u32,
-) -> Plan
+) -> Result<Plan, Refusal>
     requires { Measured cluster }
-    ensures { result ≡ timeout_in heads.now slots.now cluster server bucket result.effect }
+    ensures { result ≡ timeout_in heads.now slots.now cluster server bucket }
 {
-    let effect = no_effect();
-    if inside(cluster, server, bucket) {
-        let at = server as usize;
-        let local = load_local(heads, slots, at, slot_of(at, bucket as usize));
-        return timeout_plan(cluster, server, bucket, local, effect);
+    if !inside(cluster, server, bucket) {
+        return Err(Refusal::NotThere);
     }
-    refused_plan(NOT_THERE, effect)
+    let at = server as usize;
+    let local = load_local(heads, slots, at, slot_of(at, bucket as usize));
+    timeout_plan(cluster, server, bucket, local)
 }
 
 // 5 and 6, or the stop; it sends nothing, so the test of places left never gives 12 (RULES, Refusals 6).
-fn stop_plan(cluster: Counts, server: u32, local: Local, effect: Effect) -> Plan
+#[tactic(auto, unfolding(crate::specs::Plans::stop_plan, crate::specs::Plans::unless))]
+fn stop_plan(cluster: Counts, server: u32, local: Local) -> Result<Plan, Refusal>
     requires { Measured cluster }
-    ensures { result ≡ stop_plan cluster server local effect }
+    ensures { result ≡ stop_plan cluster server local }
 {
-    let refusal = server_refusal(cluster, local.head);
-    unless(
-        refusal,
-        effect,
-        if_places_left(
-            cluster,
-            move_plan(line_step(cluster, server, 0), stopped_move(local), effect),
-        ),
-    )
+    server_refusal(cluster, local.head)?;
+    let step = line_step(cluster, server, 0);
+    move_plan(cluster, step, stopped_move(local), no_effect())
 }
 
-pub fn plan_stop(heads: &HeadWords, slots: &SlotWords, cluster: Counts, server: u32) -> Plan
+#[tactic(auto, unfolding(crate::specs::Plans::stop_at))]
+pub fn plan_stop(
+    heads: &HeadWords,
+    slots: &SlotWords,
+    cluster: Counts,
+    server: u32,
+) -> Result<Plan, Refusal>
     requires { Measured cluster }
-    ensures { result ≡ stop_in heads.now slots.now cluster server result.effect }
+    ensures { result ≡ stop_in heads.now slots.now cluster server }
 {
-    let effect = no_effect();
-    if inside(cluster, server, 0) {
-        let at = server as usize;
-        let local = load_local(heads, slots, at, slot_of(at, 0));
-        return stop_plan(cluster, server, local, effect);
+    if !inside(cluster, server, 0) {
+        return Err(Refusal::NotThere);
     }
-    refused_plan(NOT_THERE, effect)
+    let at = server as usize;
+    let local = load_local(heads, slots, at, slot_of(at, 0));
+    stop_plan(cluster, server, local)
 }
 
 // 5 and 18, or the start.
-fn start_plan(cluster: Counts, server: u32, local: Local, effect: Effect) -> Plan
+#[tactic(auto, unfolding(crate::specs::Plans::start_plan, crate::specs::Plans::unless))]
+fn start_plan(cluster: Counts, server: u32, local: Local) -> Result<Plan, Refusal>
     requires { Measured cluster }
-    ensures { result ≡ start_plan cluster server local effect }
+    ensures { result ≡ start_plan cluster server local }
 {
-    let refusal = start_refusal(cluster, local.head);
-    unless(
-        refusal,
-        effect,
-        if_places_left(
-            cluster,
-            move_plan(line_step(cluster, server, 0), restarted_move(local), effect),
-        ),
-    )
+    start_refusal(cluster, local.head)?;
+    let step = line_step(cluster, server, 0);
+    move_plan(cluster, step, restarted_move(local), no_effect())
 }
 
-pub fn plan_start(heads: &HeadWords, slots: &SlotWords, cluster: Counts, server: u32) -> Plan
+#[tactic(auto, unfolding(crate::specs::Plans::start_at))]
+pub fn plan_start(
+    heads: &HeadWords,
+    slots: &SlotWords,
+    cluster: Counts,
+    server: u32,
+) -> Result<Plan, Refusal>
     requires { Measured cluster }
-    ensures { result ≡ start_in heads.now slots.now cluster server result.effect }
+    ensures { result ≡ start_in heads.now slots.now cluster server }
 {
-    let effect = no_effect();
-    if inside(cluster, server, 0) {
-        let at = server as usize;
-        let local = load_local(heads, slots, at, slot_of(at, 0));
-        return start_plan(cluster, server, local, effect);
+    if !inside(cluster, server, 0) {
+        return Err(Refusal::NotThere);
     }
-    refused_plan(NOT_THERE, effect)
+    let at = server as usize;
+    let local = load_local(heads, slots, at, slot_of(at, 0));
+    start_plan(cluster, server, local)
 }

@@ -1,21 +1,24 @@
 -- The texts of lines, in the pieces that they are printed in.
-use mathlib.Core.Path.{◌≡◌, refl, ap, ◌∙◌}
+use mathlib.Core.Path.{◌≡◌, refl, sym, ap, ◌∙◌}
 use mathlib.Core.List.{List, [], ◌∷◌, ◌++◌, map, append_assoc}
 use mathlib.Core.Option.{some}
-use Prim.Native.Nat.{ℕ, ◌≤◌, ◌<◌, ◌+◌}
+use Prim.Native.Nat.{ℕ, ◌≤◌, ◌<◌, ◌+◌, min}
 use native.Mathlib.Omega.{arith}
 use native.Mathlib.Numerals.{add-one}
 use mathlib.Core.Bool.{true, false}
 use lib.Dec.{eqb}
-use lib.ListN.{length, drop, get_or, length-map, get_or-map}
+use lib.ListN.{length, take, drop, get_or, length-map, get_or-map}
 use lib.Seq.{drop-cons}
 use borrow.Author.Tests.{eqb-true}
 use Rattle.entries.specs.Decoded.{Key, key_bytes, value_bytes}
+use Rattle.entries.proofs.Lists.{take_min}
 use Rattle.model.specs.Text.{bytes}
 use Rattle.model.specs.Lines.{Tally, refusal}
 use Rattle.model.specs.Print.{decimal, hex_pairs, value_text, key_list, keys_text, word_of, data_of, answer_text, outcome_text, tally_text}
+use Rattle.std.proofs.lemmas.List.{take-map}
 use Rattle.print.specs.declared.ResultWord.{ResultWord}
 use Rattle.print.specs.declared.ResultWord.TheVariants as O
+use Rattle.print.specs.declared.KeyList.{KeyList}
 use Rattle.print.specs.declared.AnswerLine.{AnswerLine}
 use Rattle.print.specs.Answers.{keys_in, result_for, answer_in, word_for}
 use Rattle.print.proofs.Printing.{Next}
@@ -77,7 +80,25 @@ unfolding keys_text
 keys_some [] h = absurd (cc)
 keys_some (k ∷ l) h = refl
 
+-- as many of the keys as a list has room for are the list
+pub used_keys : (l : KeyList) (n : ℕ) → length l.keys ≡ 4 → n ≡ min l.count 4 → map key_bytes (take n l.keys) ≡ keys_in l
+unfolding keys_in
+used_keys l n h e =
+    let m : n ≡ min l.count (length (map key_bytes l.keys)) = rw (length-map, h) e in
+    sym (take-map key_bytes n l.keys) ∙ rw m (take_min l.count (map key_bytes l.keys))
+
 -- ---- the data of an answer
+
+word_none : (o : ResultWord) (v : List ℕ) (l : List (List ℕ)) → (o ≡ O.Value → ⊥) → (o ≡ O.Keys → ⊥) → (o ≡ O.Absent → ⊥) → data_of (result_for o v l) ≡ []
+unfolding result_for data_of
+word_none O.Value v l h k m = absurd (h refl)
+word_none O.Keys v l h k m = absurd (k refl)
+word_none O.Done v l h k m = refl
+word_none O.Mismatch v l h k m = refl
+word_none O.Full v l h k m = refl
+word_none O.NotDone v l h k m = refl
+word_none O.Unknown v l h k m = refl
+word_none O.Absent v l h k m = absurd (m refl)
 
 pub data_value : (a : AnswerLine) → a.word ≡ O.Value → data_of (answer_in a).result ≡ bytes " " ++ value_text (some (value_bytes a.value))
 unfolding answer_in result_for data_of
@@ -90,3 +111,7 @@ data_absent a e = rw e
 pub data_keys : (a : AnswerLine) → a.word ≡ O.Keys → data_of (answer_in a).result ≡ keys_text (keys_in a.keys)
 unfolding answer_in result_for data_of
 data_keys a e = rw e
+
+pub data_none : (a : AnswerLine) → (a.word ≡ O.Value → ⊥) → (a.word ≡ O.Keys → ⊥) → (a.word ≡ O.Absent → ⊥) → data_of (answer_in a).result ≡ []
+unfolding answer_in
+data_none a h k m = word_none a.word (value_bytes a.value) (keys_in a.keys) h k m

@@ -24,6 +24,7 @@ impl KeyList {
 
 impl ResultWord {
     // The word as it is printed, between spaces.
+    #[tactic(auto, unfolding(crate::specs::Answers::word_for, crate::specs::Answers::result_for, model::specs::Print::word_of, model::specs::Text::bytes))]
     fn spaced(self) -> &'static [u8]
         ensures { result.now ≡ bytes " " ++ (word_for self ++ bytes " ") }
     {

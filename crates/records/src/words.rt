@@ -1,12 +1,10 @@
 // The words of open calls: their numbers in the slots, their keys and values in lent bytes, a block for each slot.
-ghost use Rattle.std.specs.Prelude.{◌≡◌, ◌+◌, ◌-◌, ◌*◌, ◌<◌, ◌≤◌};
+ghost use Rattle.std.specs.Prelude.{◌≡◌, ◌+◌, ◌*◌, ◌<◌, ◌≤◌};
 ghost use Rattle.std.proofs.Math.Seq.{paste};
-ghost use Rattle.memory.specs.Layout.{slot_room, text_size, key_room, value_room, numbers_fields, numbers_stores, numbers_in, item_word, key_from, value_from, item_from, words_at, put_words, put_texts};
+ghost use Rattle.memory.specs.Layout.{slot_room, text_size, value_room, numbers_fields, numbers_stores, numbers_in, item_word, text_from, item_from, stored_value, words_at, put_words, put_texts};
 ghost use Rattle.memory.specs.Lent.{was, is};
 
-use blocks::copy_part_bytes;
-use entries::keys::{key_length, value_length};
-use entries::{Item, KEY_ROOM, Key, VALUE_ROOM, Value};
+use entries::{Text, Value};
 use memory::offsets::{
     EXPECTED_NUMBER, EXPECTED_TEXT, KEY_NUMBER, KEY_TEXT, VALUE_NUMBER, VALUE_TEXT, WORDS_BUCKET,
     WORDS_KIND,
@@ -21,7 +19,7 @@ pub fn load_words(slots: &SlotWords, texts: &TextBytes, slot: usize) -> Words
 {
     let numbers = numbers_fields(slots, slot);
     let base = slot * TEXT_SIZE;
-    let key = key_from(texts, base + KEY_TEXT, numbers.key as usize);
+    let key = text_from(texts, base + KEY_TEXT, numbers.key as usize);
     let expected = item_from(texts, base + EXPECTED_TEXT, numbers.expected as usize);
     let value = item_from(texts, base + VALUE_TEXT, numbers.value as usize);
     Words {
@@ -47,45 +45,26 @@ fn numbers_fields(slots: &SlotWords, slot: usize) -> Numbers
     }
 }
 
-// A key whose eight bytes begin at this place, and a value whose sixteen do.
-fn key_from(texts: &TextBytes, at: usize, len: usize) -> Key
-    requires { at + key_room ≤ slot_room * text_size }
-    ensures { result ≡ key_from texts.now at len }
+// A key or a value whose ROOM bytes begin at this place; `len` of them count.
+fn text_from<const ROOM: usize>(texts: &TextBytes, at: usize, len: usize) -> Text<ROOM>
+    requires { at + ROOM ≤ slot_room * text_size }
+    ensures { result ≡ text_from ROOM texts.now at len }
 {
-    let mut bytes = [0u8; KEY_ROOM];
-    copy_part_bytes(&mut bytes, 0, texts, at, KEY_ROOM);
-    Key { bytes, len }
-}
-
-fn value_from(texts: &TextBytes, at: usize, len: usize) -> Value
-    requires { at + value_room ≤ slot_room * text_size }
-    ensures { result ≡ value_from texts.now at len }
-{
-    let mut bytes = [0u8; VALUE_ROOM];
-    copy_part_bytes(&mut bytes, 0, texts, at, VALUE_ROOM);
-    Value { bytes, len }
-}
-
-// One less, 0 for 0.
-fn one_less(number: usize) -> usize
-    ensures { result ≡ number - 1 }
-{
-    if number == 0 {
-        return 0;
-    }
-    number - 1
+    let mut bytes = [0; ROOM];
+    bytes.copy_from_slice(&texts[at..at + ROOM]);
+    Text { bytes, len }
 }
 
 // A value by its word: none for 0, else of a length one below it.
-fn item_from(texts: &TextBytes, at: usize, word: usize) -> Item
+#[tactic(auto, using(memory::proofs::Texts::item_there))]
+fn item_from(texts: &TextBytes, at: usize, word: usize) -> Option<Value>
     requires { at + value_room ≤ slot_room * text_size }
     ensures { result ≡ item_from texts.now at word }
 {
-    let value = value_from(texts, at, one_less(word));
-    Item {
-        there: 0 < word,
-        value,
+    if word == 0 {
+        return None;
     }
+    Some(text_from(texts, at, word - 1))
 }
 
 // The call of this slot gets these words.
@@ -99,14 +78,14 @@ pub fn store_words(slots: &mut SlotWords, texts: &mut TextBytes, slot: usize, wo
 }
 
 // The word of a value: 0 where there is none, else one above its length.
-fn item_word(item: Item) -> u32
+#[tactic(auto, unfolding(memory::specs::Layout::item_word))]
+fn item_word(item: Option<Value>) -> u32
     ensures { result ≡ item_word item }
 {
-    if item.there {
-        let len = value_length(item.value);
-        return len as u32 + 1;
+    match item {
+        Some(value) => value.length() as u32 + 1,
+        None => 0,
     }
-    0
 }
 
 // The numbers of words: a length above the room is stored as all of it.
@@ -116,7 +95,7 @@ fn numbers_in(words: Words) -> Numbers
     Numbers {
         kind: words.kind,
         bucket: words.bucket,
-        key: key_length(words.key) as u32,
+        key: words.key.length() as u32,
         expected: item_word(words.expected),
         value: item_word(words.value),
     }
@@ -134,35 +113,29 @@ fn numbers_stores(slots: &mut SlotWords, slot: usize, numbers: Numbers)
     slots[base + VALUE_NUMBER] = numbers.value;
 }
 
+// The bytes of the key and of both values; those of an absent value are zeros.
+#[tactic(auto, unfolding(memory::specs::Layout::put_texts))]
 fn store_texts(texts: &mut TextBytes, slot: usize, words: Words)
     requires { slot < slot_room }
     ensures { is texts ≡ put_texts (was texts) slot words }
 {
     let base = slot * TEXT_SIZE;
-    let key = words.key;
-    let expected_item = words.expected;
-    let value_item = words.value;
-    let expected = expected_item.value;
-    let value = value_item.value;
-    let key_bytes = key.bytes;
-    let expected_bytes = expected.bytes;
-    let value_bytes = value.bytes;
-    put_key(texts, base + KEY_TEXT, &key_bytes);
-    put_value(texts, base + EXPECTED_TEXT, &expected_bytes);
-    put_value(texts, base + VALUE_TEXT, &value_bytes);
+    put_text(texts, base + KEY_TEXT, &words.key);
+    put_text(texts, base + EXPECTED_TEXT, &stored_value(words.expected));
+    put_text(texts, base + VALUE_TEXT, &stored_value(words.value));
+}
+
+// The value whose bytes are stored.
+fn stored_value(item: Option<Value>) -> Value
+    ensures { result ≡ stored_value item }
+{
+    item.unwrap_or(Text::empty())
 }
 
 // The bytes of a key, or of a value, are stored from this place on.
-fn put_key(texts: &mut TextBytes, at: usize, bytes: &[u8; KEY_ROOM])
-    requires { at + key_room ≤ slot_room * text_size }
-    ensures { is texts ≡ paste (was texts) at bytes.now key_room }
+fn put_text<const ROOM: usize>(texts: &mut TextBytes, at: usize, text: &Text<ROOM>)
+    requires { at + ROOM ≤ slot_room * text_size }
+    ensures { is texts ≡ paste (was texts) at text.now.bytes ROOM }
 {
-    copy_part_bytes(texts, at, bytes, 0, KEY_ROOM);
-}
-
-fn put_value(texts: &mut TextBytes, at: usize, bytes: &[u8; VALUE_ROOM])
-    requires { at + value_room ≤ slot_room * text_size }
-    ensures { is texts ≡ paste (was texts) at bytes.now value_room }
-{
-    copy_part_bytes(texts, at, bytes, 0, VALUE_ROOM);
+    texts[at..at + ROOM].copy_from_slice(&text.bytes);
 }

@@ -13,6 +13,7 @@ use Rattle.blocks.specs.Order.{Ordered}
 use Rattle.memory.specs.Layout.{slot_of, counts_at, order_of, place_at}
 use Rattle.refusals.specs.Refusals.{places_left}
 use Rattle.moves.specs.declared.Move.{Move}
+use Rattle.moves.specs.declared.Filling.TheVariants as filling
 use Rattle.moves.specs.Reactions.{asked_in, reaction_in}
 use Rattle.views.specs.Changes.{answers_room}
 use Rattle.views.specs.Memory.{Memory, Sized, WholeLocal, standing, call_words_at, server_at, cluster_at}
@@ -58,21 +59,21 @@ pub record Possible (m : Memory) (c : Counts) (x : Step) (v : Move) (f : Effect)
   pub bucket : x.bucket < c.buckets
   pub there : x.removes ≡ true → x.index < c.messages
   pub whole : WholeLocal v.local
-  pub form : v.fills ≡ 2 → fits max_entries max_value_bytes (table_in f.table) ≡ true
+  pub form : v.fills ≡ filling.Table → fits max_entries max_value_bytes (table_in f.table) ≡ true
 
 -- where there are places, carrying it out is what the definitions make of its reaction; where there are none, 12
 abbrev pub CarriesOut : Memory → List ℕ → lines.Tally → Counts → Step → Move → Effect → Type 0
 CarriesOut m l t c x v f =
     places_left c x.removes v.sends ≡ true →
-    lines.accept_line (state_in m t) (work_of m x (reaction_of m c x v f)) ≡ result_of t (carried_run m l c x v (table_in f.table)) f
+    lines.accept_line (state_in m t) (work_of m x (reaction_of m c x v f)) ≡ result_of t (carried_run m l c x v (table_in f.table) f)
 
 abbrev pub LacksRoom : Memory → lines.Tally → Counts → Step → Move → Effect → Type 0
 LacksRoom m t c x v f =
     places_left c x.removes v.sends ≡ false →
     lines.accept_line (state_in m t) (work_of m x (reaction_of m c x v f)) ≡ lines.refuse (state_in m t) 12
 
-abbrev pub LosesMessage : Memory → List ℕ → lines.Tally → Counts → Step → Effect → Type 0
-LosesMessage m l t c x f =
+abbrev pub LosesMessage : Memory → List ℕ → lines.Tally → Counts → Step → Type 0
+LosesMessage m l t c x =
     x.calls ≡ c.calls →
     (x.removes ≡ true → x.index < c.messages) →
-    lines.accept_line (state_in m t) (lines.lost_message (cluster_at m) (kept_messages x.removes x.index (cluster_at m).messages) x.copied) ≡ result_of t (lost_run m l c x) f
+    lines.accept_line (state_in m t) (lines.lost_message (cluster_at m) (kept_messages x.removes x.index (cluster_at m).messages) x.copied) ≡ result_of t (lost_run m l c x)

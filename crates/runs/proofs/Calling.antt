@@ -1,4 +1,5 @@
 -- The five calls: the run of a call is what the definitions make of its line.
+use Rattle.std.specs.Prelude.{Result, Ok, Err}
 use Rattle.std.proofs.Common.{◌≡◌, ℕ, ◌+◌, ◌%◌, ◌^◌, ◌<◌, ◌≤◌, Bool, true, false, not, eqb, leb, ◌⊎◌, List, [], sym, refl, ap, ◌∙◌, subst, ap₂, subst₂, inl, inr, mod-eq_of_lt, arith, eqb-true, leb-true}
 use mathlib.Core.Option.{some}
 use borrow.Author.Tests.{lt-leb}
@@ -16,9 +17,12 @@ use Rattle.server.specs.declared.Effect.{Effect}
 use Rattle.server.specs.Views.{among, role_in, call_in, effect_in, chosen}
 use Rattle.memory.specs.declared.Counts.{Counts}
 use Rattle.memory.specs.Layout.{slot_of, counts_at, place_at}
-use Rattle.refusals.specs.Refusals.{inside, server_refusal}
+use Rattle.refusals.specs.declared.Refusal.{Refusal}
+use Rattle.refusals.specs.declared.Refusal.TheVariants.{BadLength, NotLeading, BucketOccupied}
+use Rattle.refusals.specs.Refusals.{refused_where, inside}
 use Rattle.moves.specs.declared.Local.{Local}
 use Rattle.moves.specs.declared.Move.{Move}
+use Rattle.moves.specs.declared.Filling.TheVariants as filling
 use Rattle.moves.specs.Moves.{reading_move, finished_move, recovered, started_move, alone_move, begun_move}
 use Rattle.moves.proofs.CallMoves.{writes_so, begun_means}
 use Rattle.moves.specs.Reactions.{EffectNeeded, asked_in}
@@ -28,30 +32,32 @@ use Rattle.views.proofs.Seen.{length_servers, role_there, call_there, server_see
 use Rattle.views.proofs.Whole.{whole_at, whole_begun}
 use Rattle.plans.specs.declared.Step.{Step}
 use Rattle.plans.specs.declared.Plan.{Plan}
-use Rattle.plans.specs.Plans.{no_message, refused_plan, if_places_left, unless, bad_lengths, call_bucket, call_step, take_plan, call_refusal, call_plan, call_at}
-use Rattle.runs.specs.Runs.{taken, executed, CallEffect}
+use Rattle.plans.specs.declared.Plan.TheVariants.{Takes}
+use Rattle.plans.specs.Plans.{no_message, carried, if_places_left, unless, bad_lengths, call_bucket, call_step, leader_refusal, take_plan, call_plan, call_at}
+use Rattle.runs.specs.Runs.{taken, accepted, executed, CallEffect}
 use Rattle.runs.specs.Meaning.{state_in, result_of}
+use Rattle.runs.proofs.Filling.{apart}
 use Rattle.runs.proofs.Accepting.{Ready, Possible, work_of, reaction_of}
 use Rattle.runs.proofs.Carried.{carries_out, lacks_room}
 use Rattle.runs.proofs.Taken.{taken_read, taken_local, taken_cluster, taken_ready}
 use Rattle.runs.proofs.Standing.{measured, standing_cluster}
-use Rattle.runs.proofs.Conditions.{judged, planned, refusing, ready_perform, condition_judged, places_judged, server_stands, place_judged, server_judged}
+use Rattle.runs.proofs.Conditions.{judged, planned, refusing, unless_where, ready_perform, condition_judged, places_judged, server_stands, place_judged, server_judged}
 use Rattle.runs.proofs.Resting.{cluster_within, last_low, counter_low, table_fits}
 use Rattle.runs.proofs.Wording.{Said, Fine}
 
 -- ---- the move of a call
 
 -- a call's new table is written only where its effect is to write, by a server alone or on a recovered copy
-begun_written : (n me i kind result : ℕ) (l : Local) → (begun_move n me i kind result l).fills ≡ 2 → (eqb result 0 ≡ true) × ((n ≤ 1) ⊎ (recovered l ≡ true))
+begun_written : (n me i kind result : ℕ) (l : Local) → (begun_move n me i kind result l).fills ≡ filling.Table → (eqb result 0 ≡ true) × ((n ≤ 1) ⊎ (recovered l ≡ true))
 begun_written n me i kind result l = go (leb n 1) refl (eqb result 0) refl (recovered l) refl
   where
     go : (x : Bool) → leb n 1 ≡ x → (y : Bool) → eqb result 0 ≡ y → (z : Bool) → recovered l ≡ z
-        → (begun_move n me i kind result l).fills ≡ 2 → (eqb result 0 ≡ true) × ((n ≤ 1) ⊎ (recovered l ≡ true))
+        → (begun_move n me i kind result l).fills ≡ filling.Table → (eqb result 0 ≡ true) × ((n ≤ 1) ⊎ (recovered l ≡ true))
     go true e true d z c h = (d, inl (leb-true n 1 e))
-    go true e false d z c h = let g : ◌≡◌ {A = ℕ} 0 2 = unfold begun_move alone_move finished_move in (rw (begun_move, e, alone_move, d) at h) in absurd (omega arith)
+    go true e false d z c h = let g : filling.Stays ≡ filling.Table = unfold begun_move alone_move finished_move in (rw (begun_move, e, alone_move, d) at h) in absurd (apart g)
     go false e true d true c h = (d, inr c)
-    go false e false d true c h = let g : ◌≡◌ {A = ℕ} 0 2 = unfold begun_move started_move reading_move chosen in (rw (begun_move, e, started_move, c, d) at h) in absurd (omega arith)
-    go false e y d false c h = let g : ◌≡◌ {A = ℕ} 1 2 = unfold begun_move started_move reading_move chosen in (rw (begun_move, e, started_move, c) at h) in absurd (omega arith)
+    go false e false d true c h = let g : filling.Stays ≡ filling.Table = unfold begun_move started_move reading_move in (rw (begun_move, e, started_move, c, d) at h) in absurd (apart g)
+    go false e y d false c h = let g : filling.Copy ≡ filling.Table = unfold begun_move started_move reading_move in (rw (begun_move, e, started_move, c) at h) in let z : ◌≡◌ {A = ℕ} 0 1 = cc in absurd (omega arith)
 
 module _ {m : Memory} {l : List ℕ} {t : lines.Tally} (ready : Ready m l t) (s b : ℕ) (server : s < (counts_at m.counts).servers) (bucket : b < (counts_at m.counts).buckets)
     (words : calls.Words) (kind : ℕ) (f : Effect) (live : among 5 kind ≡ true) (sized : WordsSized words) (there : call_words_at m (slot_of s b) ≡ words)
@@ -98,7 +104,7 @@ module _ {m : Memory} {l : List ℕ} {t : lines.Tally} (ready : Ready m l t) (s 
       ∙ (ap (λ z. lines.by_line x s (c.calls + 1) (begin_call n s b (c.calls + 1) words z)) (server_stands m s server)
       ∙ (ap (lines.by_line x s (c.calls + 1)) begun ∙ ap (λ z. lines.by_line x s z (reaction_of m c step move f)) (sym call_number))))
 
-  call_fits : move.fills ≡ 2 → Fits (table_in f.table)
+  call_fits : move.fills ≡ filling.Table → Fits (table_in f.table)
   unfolding calls.effect_writes
   call_fits h =
       let (z, where-so) = begun_written n s ((c.calls + 1) % 2 ^ 32) kind f.result here h in
@@ -140,20 +146,17 @@ call_present x words = go (among 5 x.kind) refl
     go true e = rw (call_in, e)
     go false e = rw (call_in, e)
 
--- 8 and 9 after 5 and 6
-leads_free : (r : ℕ) (f : Effect) (p : Plan) (z leading busy : Bool) → eqb r 0 ≡ z
-    → unless (elim z [ false ↦ r | true ↦ elim leading [ false ↦ 8 | true ↦ elim busy [ true ↦ 9 | false ↦ 0 ] ] ]) f p
-    ≡ elim z [ true ↦ refusing 8 (not leading) f (refusing 9 busy f p) | false ↦ refused_plan r f ]
-unfolding unless
-leads_free r f p true false busy e = refl
-leads_free r f p true true true e = refl
-leads_free r f p true true false e = refl
-leads_free r f p false leading busy e = rw (unless, e)
-
-unless_call : (x : Counts) (l : Local) (f : Effect) (p : Plan)
-    → unless (call_refusal x l) f p ≡ unless (server_refusal x l.head) f (refusing 8 (not (eqb l.head.role 2)) f (refusing 9 (among 5 l.call.kind) f p))
-unfolding unless call_refusal
-unless_call x l f p = leads_free (server_refusal x l.head) f p (eqb (server_refusal x l.head) 0) (eqb l.head.role 2) (among 5 l.call.kind) refl
+-- 8 and 9 as conditions
+unless_leader : (l : Local) (p : Result Plan Refusal)
+    → unless (leader_refusal l) p ≡ refusing NotLeading (not (eqb l.head.role 2)) (refusing BucketOccupied (among 5 l.call.kind) p)
+unfolding leader_refusal unless
+unless_leader l p = go (eqb l.head.role 2)
+  where
+    go : (z : Bool)
+        → unless (elim z [ false ↦ Err NotLeading | true ↦ refused_where (among 5 l.call.kind) BucketOccupied ]) p
+        ≡ refusing NotLeading (not z) (refusing BucketOccupied (among 5 l.call.kind) p)
+    go false = refl
+    go true = unless_where (among 5 l.call.kind) BucketOccupied p
 
 -- ---- a call that is taken
 
@@ -171,25 +174,25 @@ module _ (m : Memory) (l : List ℕ) (t : lines.Tally) (ready : Ready m l t) (s 
   abbrev begun_at : Move
   begun_at = begun_move counts.servers s ((counts.calls + 1) % 2 ^ 32) w.kind f.result local
 
-  abbrev plan : Plan
-  plan = take_plan (call_step counts s part) w begun_at f
+  abbrev plan : Result Plan Refusal
+  plan = take_plan counts (call_step counts s part) w begun_at f
 
-  module _ (server : s < counts.servers) (bucket : part < counts.buckets) (lengths : bad_lengths w ≡ false) (stands : server_refusal counts local.head ≡ 0)
+  module _ (server : s < counts.servers) (bucket : part < counts.buckets) (lengths : bad_lengths w ≡ false)
       (leading : not (eqb local.head.role 2) ≡ false) (free : among 5 local.call.kind ≡ false) where
     abbrev fine : Fine w words
     fine = said.fine lengths
 
     abbrev stored : Memory
-    stored = taken m plan
+    stored = taken m w (call_step counts s part)
 
     slot : slot_of s part < 56
     slot = omega (arith, (measured ready).servers, (measured ready).buckets)
 
     ready_stored : Ready stored l t
-    ready_stored = taken_ready m plan refl ready.sized slot fine.whole free l t ready
+    ready_stored = taken_ready m w (call_step counts s part) ready.sized slot fine.whole free l t ready
 
     same_cluster : cluster_at stored ≡ cluster_at m
-    same_cluster = taken_cluster m plan refl ready.sized slot fine.whole free
+    same_cluster = taken_cluster m w (call_step counts s part) ready.sized slot fine.whole free
 
     same_state : state_in stored t ≡ state_in m t
     same_state = ap (λ o. record { cluster = o; tally = t }) (standing_cluster stored ready_stored.standing ∙ (ap some same_cluster ∙ sym (standing_cluster m ready.standing)))
@@ -201,10 +204,10 @@ module _ (m : Memory) (l : List ℕ) (t : lines.Tally) (ready : Ready m l t) (s 
         (effect (rw (inside, lt-leb counts.servers s server, lt-leb counts.buckets part bucket) refl) lengths)
 
     same_words : call_words_at stored (slot_of s part) ≡ words
-    same_words = taken_read m plan refl ready.sized slot fine.whole ∙ sym fine.same
+    same_words = taken_read m w (call_step counts s part) ready.sized slot fine.whole ∙ sym fine.same
 
     same_local : local_at stored s (slot_of s part) ≡ local
-    same_local = taken_local m plan refl s (slot_of s part)
+    same_local = taken_local m w (call_step counts s part) s (slot_of s part)
 
     work_stored : lines.work (cluster_at stored) (lines.call s words) ≡ work_of stored (call_step counts s part) (reaction_of stored counts (call_step counts s part) begun_at f)
     unfolding taken
@@ -214,18 +217,18 @@ module _ (m : Memory) (l : List ℕ) (t : lines.Tally) (ready : Ready m l t) (s 
     unfolding taken
     possible_stored = call_possible ready_stored s part server bucket words w.kind f said.live fine.sized same_words local same_local (fine.bucket counts) its_effect
 
-    carried : lines.accept_line (state_in stored t) (work_of stored (call_step counts s part) (reaction_of stored counts (call_step counts s part) begun_at f))
-        ≡ planned m l t counts f (if_places_left counts plan)
-    unfolding executed
-    carried =
-        places_judged m l t counts plan _ f refl (carries_out stored l t counts (call_step counts s part) begun_at f ready_stored possible_stored)
+    call_carried : lines.accept_line (state_in stored t) (work_of stored (call_step counts s part) (reaction_of stored counts (call_step counts s part) begun_at f))
+        ≡ planned m l t counts plan
+    unfolding executed accepted
+    call_carried =
+        places_judged m l t counts (call_step counts s part) begun_at (Takes w (carried (call_step counts s part) begun_at f)) _ (carries_out stored l t counts (call_step counts s part) begun_at f ready_stored possible_stored)
         (λ e. lacks_room stored l t counts (call_step counts s part) begun_at f ready_stored possible_stored e ∙ ap (λ x. lines.refuse x 12) same_state)
 
-    begins : judged (state_in m t) [] (lines.work (cluster_at m) (lines.call s words)) ≡ planned m l t counts f (if_places_left counts plan)
+    begins : judged (state_in m t) [] (lines.work (cluster_at m) (lines.call s words)) ≡ planned m l t counts plan
     unfolding lines.first_of
     begins =
         ap₂ (λ x y. lines.accept_line x (lines.work y (lines.call s words))) (sym same_state) (sym same_cluster)
-        ∙ (ap (lines.accept_line (state_in stored t)) work_stored ∙ carried)
+        ∙ (ap (lines.accept_line (state_in stored t)) work_stored ∙ call_carried)
 
   -- ---- the line
 
@@ -241,13 +244,13 @@ module _ (m : Memory) (l : List ℕ) (t : lines.Tally) (ready : Ready m l t) (s 
         ∙ (ap (λ b. lines.present (cluster.call_at (server_at counts.servers counts.buckets m s).volatile b)) ((said.fine lengths).bucket counts)
         ∙ (ap lines.present (call_there counts.servers counts.buckets m s part bucket) ∙ call_present local.call (call_words_at m (slot_of s part))))
 
-  pub call_runs : lines.perform (state_in m t) (lines.call s words) ≡ result_of t (executed m l (counts_at m.counts) (call_at m (counts_at m.counts) s w f)) f
+  pub call_runs : lines.perform (state_in m t) (lines.call s words) ≡ result_of t (executed m l (counts_at m.counts) (call_at m (counts_at m.counts) s w f))
   unfolding lines.conditions_up_to call_at call_plan
   call_runs =
       ready_perform ready (lines.call s words)
-      ∙ place_judged m l t f _ _ _ s part _ (said.buckets (cluster_at m) counts refl (measured ready).some_buckets) (λ server bucket.
-      rw said.bad (condition_judged m l t counts 4 _ _ _ _ f (λ z. omega arith) (λ lengths.
-      rw (unless_call counts local f (if_places_left counts plan), leading_seen server bucket lengths, call_seen server bucket lengths)
-      (server_judged m l t f _ _ _ s server (λ stands.
-      condition_judged m l t counts 8 _ _ _ _ f (λ z. omega arith) (λ leading.
-      condition_judged m l t counts 9 _ _ _ _ f (λ z. omega arith) (λ free. begins server bucket lengths stands leading free)))))))
+      ∙ place_judged m l t _ _ _ s part _ (said.buckets (cluster_at m) counts refl (measured ready).some_buckets) (λ server bucket.
+      rw said.bad (condition_judged m l t counts BadLength _ _ _ _ (λ lengths.
+      rw (unless_leader local plan, leading_seen server bucket lengths, call_seen server bucket lengths)
+      (server_judged m l t _ _ _ s server
+      (condition_judged m l t counts NotLeading _ _ _ _ (λ leading.
+      condition_judged m l t counts BucketOccupied _ _ _ _ (λ free. begins server bucket lengths leading free)))))))

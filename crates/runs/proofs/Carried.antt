@@ -22,6 +22,7 @@ use Rattle.views.proofs.Queue.{length_flight}
 use Rattle.views.proofs.Sends.{Added, sent_flight_lem, length_sends}
 use Rattle.views.proofs.Answers.{Holds, answered_means}
 use Rattle.plans.specs.declared.Step.{Step}
+use Rattle.runs.specs.declared.Report.{Report}
 use Rattle.runs.specs.Runs.{left_flight, moved_at, sent_flight, carried_run}
 use Rattle.runs.specs.Meaning.{state_in}
 use Rattle.runs.proofs.Accepting.{Ready, Possible, kept_messages, work_of, reaction_of, CarriesOut, LacksRoom}
@@ -96,17 +97,28 @@ module _ (m : Memory) (l : List ℕ) (t : lines.Tally) (x : Step) (v : Move) (f 
     sent_are : flight_in (sent_flight m c x v made) ≡ keeps ++ sends
     sent_are = added.flight ∙ ap (λ (r : List cluster.Message). r ++ sends) left_are
 
-    carried_servers : servers_at c.servers c.buckets (carried_run m l c x v made).memory ≡ (work_of m x (reaction_of m c x v f)).cluster.servers
+    carried_servers : servers_at c.servers c.buckets (carried_run m l c x v made f).memory ≡ (work_of m x (reaction_of m c x v f)).cluster.servers
     unfolding carried_run moved
     carried_servers = servers_beside c.servers c.buckets (moved_at m c x v made) _ _ _ ∙ servers_moved
 
-    does : Does (work_of m x (reaction_of m c x v f)) (carried_run m l c x v made) f
+    abbrev report : Report
+    report =
+        record {
+          effect = f;
+          answers = (answered m.slots c.buckets x.server v l).count;
+          sent = send_count c.servers v.sends;
+          copied = x.copied;
+          delivered = x.delivered;
+          lost = x.lost;
+          messages = (sent_flight m c x v made).count;
+        }
+
+    does : Does (work_of m x (reaction_of m c x v f)) (carried_run m l c x v made f).memory (carried_run m l c x v made f).answers report
     unfolding carried_run
     does =
         record {
-          taken = refl;
           cluster =
-              next_cluster m (carried_run m l c x v made).memory c (sent_flight m c x v made).count x.calls
+              next_cluster m (carried_run m l c x v made f).memory c (sent_flight m c x v made).count x.calls
               ready.sized.counts (measured ready) ready.stands.accepted added.sound.count refl
               ∙ rw (carried_servers, sent_are);
           sent = sym length_sent;
@@ -126,10 +138,14 @@ module _ (m : Memory) (l : List ℕ) (t : lines.Tally) (x : Step) (v : Move) (f 
       let stay : length keeps ≡ (left_flight m c x).count = sym (ap length left_are) ∙ length_flight (left_flight m c x) left in
       lt-leb (length (keeps ++ sends)) max_messages (rw (length-append keeps sends, stay, length_sent) over)
 
+carried_accepts : (m : Memory) (l : List ℕ) (t : lines.Tally) (x : Step) (v : Move) (f : Effect) → Ready m l t → Possible m (counts_at m.counts) x v f → CarriesOut m l t (counts_at m.counts) x v f
+unfolding carried_run
+carried_accepts m l t x v f ready p room = accepts_line (state_in m t) _ _ _ (report m l t x v f ready p room) (does m l t x v f ready p room)
+
 pub carries_out : (m : Memory) (l : List ℕ) (t : lines.Tally) (c : Counts) (x : Step) (v : Move) (f : Effect) → Ready m l t → Possible m c x v f → CarriesOut m l t c x v f
 carries_out m l t c x v f ready p =
     subst (λ (c : Counts). Possible m c x v f → CarriesOut m l t c x v f) (sym p.counts)
-    (λ p room. accepts_line (state_in m t) _ (carried_run m l (counts_at m.counts) x v (table_in f.table)) f (does m l t x v f ready p room))
+    (λ p room. carried_accepts m l t x v f ready p room)
     p
 
 pub lacks_room : (m : Memory) (l : List ℕ) (t : lines.Tally) (c : Counts) (x : Step) (v : Move) (f : Effect) → Ready m l t → Possible m c x v f → LacksRoom m t c x v f

@@ -1,4 +1,5 @@
 -- `cut`: the run of a message cut short is what the definitions make of the line.
+use Rattle.std.specs.Prelude.{Result, Ok, Err}
 use Rattle.std.proofs.Common.{◌≡◌, ℕ, ◌<◌, min, Bool, true, false, not, ltb, leb, List, [], ◌∷◌, length, sym, refl, ap, ◌∙◌, arith, le-ltb, lt-ltb, leb-false, leb-true}
 use borrow.Author.Tests.{lt-leb}
 use Rattle.entries.specs.Decoded.{table_in, value_bytes}
@@ -7,10 +8,11 @@ use Rattle.model.specs.Stores.{stores_of}
 use Rattle.model.specs.Leader.{Reaction, reaction}
 use Rattle.model.specs.Lines as lines
 use Rattle.server.specs.declared.Message.{Message}
-use Rattle.server.specs.declared.Effect.{Effect}
 use Rattle.server.specs.Views.{flag_in, chosen, is_broadcast}
 use Rattle.memory.specs.declared.Counts.{Counts}
 use Rattle.memory.specs.Layout.{slot_of, counts_at, head_at, place_at, message_at}
+use Rattle.refusals.specs.declared.Refusal.{Refusal}
+use Rattle.refusals.specs.declared.Refusal.TheVariants.{BadCutOrStart}
 use Rattle.refusals.specs.Refusals.{message_refusal, no_receiver}
 use Rattle.moves.specs.declared.Local.{Local}
 use Rattle.moves.specs.declared.Move.{Move}
@@ -23,15 +25,16 @@ use Rattle.views.proofs.Seen.{server_seen}
 use Rattle.views.proofs.Whole.{whole_at, whole_cut}
 use Rattle.plans.specs.declared.Step.{Step}
 use Rattle.plans.specs.declared.Plan.{Plan}
-use Rattle.plans.specs.Plans.{refused_plan, if_places_left, move_plan, gone, receiver_at, cut_step, cut_plan, cut_at}
+use Rattle.plans.specs.Plans.{no_effect, move_plan, gone, receiver_at, cut_step, cut_plan, cut_at}
 use Rattle.runs.specs.Runs.{executed}
 use Rattle.runs.specs.Meaning.{state_in, result_of}
+use Rattle.runs.proofs.Filling.{apart}
 use Rattle.runs.proofs.Accepting.{Ready, Possible, work_of, reaction_of}
 use Rattle.runs.proofs.Standing.{measured}
 use Rattle.runs.proofs.Conditions.{judged, planned, refusing, ready_perform, condition_judged, message_judged, moved_run}
 use Rattle.runs.proofs.Handing.{message, message_there, message_within, mine, receiver_there, receiver_stopped}
 
-module _ (m : Memory) (l : List ℕ) (t : lines.Tally) (ready : Ready m l t) (i k : ℕ) (f : Effect) where
+module _ (m : Memory) (l : List ℕ) (t : lines.Tally) (ready : Ready m l t) (i k : ℕ) where
   abbrev counts : Counts
   counts = counts_at m.counts
 
@@ -54,8 +57,8 @@ module _ (m : Memory) (l : List ℕ) (t : lines.Tally) (ready : Ready m l t) (i 
   abbrev move : Move
   move = cut_move k asked here_local
 
-  abbrev plan : Plan
-  plan = cut_plan counts step k asked here_local f
+  abbrev plan : Result Plan Refusal
+  plan = cut_plan counts step k asked here_local
 
   abbrev stopped : Bool
   stopped = flag_in (head_at m.heads target).stopped
@@ -88,7 +91,7 @@ module _ (m : Memory) (l : List ℕ) (t : lines.Tally) (ready : Ready m l t) (i 
     bad_by a z y = lines.either (not a) (lines.either z y)
 
     stores_counted : is_broadcast asked.kind ≡ true → length (stores_of (message ready i here) server.stored) ≡ stores_made (stores_vote asked here_local.head) (stores_bucket asked here_local)
-    stores_counted e = count_seen counts.servers part asked server here_local (tables_at m (slot_of target part) (place_at m.queue i) (table_in f.table)) (call_words_at m (slot_of target part)) (server_seen counts.servers counts.buckets m target part ours) on e
+    stores_counted e = count_seen counts.servers part asked server here_local (tables_at m (slot_of target part) (place_at m.queue i) (table_in no_effect.table)) (call_words_at m (slot_of target part)) (server_seen counts.servers counts.buckets m target part ours) on e
 
     counted : (made : ℕ) → ltb made k ≡ elim (leb k made) [ true ↦ false | false ↦ true ]
     counted made = go (leb k made) refl
@@ -109,7 +112,7 @@ module _ (m : Memory) (l : List ℕ) (t : lines.Tally) (ready : Ready m l t) (i 
     bad_seen : lines.bad_cut (cluster_at m) (message ready i here) k ≡ bad
     unfolding lines.bad_cut cuttable
     bad_seen =
-        let v = tables_at m (slot_of target part) (place_at m.queue i) (table_in f.table) in
+        let v = tables_at m (slot_of target part) (place_at m.queue i) (table_in no_effect.table) in
         let kind = broadcast_seen counts.servers part asked server here_local v (call_words_at m (slot_of target part)) (server_seen counts.servers counts.buckets m target part ours) on in
         ap (λ a. bad_by a (lines.stopped_at (cluster_at m) asked.receiver) (ltb (length (stores_of (message ready i here) (lines.server_at (cluster_at m) asked.receiver).stored)) k)) kind
         ∙ (ap (λ z. bad_by (is_broadcast asked.kind) z (ltb (length (stores_of (message ready i here) (lines.server_at (cluster_at m) asked.receiver).stored)) k)) (receiver_stopped ready i here true target to)
@@ -120,15 +123,15 @@ module _ (m : Memory) (l : List ℕ) (t : lines.Tally) (ready : Ready m l t) (i 
     unfolding gone no_receiver
     gone_is = rw (gone, no_receiver, among_servers) refl
 
-    plan_is : plan ≡ refusing 18 bad f (if_places_left counts (move_plan step move f))
+    plan_is : plan ≡ refusing BadCutOrStart bad (move_plan counts step move no_effect)
     unfolding cut_plan
     plan_is =
-        ap (λ z. elim z as (λ _. Plan) [ true ↦ refused_plan 18 f | false ↦ elim (cuttable k asked here_local) [ true ↦ if_places_left counts (move_plan step move f) | false ↦ refused_plan 18 f ] ]) gone_is
+        ap (λ z. elim z as (λ _. Result Plan Refusal) [ true ↦ Err BadCutOrStart | false ↦ elim (cuttable k asked here_local) [ true ↦ move_plan counts step move no_effect | false ↦ Err BadCutOrStart ] ]) gone_is
         ∙ go stopped (cuttable k asked here_local)
       where
         go : (z y : Bool)
-            → ◌≡◌ {A = Plan} (elim z [ true ↦ refused_plan 18 f | false ↦ elim y [ true ↦ if_places_left counts (move_plan step move f) | false ↦ refused_plan 18 f ] ])
-            (refusing 18 (elim z [ true ↦ true | false ↦ elim y [ true ↦ false | false ↦ true ] ]) f (if_places_left counts (move_plan step move f)))
+            → ◌≡◌ {A = Result Plan Refusal} (elim z [ true ↦ Err BadCutOrStart | false ↦ elim y [ true ↦ move_plan counts step move no_effect | false ↦ Err BadCutOrStart ] ])
+            (refusing BadCutOrStart (elim z [ true ↦ true | false ↦ elim y [ true ↦ false | false ↦ true ] ]) (move_plan counts step move no_effect))
         go true y = refl
         go false true = refl
         go false false = refl
@@ -146,12 +149,12 @@ module _ (m : Memory) (l : List ℕ) (t : lines.Tally) (ready : Ready m l t) (i 
         go false false e = let y : ◌≡◌ {A = ℕ} 0 1 = cc in absurd (omega arith)
         go false true e = refl
 
-    cut_there : is_broadcast asked.kind ≡ true → reaction (lines.cut_server k (message ready i here) server) [] [] ≡ reaction_of m counts step move f
+    cut_there : is_broadcast asked.kind ≡ true → reaction (lines.cut_server k (message ready i here) server) [] [] ≡ reaction_of m counts step move no_effect
     cut_there e =
-        cut_means counts.servers part asked server here_local (tables_at m (slot_of target part) (place_at m.queue i) (table_in f.table)) (call_words_at m (slot_of target part)) (server_seen counts.servers counts.buckets m target part ours) on
-        target k (asked_in asked) (value_bytes f.value) (table_in f.table) e
+        cut_means counts.servers part asked server here_local (tables_at m (slot_of target part) (place_at m.queue i) (table_in no_effect.table)) (call_words_at m (slot_of target part)) (server_seen counts.servers counts.buckets m target part ours) on
+        target k (asked_in asked) (value_bytes no_effect.value) (table_in no_effect.table) e
 
-    work_is : is_broadcast asked.kind ≡ true → lines.cutting (cluster_at m) (message ready i here) (lines.drop_at i (cluster_at m).messages) k ≡ work_of m step (reaction_of m counts step move f)
+    work_is : is_broadcast asked.kind ≡ true → lines.cutting (cluster_at m) (message ready i here) (lines.drop_at i (cluster_at m).messages) k ≡ work_of m step (reaction_of m counts step move no_effect)
     unfolding chosen
     work_is e =
         ap (λ s. cut_by asked.receiver (lines.cut_server k (message ready i here) s)) there
@@ -180,7 +183,7 @@ module _ (m : Memory) (l : List ℕ) (t : lines.Tally) (ready : Ready m l t) (i 
               answers = r.answers;
             }
 
-    possible : Possible m counts step move f
+    possible : Possible m counts step move no_effect
     unfolding cut_move
     possible =
         let few = (measured ready).messages in
@@ -190,25 +193,25 @@ module _ (m : Memory) (l : List ℕ) (t : lines.Tally) (ready : Ready m l t) (i 
           bucket = ours;
           there = λ e. here;
           whole = whole_cut k asked here_local (whole_at m target (slot_of target part));
-          form = λ e. absurd (omega arith);
+          form = λ e. absurd (apart e);
         }
 
     cuts : judged (state_in m t) (lines.when 18 (lines.bad_cut (cluster_at m) (message ready i here) k) ∷ []) (lines.cutting (cluster_at m) (message ready i here) (lines.drop_at i (cluster_at m).messages) k)
-        ≡ planned m l t counts f plan
+        ≡ planned m l t counts plan
     unfolding lines.first_of
     cuts =
         ap (λ z. judged (state_in m t) (lines.when 18 z ∷ []) (lines.cutting (cluster_at m) (message ready i here) (lines.drop_at i (cluster_at m).messages) k)) bad_seen
-        ∙ (condition_judged m l t counts 18 bad [] _ (if_places_left counts (move_plan step move f)) f (λ z. omega arith)
-        (λ e. ap (lines.accept_line (state_in m t)) (work_is (broadcast_then e)) ∙ moved_run m l t counts step move f ready possible)
-        ∙ ap (planned m l t counts f) (sym plan_is))
+        ∙ (condition_judged m l t counts BadCutOrStart bad [] _ (move_plan counts step move no_effect)
+        (λ e. ap (lines.accept_line (state_in m t)) (work_is (broadcast_then e)) ∙ moved_run m l t counts step move no_effect ready possible)
+        ∙ ap (planned m l t counts) (sym plan_is))
 
-  cut_judged : message_refusal counts i ≡ 0 → i < counts.messages
+  cut_judged : message_refusal counts i ≡ Ok tt → i < counts.messages
       → judged (state_in m t) (lines.when 18 (lines.bad_cut (cluster_at m) (lines.message_at (cluster_at m) i) k) ∷ []) (lines.cutting (cluster_at m) (lines.message_at (cluster_at m) i) (lines.drop_at i (cluster_at m).messages) k)
-      ≡ planned m l t counts f plan
+      ≡ planned m l t counts plan
   cut_judged taken here =
       ap (λ x. judged (state_in m t) (lines.when 18 (lines.bad_cut (cluster_at m) x k) ∷ []) (lines.cutting (cluster_at m) x (lines.drop_at i (cluster_at m).messages) k)) (message_there ready i here)
       ∙ cuts here
 
-  pub cut_runs : lines.perform (state_in m t) (lines.cut i k) ≡ result_of t (executed m l (counts_at m.counts) (cut_at m (counts_at m.counts) i k f)) f
+  pub cut_runs : lines.perform (state_in m t) (lines.cut i k) ≡ result_of t (executed m l (counts_at m.counts) (cut_at m (counts_at m.counts) i k))
   unfolding lines.conditions_up_to lines.work cut_at
-  cut_runs = ready_perform ready (lines.cut i k) ∙ message_judged m l t f _ _ plan ready i cut_judged
+  cut_runs = ready_perform ready (lines.cut i k) ∙ message_judged m l t _ _ plan ready i cut_judged

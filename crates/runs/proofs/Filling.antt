@@ -1,4 +1,5 @@
 -- A message has the new table of a call written only where it closes a checking round and the call's effect is to write.
+use Rattle.std.specs.Prelude.{if◌then◌else◌}
 use Rattle.std.proofs.Common.{◌≡◌, ℕ, Bool, true, false, eqb, ltb, [], get_or, take, sym, refl, ap, ◌∙◌, arith, eqb-true}
 use Rattle.model.specs.Replica.{may_accept}
 use Rattle.model.specs.Leader.{acts, closes, fails}
@@ -8,9 +9,11 @@ use Rattle.server.specs.declared.Counted.{Counted}
 use Rattle.server.specs.declared.Message.{Message}
 use Rattle.server.specs.declared.Handling.{Handling}
 use Rattle.server.specs.declared.Handling.TheVariants.{Vote, Request, Reply, Other}
-use Rattle.server.specs.Views.{among, mark_in, open_in, round_in, stored_in, chosen, role_in}
+use Rattle.server.specs.Views.{among, mark_in, open_in, round_in, stored_in, role_in}
 use Rattle.rounds.specs.Rounds.{no_version, pick_version, is_silent, counted_of, matching}
 use Rattle.rounds.specs.Kinds.{handling_in}
+use Rattle.moves.specs.declared.Filling.{Filling}
+use Rattle.moves.specs.declared.Filling.TheVariants as filling
 use Rattle.moves.specs.declared.Local.{Local}
 use Rattle.moves.specs.declared.Move.{Move}
 use Rattle.moves.specs.Moves.{reading_move, writing_move, finished_move, after_read_move, closed_move, with_round}
@@ -21,27 +24,31 @@ either : {A : Type 0} (P : A → Type 0) (t : Bool) (x y : A) → P x → P y �
 either P true x y a b = a
 either P false x y a b = b
 
+-- what stays is no new table
+pub apart : filling.Stays ≡ filling.Table → ⊥
+apart h = let z : ◌≡◌ {A = ℕ} 0 1 = cc in omega arith
+
 -- no new table
 abbrev Plain : Move → Type 0
-Plain v = v.fills ≡ 0
+Plain v = v.fills ≡ filling.Stays
 
 -- ---- what follows a round that closed
 
 module _ (me result : ℕ) (l : Local) where
   -- a new table is written after a checking round, where the result is 0
   abbrev Written : Move → Type 0
-  Written v = v.fills ≡ 2 → (eqb l.round.purpose 3 ≡ true) × (eqb result 0 ≡ true)
+  Written v = v.fills ≡ filling.Table → (eqb l.round.purpose 3 ≡ true) × (eqb result 0 ≡ true)
 
-  plain_written : (v : Move) → v.fills ≡ 0 → Written v
-  plain_written v e h = absurd (omega arith)
+  plain_written : (v : Move) → v.fills ≡ filling.Stays → Written v
+  plain_written v e h = absurd (apart (sym e ∙ h))
 
   closed_written : Written (closed_move me result l)
   closed_written = go (eqb l.round.purpose 1) refl (eqb l.round.purpose 2) refl (eqb l.round.purpose 3) refl (eqb result 0) refl
     where
       go : (x : Bool) → eqb l.round.purpose 1 ≡ x → (y : Bool) → eqb l.round.purpose 2 ≡ y → (z : Bool) → eqb l.round.purpose 3 ≡ z
           → (w : Bool) → eqb result 0 ≡ w → Written (closed_move me result l)
-      go true e y d z c w a = plain_written (closed_move me result l) (unfold closed_move writing_move chosen in rw (closed_move, e))
-      go false e true d z c w a = plain_written (closed_move me result l) (unfold closed_move reading_move chosen in rw (closed_move, e, d))
+      go true e y d z c w a = plain_written (closed_move me result l) (unfold closed_move writing_move in rw (closed_move, e))
+      go false e true d z c w a = plain_written (closed_move me result l) (unfold closed_move reading_move in rw (closed_move, e, d))
       go false e false d true c true a = λ h. (c, a)
       go false e false d true c false a = plain_written (closed_move me result l) (unfold closed_move after_read_move finished_move in rw (closed_move, e, d, c, after_read_move, a))
       go false e false d false c w a = plain_written (closed_move me result l) (unfold closed_move finished_move in rw (closed_move, e, d, c))
@@ -49,28 +56,26 @@ module _ (me result : ℕ) (l : Local) where
 -- ---- a reply
 
 -- a message's content is no new table
-fetched_fills : (better : Bool) (x : ℕ) → chosen better 3 x ≡ 2 → x ≡ 2
-unfolding chosen
-fetched_fills true x h = absurd (omega arith)
+fetched_fills : (better : Bool) (x : Filling) → (if better then filling.Message else x) ≡ filling.Table → x ≡ filling.Table
+fetched_fills true x h = let z : ◌≡◌ {A = ℕ} 0 1 = cc in absurd (omega arith)
 fetched_fills false x h = h
 
 module _ (n me result : ℕ) (l : Local) where
-  counted_written : (k : Counted) → (counted_move n me result k l).fills ≡ 2
+  counted_written : (k : Counted) → (counted_move n me result k l).fills ≡ filling.Table
       → (closes n (open_in n k.round []) ≡ true) × (eqb k.round.purpose 3 ≡ true) × (eqb result 0 ≡ true)
   counted_written k = go (closes n (open_in n k.round [])) refl (fails n (open_in n k.round [])) refl
     where
-      go : (x : Bool) → closes n (open_in n k.round []) ≡ x → (y : Bool) → fails n (open_in n k.round []) ≡ y → (counted_move n me result k l).fills ≡ 2
+      go : (x : Bool) → closes n (open_in n k.round []) ≡ x → (y : Bool) → fails n (open_in n k.round []) ≡ y → (counted_move n me result k l).fills ≡ filling.Table
           → (closes n (open_in n k.round []) ≡ true) × (eqb k.round.purpose 3 ≡ true) × (eqb result 0 ≡ true)
       go true e y d h =
           let w = with_round k.round l in
-          let g : chosen k.better 3 (closed_move me result w).fills ≡ 2 = unfold counted_move fetching in (rw (counted_move, e) at h) in
+          let g : (if k.better then filling.Message else (closed_move me result w).fills) ≡ filling.Table = unfold counted_move fetching in (rw (counted_move, e) at h) in
           let (p, z) = closed_written me result w (fetched_fills k.better (closed_move me result w).fills g) in
           (e, p, z)
-      go false e true d h = let g : ◌≡◌ {A = ℕ} 0 2 = unfold counted_move in (rw (counted_move, e, d) at h) in absurd (omega arith)
+      go false e true d h = let g : filling.Stays ≡ filling.Table = unfold counted_move in (rw (counted_move, e, d) at h) in absurd (apart g)
       go false e false d h =
-          let g : chosen k.better 3 0 ≡ 2 = unfold counted_move fetching in (rw (counted_move, e, d) at h) in
-          let z = fetched_fills k.better 0 g in
-          absurd (omega arith)
+          let g : (if k.better then filling.Message else filling.Stays) ≡ filling.Table = unfold counted_move fetching in (rw (counted_move, e, d) at h) in
+          absurd (apart (fetched_fills k.better filling.Stays g))
 
   counted_purpose : (q mark : ℕ) (report : Version) (r : Round) → (counted_of n q mark report r).round.purpose ≡ r.purpose
   unfolding counted_of
@@ -86,17 +91,17 @@ module _ (n me result : ℕ) (l : Local) where
     unfolding reads_by
     reads_so mark reports o e c = rw (reads_by, o, e, c)
 
-    reply_written : (mark : ℕ) (reports : Bool) → (reply_move n me result mark (pick_version reports m.version no_version) m l).fills ≡ 2 → Asks (Reply mark reports)
+    reply_written : (mark : ℕ) (reports : Bool) → (reply_move n me result mark (pick_version reports m.version no_version) m l).fills ≡ filling.Table → Asks (Reply mark reports)
     reply_written mark reports = go (matching m.election m.round (round_in n l.round [])) refl
       where
         go : (x : Bool) → matching m.election m.round (round_in n l.round []) ≡ x
-            → (reply_move n me result mark (pick_version reports m.version no_version) m l).fills ≡ 2 → Asks (Reply mark reports)
+            → (reply_move n me result mark (pick_version reports m.version no_version) m l).fills ≡ filling.Table → Asks (Reply mark reports)
         go true e h =
             let report = pick_version reports m.version no_version in
             let (c, p, z) = counted_written (counted_of n m.sender mark report l.round) (unfold reply_move in (rw (reply_move, e) at h)) in
             let same = counted_purpose m.sender mark report l.round in
             (reads_so mark reports (sym (ap (λ x. eqb x 3) same) ∙ p) e c, z)
-        go false e h = let g : ◌≡◌ {A = ℕ} 0 2 = unfold reply_move in (rw (reply_move, e) at h) in absurd (omega arith)
+        go false e h = let g : filling.Stays ≡ filling.Table = unfold reply_move in (rw (reply_move, e) at h) in absurd (apart g)
 
     -- ---- other messages
 
@@ -112,14 +117,14 @@ module _ (n me result : ℕ) (l : Local) where
     unfolding request_move
     plain_request writes = either Plain (may_accept m.election (stored_in l.head [])) _ _ (plain_stepped _ (either Plain writes _ _ refl refl)) refl
 
-    handling_written : (x : Handling) → (handling_move n me result m l x).fills ≡ 2 → Asks x
+    handling_written : (x : Handling) → (handling_move n me result m l x).fills ≡ filling.Table → Asks x
     unfolding handling_move
-    handling_written (Vote kind) h = let g = plain_voting kind in absurd (omega arith)
-    handling_written (Request writes) h = let g = plain_request writes in absurd (omega arith)
+    handling_written (Vote kind) h = absurd (apart (sym (plain_voting kind) ∙ h))
+    handling_written (Request writes) h = absurd (apart (sym (plain_request writes) ∙ h))
     handling_written (Reply mark reports) h = reply_written mark reports h
-    handling_written Other h = absurd (omega arith)
+    handling_written Other h = absurd (apart h)
 
-    pub handled_written : (handled_move n me result m l).fills ≡ 2 → (reads_table n m l ≡ true) × (eqb result 0 ≡ true)
+    pub handled_written : (handled_move n me result m l).fills ≡ filling.Table → (reads_table n m l ≡ true) × (eqb result 0 ≡ true)
     unfolding handled_move reads_table
     handled_written h = handling_written (handling_in m.kind) h
 

@@ -10,7 +10,6 @@ use Rattle.model.specs.Cluster as cluster
 use Rattle.model.specs.Lines as lines
 use Rattle.limits.proofs.Lists.{map-replicate_lem}
 use Rattle.cells.specs.Cells.{Front, Cell}
-use Rattle.server.specs.declared.Effect.{Effect}
 use Rattle.server.specs.Views.{flag_in, role_in, among, round_in, call_in}
 use Rattle.memory.specs.Rows.{row}
 use Rattle.memory.specs.Layout.{slot_of, head_of, version_of, round_of, call_of, head_at, version_at, round_at, call_at, counts_at, put_counts, content_at, fresh_places}
@@ -21,8 +20,8 @@ use Rattle.views.specs.Memory.{Memory, memory, Sized, each, table_at, cell_at, s
 use Rattle.views.specs.Changes.{answers_at}
 use Rattle.views.proofs.Each.{each_same}
 use Rattle.plans.specs.Arrays.{Measured}
-use Rattle.runs.specs.Runs.{fresh_counts, fresh_memory, refused_run, created_run, cluster_run}
-use Rattle.runs.specs.Meaning.{state_in, result_of}
+use Rattle.runs.specs.Runs.{fresh_counts, fresh_memory, created_run, cluster_run}
+use Rattle.runs.specs.Meaning.{state_in, result_by, result_of}
 use Rattle.runs.proofs.Standing.{measured_standing, standing_cluster, no_cluster}
 
 -- ---- zeros
@@ -141,13 +140,13 @@ module _ (m : Memory) (n b : ℕ) (sized : Sized m) where
 
 -- ---- the cluster line
 
-module _ (m : Memory) (l : List ℕ) (n b : ℕ) (f : Effect) where
-  zero_created : Sized m → lines.create_cluster (state_in m (lines.initial_state).tally) (lines.cluster n b) ≡ result_of (lines.initial_state).tally (created_run m l n b) f
-  unfolding lines.create_cluster result_of created_run refused_run answers_at each
+module _ (m : Memory) (l : List ℕ) (n b : ℕ) where
+  zero_created : Sized m → lines.create_cluster (state_in m (lines.initial_state).tally) (lines.cluster n b) ≡ result_of (lines.initial_state).tally (created_run m l n b)
+  unfolding lines.create_cluster result_by created_run answers_at each
   zero_created sized = go (within max_servers n) refl (within max_buckets b) refl
     where
       go : (x : Bool) → within max_servers n ≡ x → (y : Bool) → within max_buckets b ≡ y
-          → lines.create_cluster (state_in m (lines.initial_state).tally) (lines.cluster n b) ≡ result_of (lines.initial_state).tally (created_run m l n b) f
+          → lines.create_cluster (state_in m (lines.initial_state).tally) (lines.cluster n b) ≡ result_of (lines.initial_state).tally (created_run m l n b)
       go false p y q = rw (lines.create_cluster, created_run, p)
       go true p false q = rw (lines.create_cluster, created_run, p, q)
       go true p true q =
@@ -156,10 +155,10 @@ module _ (m : Memory) (l : List ℕ) (n b : ℕ) (f : Effect) where
           rw (lines.create_cluster, created_run, p, q, fresh_cluster_lem m n b sized low high some-there few)
 
   pub created_means : Sized m → (t : lines.Tally) → t ≡ (lines.initial_state).tally → standing (counts_at m.counts) ≡ false
-      → lines.perform (state_in m t) (lines.cluster n b) ≡ result_of t (cluster_run m l n b) f
+      → lines.perform (state_in m t) (lines.cluster n b) ≡ result_of t (cluster_run m l n b)
   unfolding lines.perform_up_to cluster_run
   created_means sized t fresh none-stands = rw (lines.perform_up_to, cluster_run, no_cluster m none-stands, none-stands, fresh) (zero_created sized)
 
-  pub second_cluster : (t : lines.Tally) → standing (counts_at m.counts) ≡ true → lines.perform (state_in m t) (lines.cluster n b) ≡ result_of t (cluster_run m l n b) f
-  unfolding lines.perform_up_to lines.in_cluster_up_to lines.conditions_up_to lines.first_of cluster_run result_of refused_run
+  pub second_cluster : (t : lines.Tally) → standing (counts_at m.counts) ≡ true → lines.perform (state_in m t) (lines.cluster n b) ≡ result_of t (cluster_run m l n b)
+  unfolding lines.perform_up_to lines.in_cluster_up_to lines.conditions_up_to lines.first_of cluster_run result_by
   second_cluster t stands = rw (lines.perform_up_to, cluster_run, standing_cluster m stands, stands)

@@ -1,4 +1,5 @@
 -- `deliver` and `copy`: the run of a message handed over is what the definitions make of the line.
+use Rattle.std.specs.Prelude.{Result, Ok}
 use Rattle.std.proofs.Common.{◌≡◌, ℕ, zero, suc, ◌<◌, ◌≤◌, min, Bool, true, false, leb, ◌≢◌, List, [], ◌∷◌, length, sym, refl, ap, ◌∙◌, subst, ap₂, arith}
 use borrow.Author.Tests.{lt-leb}
 use Rattle.entries.specs.Decoded.{table_in, value_bytes}
@@ -17,9 +18,11 @@ use Rattle.rounds.specs.Rounds.{no_version, pick_version, pick_table, matching}
 use Rattle.rounds.proofs.RoundLaws.{matching_shut, unmatched}
 use Rattle.memory.specs.declared.Counts.{Counts}
 use Rattle.memory.specs.Layout.{slot_of, counts_at, head_at, place_at, message_at}
+use Rattle.refusals.specs.declared.Refusal.{Refusal}
 use Rattle.refusals.specs.Refusals.{message_refusal, no_receiver}
 use Rattle.moves.specs.declared.Local.{Local}
 use Rattle.moves.specs.declared.Move.{Move}
+use Rattle.moves.specs.declared.Filling.TheVariants as filling
 use Rattle.moves.specs.Moves.{reply_move, handled_move, reads_table}
 use Rattle.moves.specs.Reactions.{Tables, best_in, message_in, asked_in, reaction_in}
 use Rattle.moves.proofs.CallMoves.{writes_so}
@@ -180,7 +183,7 @@ module _ {m : Memory} {l : List ℕ} {t : lines.Tally} (ready : Ready m l t) (i 
       unfolding lines.delivery
       delivered e = rw (lines.delivery, receiver_stopped ∙ e, handled_there) (ap (λ q. work_of m (step_at q) reaction) (sym to))
 
-      fitting : move.fills ≡ 2 → Fits (table_in f.table)
+      fitting : move.fills ≡ filling.Table → Fits (table_in f.table)
       fitting h =
           let (r, z) = handled_written n s f.result here_local asked h in
           let call = call_open ready s b mine ours (reads_table_open n asked here_local r) in
@@ -228,10 +231,10 @@ module _ (m : Memory) (l : List ℕ) (t : lines.Tally) (ready : Ready m l t) (i 
   abbrev part : ℕ
   part = min 7 (message_at m.queue i).bucket
 
-  abbrev plan : Plan
+  abbrev plan : Result Plan Refusal
   plan = hand_plan counts (message_step counts i removes (message_at m.queue i)) (message_at m.queue i) (receiver_at m i) f
 
-  module _ (here : i < counts.messages) (taken : message_refusal counts i ≡ 0) where
+  module _ (here : i < counts.messages) (taken : message_refusal counts i ≡ Ok tt) where
     to : target ≡ (message_at m.queue i).receiver
     to = omega (arith, (message_within ready i here).receiver, (measured ready).servers)
 
@@ -242,11 +245,11 @@ module _ (m : Memory) (l : List ℕ) (t : lines.Tally) (ready : Ready m l t) (i 
     among_servers = lt-leb counts.servers (message_at m.queue i).receiver (message_within ready i here).receiver
 
     handed_by : (z : Bool) → flag_in (head_at m.heads target).stopped ≡ z
-        → lines.accept_line (state_in m t) (lines.delivery (cluster_at m) (message ready i here) (kept_messages removes i (cluster_at m).messages) (chosen removes 0 1)) ≡ planned m l t counts f plan
+        → lines.accept_line (state_in m t) (lines.delivery (cluster_at m) (message ready i here) (kept_messages removes i (cluster_at m).messages) (chosen removes 0 1)) ≡ planned m l t counts plan
     unfolding hand_plan gone no_receiver
     handed_by true e =
         ap (lines.accept_line (state_in m t)) (lost ready i here removes target to e)
-        ∙ (lost_run_lem m l t counts i removes f ready refl (λ h. here) ∙ rw (hand_plan, gone, no_receiver, among_servers, e))
+        ∙ (lost_run_lem m l t counts i removes ready refl (λ h. here) ∙ rw (hand_plan, gone, no_receiver, among_servers, e))
     handed_by false e =
         let reads = effect taken (rw (gone, no_receiver, among_servers, e)) in
         let x = step ready i here removes target to f part on reads in
@@ -254,9 +257,9 @@ module _ (m : Memory) (l : List ℕ) (t : lines.Tally) (ready : Ready m l t) (i 
         ap (lines.accept_line (state_in m t)) (delivered ready i here removes target to f part on reads e)
         ∙ (moved_run m l t counts x v f ready (possible ready i here removes target to f part on reads) ∙ rw (hand_plan, gone, no_receiver, among_servers, e))
 
-  handed : message_refusal counts i ≡ 0 → i < counts.messages
+  handed : message_refusal counts i ≡ Ok tt → i < counts.messages
       → judged (state_in m t) [] (lines.delivery (cluster_at m) (lines.message_at (cluster_at m) i) (kept_messages removes i (cluster_at m).messages) (chosen removes 0 1))
-      ≡ planned m l t counts f plan
+      ≡ planned m l t counts plan
   unfolding lines.first_of
   handed taken here =
       let kept = kept_messages removes i (cluster_at m).messages in
@@ -264,9 +267,9 @@ module _ (m : Memory) (l : List ℕ) (t : lines.Tally) (ready : Ready m l t) (i 
       ∙ handed_by here taken (flag_in (head_at m.heads target).stopped) refl
 
   pub hand_runs : lines.perform (state_in m t) (elim removes [ true ↦ lines.deliver i | false ↦ lines.copy i ])
-      ≡ result_of t (executed m l (counts_at m.counts) (hand_at m (counts_at m.counts) i removes f)) f
+      ≡ result_of t (executed m l (counts_at m.counts) (hand_at m (counts_at m.counts) i removes f))
   unfolding hand_at
   hand_runs =
       ready_perform ready (hand_line removes i)
       ∙ (ap₂ (judged (state_in m t)) (hand_conditions (cluster_at m) i removes) (hand_work (cluster_at m) i removes)
-      ∙ message_judged m l t f [] _ plan ready i handed)
+      ∙ message_judged m l t [] _ plan ready i handed)

@@ -13,8 +13,8 @@ use Rattle.parse.specs.declared.Kind.TheVariants as K
 use Rattle.parse.specs.declared.Line.{Line}
 use Rattle.parse.specs.Kept.{key_in, given_in}
 use Rattle.parse.specs.Meaning.{line_for, expected_item, new_item, line_in}
-use Rattle.runs.specs.Runs.{refused_run, executed, line_plan, planned_run, run_by, line_run, EffectOf}
-use Rattle.runs.specs.Meaning.{state_in, Bounded, performed, result_of, WholeLine}
+use Rattle.runs.specs.Runs.{executed, line_plan, planned_run, run_by, line_run, EffectOf}
+use Rattle.runs.specs.Meaning.{state_in, Bounded, performed, result_by, result_of, WholeLine}
 use Rattle.runs.proofs.Accepting.{Ready}
 use Rattle.runs.proofs.Standing.{standing_cluster, no_cluster}
 use Rattle.runs.proofs.Fresh.{created_means, second_cluster}
@@ -32,7 +32,7 @@ module _ (m : Memory) (l : List ℕ) (t : lines.Tally) (x : Line) (f : Effect) w
   reads k = line_for k x.first x.second (key_in x.key) (given_in (expected_item x)) (given_in (new_item x))
 
   abbrev Means : Kind → Type 0
-  Means k = performed (state_in m t) (reads k) ≡ result_of t (run_by k m l x f) f
+  Means k = performed (state_in m t) (reads k) ≡ result_of t (run_by k m l x f)
 
   -- ---- where a cluster stands
 
@@ -42,18 +42,18 @@ module _ (m : Memory) (l : List ℕ) (t : lines.Tally) (x : Line) (f : Effect) w
     planned_is k e = rw (planned_run, stands, e)
 
     -- a line that needs a cluster
-    by_plan : (k : Kind) → x.kind ≡ k → performed (state_in m t) (reads k) ≡ result_of t (executed m l counts (line_plan k m counts x f)) f
-        → performed (state_in m t) (reads k) ≡ result_of t (planned_run m l x f) f
-    by_plan k e h = h ∙ ap (λ y. result_of t y f) (sym_planned k e)
+    by_plan : (k : Kind) → x.kind ≡ k → performed (state_in m t) (reads k) ≡ result_of t (executed m l counts (line_plan k m counts x f))
+        → performed (state_in m t) (reads k) ≡ result_of t (planned_run m l x f)
+    by_plan k e h = h ∙ ap (result_of t) (sym_planned k e)
       where
         sym_planned : (k : Kind) → x.kind ≡ k → executed m l counts (line_plan k m counts x f) ≡ planned_run m l x f
         sym_planned k e = rw (planned_is k e)
 
     standing_means : (k : Kind) → x.kind ≡ k → EffectOf k m counts x f → Means k
-    unfolding run_by performed result_of refused_run line_for line_plan
+    unfolding run_by performed result_by line_for line_plan
     standing_means K.Malformed e g = refl
-    standing_means K.Cluster e g = second_cluster m l x.first x.second f t stands
-    standing_means K.Elect e g = by_plan K.Elect e (elect_runs m l t f ready x.first)
+    standing_means K.Cluster e g = second_cluster m l x.first x.second t stands
+    standing_means K.Elect e g = by_plan K.Elect e (elect_runs m l t ready x.first)
     standing_means K.Get e g = by_plan K.Get e (call_runs m l t ready x.first _ _ (get_said x whole) f g)
     standing_means K.Set e g = by_plan K.Set e (call_runs m l t ready x.first _ _ (set_said x whole) f g)
     standing_means K.SetIf e g = by_plan K.SetIf e (call_runs m l t ready x.first _ _ (setif_said x whole) f g)
@@ -61,24 +61,24 @@ module _ (m : Memory) (l : List ℕ) (t : lines.Tally) (x : Line) (f : Effect) w
     standing_means K.Keys e g = by_plan K.Keys e (call_runs m l t ready x.first _ _ (keys_said x whole) f g)
     standing_means K.Deliver e g = by_plan K.Deliver e (hand_runs m l t ready x.first true f g)
     standing_means K.Copy e g = by_plan K.Copy e (hand_runs m l t ready x.first false f g)
-    standing_means K.Lose e g = by_plan K.Lose e (lose_runs m l t f ready x.first)
-    standing_means K.Timeout e g = by_plan K.Timeout e (timeout_runs m l t f ready x.first x.second)
-    standing_means K.Stop e g = by_plan K.Stop e (stop_runs m l t f ready x.first)
-    standing_means K.Cut e g = by_plan K.Cut e (cut_runs m l t ready x.first x.second f)
-    standing_means K.Start e g = by_plan K.Start e (start_runs m l t f ready x.first)
+    standing_means K.Lose e g = by_plan K.Lose e (lose_runs m l t ready x.first)
+    standing_means K.Timeout e g = by_plan K.Timeout e (timeout_runs m l t ready x.first x.second)
+    standing_means K.Stop e g = by_plan K.Stop e (stop_runs m l t ready x.first)
+    standing_means K.Cut e g = by_plan K.Cut e (cut_runs m l t ready x.first x.second)
+    standing_means K.Start e g = by_plan K.Start e (start_runs m l t ready x.first)
 
   -- ---- where none does
 
   module _ (none-stands : standing counts ≡ false) (sized : Sized m) (zero-tally : t ≡ (lines.initial_state).tally) where
     -- 2 for every line but the cluster line
-    two : (y : lines.Line) → lines.create_cluster (state_in m t) y ≡ lines.refuse (state_in m t) 2 → lines.perform (state_in m t) y ≡ result_of t (planned_run m l x f) f
-    unfolding planned_run result_of refused_run lines.perform_up_to
+    two : (y : lines.Line) → lines.create_cluster (state_in m t) y ≡ lines.refuse (state_in m t) 2 → lines.perform (state_in m t) y ≡ result_of t (planned_run m l x f)
+    unfolding planned_run result_by lines.perform_up_to
     two y h = rw (lines.perform_up_to, no_cluster m none-stands, planned_run, none-stands) h
 
     bare_means : (k : Kind) → Means k
-    unfolding run_by performed result_of refused_run line_for lines.create_cluster
+    unfolding run_by performed result_by line_for lines.create_cluster
     bare_means K.Malformed = refl
-    bare_means K.Cluster = created_means m l x.first x.second f sized t zero-tally none-stands
+    bare_means K.Cluster = created_means m l x.first x.second sized t zero-tally none-stands
     bare_means K.Elect = two _ refl
     bare_means K.Get = two _ refl
     bare_means K.Set = two _ refl
@@ -96,11 +96,11 @@ module _ (m : Memory) (l : List ℕ) (t : lines.Tally) (x : Line) (f : Effect) w
 -- every line, on arrays of the lent sizes that stand for a state within the measures
 pub line_means : (m : Memory) (l : List ℕ) (t : lines.Tally) (x : Line) (f : Effect) → Sized m → length l ≡ answers_room → WholeLine x → Bounded m t
     → (standing (counts_at m.counts) ≡ true → EffectOf x.kind m (counts_at m.counts) x f)
-    → performed (state_in m t) (line_in x) ≡ result_of t (line_run m l x f) f
+    → performed (state_in m t) (line_in x) ≡ result_of t (line_run m l x f)
 unfolding line_in line_run
 line_means m l t x f sized answers whole bounded asked = go (standing (counts_at m.counts)) refl
   where
-    go : (b : Bool) → standing (counts_at m.counts) ≡ b → performed (state_in m t) (line_in x) ≡ result_of t (line_run m l x f) f
+    go : (b : Bool) → standing (counts_at m.counts) ≡ b → performed (state_in m t) (line_in x) ≡ result_of t (line_run m l x f)
     go true s =
         let ready : Ready m l t = record { sized = sized; ordered = bounded.ordered s; answers = answers; standing = s; stands = subst (λ o. Measured o t) (standing_cluster m s) bounded.measured } in
         standing_means m l t x f s ready whole x.kind refl (asked s)

@@ -3,7 +3,6 @@ use Rattle.std.proofs.Common.{◌≡◌, ℕ, ◌+◌, ◌-◌, ◌%◌, ◌^◌
 use mathlib.Core.Option.{some}
 use Rattle.model.specs.Measures.{max_accepted}
 use Rattle.model.specs.Lines as lines
-use Rattle.server.specs.declared.Effect.{Effect}
 use Rattle.server.specs.Views.{chosen}
 use Rattle.memory.specs.declared.Counts.{Counts}
 use Rattle.blocks.specs.Order.{Ordered}
@@ -15,6 +14,8 @@ use Rattle.views.specs.Queue.{Sound, flight, flight_in, without_message}
 use Rattle.views.proofs.Queue.{removed_flight, removed_sound, removed_count, length_flight}
 use Rattle.plans.specs.declared.Step.{Step}
 use Rattle.plans.specs.Arrays.{Measured}
+use Rattle.plans.specs.Plans.{no_effect}
+use Rattle.runs.specs.declared.Report.{Report}
 use Rattle.runs.specs.Runs.{next_counts, left_flight, lost_run}
 use Rattle.runs.specs.Meaning.{state_in}
 use Rattle.runs.proofs.Accepting.{Ready, kept_messages, LosesMessage}
@@ -71,18 +72,20 @@ servers_beside n most m c q l = refl
 
 -- ---- a message is lost
 
-module _ (m : Memory) (l : List ℕ) (t : lines.Tally) (x : Step) (f : Effect) (ready : Ready m l t) where
+module _ (m : Memory) (l : List ℕ) (t : lines.Tally) (x : Step) (ready : Ready m l t) where
   abbrev c : Counts
   c = counts_at m.counts
 
+  abbrev report : Report
+  report = record { effect = no_effect; answers = 0; sent = 0; copied = x.copied; delivered = 0; lost = 1; messages = (left_flight m c x).count }
+
   lost_does : x.calls ≡ c.calls → (x.removes ≡ true → x.index < c.messages)
-      → Does (lines.lost_message (cluster_at m) (kept_messages x.removes x.index (cluster_at m).messages) x.copied) (lost_run m l c x) f
+      → Does (lines.lost_message (cluster_at m) (kept_messages x.removes x.index (cluster_at m).messages) x.copied) (lost_run m l c x).memory l report
   unfolding lost_run answers_at each
   lost_does calls there =
       let sound = left_sound m c x ready.sized ready.ordered (measured ready).messages there in
       let same = left_messages m c x ready.sized ready.ordered (measured ready).messages there in
       record {
-        taken = refl;
         cluster =
             next_cluster m (lost_run m l c x).memory c (left_flight m c x).count x.calls ready.sized.counts (measured ready) ready.stands.accepted sound.count refl
             ∙ rw (servers_beside, same, calls);
@@ -95,7 +98,9 @@ module _ (m : Memory) (l : List ℕ) (t : lines.Tally) (x : Step) (f : Effect) (
         answers = refl;
       }
 
-pub loses_message : (m : Memory) (l : List ℕ) (t : lines.Tally) (c : Counts) (x : Step) (f : Effect) → Ready m l t → c ≡ counts_at m.counts → LosesMessage m l t c x f
-loses_message m l t c x f ready e =
-    subst (λ (c : Counts). LosesMessage m l t c x f) (sym e)
-    (λ calls there. accepts_line (state_in m t) _ (lost_run m l (counts_at m.counts) x) f (lost_does m l t x f ready calls there))
+lost_accepts : (m : Memory) (l : List ℕ) (t : lines.Tally) (x : Step) → Ready m l t → LosesMessage m l t (counts_at m.counts) x
+unfolding lost_run
+lost_accepts m l t x ready calls there = accepts_line (state_in m t) _ _ _ (report m l t x ready) (lost_does m l t x ready calls there)
+
+pub loses_message : (m : Memory) (l : List ℕ) (t : lines.Tally) (c : Counts) (x : Step) → Ready m l t → c ≡ counts_at m.counts → LosesMessage m l t c x
+loses_message m l t c x ready e = subst (λ (c : Counts). LosesMessage m l t c x) (sym e) (lost_accepts m l t x ready)

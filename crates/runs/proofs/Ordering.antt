@@ -1,4 +1,5 @@
 -- The order of the messages names no place twice after any line, whatever the line does.
+use Rattle.std.specs.Prelude.{Result, Ok, Err}
 use Rattle.std.proofs.Common.{◌≡◌, ℕ, ◌≤◌, Bool, true, false, eqb, List, length, sym, refl, ap, ◌∙◌, subst}
 use Rattle.blocks.specs.Order.{Ordered}
 use Rattle.table.specs.Form.{within}
@@ -9,16 +10,18 @@ use Rattle.server.specs.declared.Effect.{Effect}
 use Rattle.memory.specs.declared.Counts.{Counts}
 use Rattle.memory.specs.Layout.{slot_of, queue_length, counts_at, order_of}
 use Rattle.messages.proofs.MessageLaws.{ordered_fresh}
+use Rattle.refusals.specs.declared.Refusal.{Refusal}
 use Rattle.moves.specs.declared.Move.{Move}
 use Rattle.views.specs.Memory.{Memory, standing}
 use Rattle.views.specs.Queue.{flight}
 use Rattle.views.proofs.Queue.{sent_order, left_order}
 use Rattle.plans.specs.declared.Step.{Step}
 use Rattle.plans.specs.declared.Plan.{Plan}
+use Rattle.plans.specs.declared.Plan.TheVariants.{Loses, Moves, Takes}
 use Rattle.parse.specs.declared.Kind.{Kind}
 use Rattle.parse.specs.declared.Kind.TheVariants as K
 use Rattle.parse.specs.declared.Line.{Line}
-use Rattle.runs.specs.Runs.{left_flight, moved_at, refused_run, lost_run, carried_run, taken, executed, fresh_memory, created_run, cluster_run, planned_run, run_by, line_run}
+use Rattle.runs.specs.Runs.{left_flight, moved_at, refused_run, lost_run, carried_run, taken, accepted, executed, fresh_memory, created_run, cluster_run, planned_run, run_by, line_run}
 use Rattle.runs.proofs.Standing.{standing_measured}
 
 -- ---- where a cluster stands
@@ -27,9 +30,9 @@ module _ (m : Memory) (l : List ℕ) (c : Counts) (size : length m.queue ≡ que
   left_ordered : (x : Step) → Ordered (order_of (left_flight m c x).queue)
   left_ordered x = left_order x.removes x.index (flight m.queue m.payloads c.messages) size few ordered
 
-  carried_ordered : (x : Step) (v : Move) (made : List Entry) → Ordered (order_of (carried_run m l c x v made).memory.queue)
+  carried_ordered : (x : Step) (v : Move) (made : List Entry) (f : Effect) → Ordered (order_of (carried_run m l c x v made f).memory.queue)
   unfolding carried_run
-  carried_ordered x v made =
+  carried_ordered x v made f =
       subst Ordered
       (sym (sent_order c.servers x.server x.bucket (slot_of x.server x.bucket) x.asked v (moved_at m c x v made).working (moved_at m c x v made).copies (left_flight m c x)))
       (left_ordered x)
@@ -38,25 +41,14 @@ module _ (m : Memory) (l : List ℕ) (c : Counts) (size : length m.queue ≡ que
   unfolding lost_run
   lost_ordered x = left_ordered x
 
-taken_queue : (m : Memory) (p : Plan) → (taken m p).queue ≡ m.queue
-unfolding taken
-taken_queue m p = go p.takes refl
-  where
-    go : (b : Bool) → p.takes ≡ b → (taken m p).queue ≡ m.queue
-    go true e = rw (taken, e)
-    go false e = rw (taken, e)
-
-executed_ordered : (m : Memory) (l : List ℕ) (c : Counts) (p : Plan) → length m.queue ≡ queue_length → c.messages ≤ 64 → Ordered (order_of m.queue)
+executed_ordered : (m : Memory) (l : List ℕ) (c : Counts) (p : Result Plan Refusal) → length m.queue ≡ queue_length → c.messages ≤ 64 → Ordered (order_of m.queue)
     → Ordered (order_of (executed m l c p).memory.queue)
-unfolding executed refused_run
-executed_ordered m l c p size few ordered = go (eqb p.refusal 0) refl p.loses refl
-  where
-    go : (r : Bool) → eqb p.refusal 0 ≡ r → (b : Bool) → p.loses ≡ b → Ordered (order_of (executed m l c p).memory.queue)
-    go false e b h = rw (executed, e) ordered
-    go true e true h = rw (executed, e, h) (lost_ordered m l c size few ordered p.step)
-    go true e false h =
-        let q = taken_queue m p in
-        rw (executed, e, h) (carried_ordered (taken m p) l c (ap length q ∙ size) few (subst (λ o. Ordered (order_of o)) (sym q) ordered) p.step p.next (table_in p.effect.table))
+unfolding executed accepted taken
+executed_ordered m l c (Err r) size few ordered = ordered
+executed_ordered m l c (Ok (Loses x)) size few ordered = lost_ordered m l c size few ordered x
+executed_ordered m l c (Ok (Moves p)) size few ordered = carried_ordered m l c size few ordered p.step p.next (table_in p.effect.table) p.effect
+executed_ordered m l c (Ok (Takes w p)) size few ordered =
+    carried_ordered (taken m w p.step) l c size few ordered p.step p.next (table_in p.effect.table) p.effect
 
 -- ---- any line
 
@@ -65,7 +57,7 @@ Orders m = standing (counts_at m.counts) ≡ true → Ordered (order_of m.queue)
 
 module _ (m : Memory) (l : List ℕ) (x : Line) (f : Effect) (size : length m.queue ≡ queue_length) (orders : Orders m) where
   planned_orders : Orders (planned_run m l x f).memory
-  unfolding planned_run refused_run
+  unfolding planned_run
   planned_orders = go (standing (counts_at m.counts)) refl
     where
       go : (b : Bool) → standing (counts_at m.counts) ≡ b → Orders (planned_run m l x f).memory
@@ -73,7 +65,7 @@ module _ (m : Memory) (l : List ℕ) (x : Line) (f : Effect) (size : length m.qu
       go false e = rw (planned_run, e) orders
 
   cluster_orders : (n b : ℕ) → Orders (cluster_run m l n b).memory
-  unfolding cluster_run created_run refused_run fresh_memory
+  unfolding cluster_run created_run fresh_memory
   cluster_orders n b = go (standing (counts_at m.counts)) refl (within max_servers n) refl (within max_buckets b) refl
     where
       go : (z : Bool) → standing (counts_at m.counts) ≡ z → (y : Bool) → within max_servers n ≡ y → (u : Bool) → within max_buckets b ≡ u → Orders (cluster_run m l n b).memory
@@ -83,7 +75,7 @@ module _ (m : Memory) (l : List ℕ) (x : Line) (f : Effect) (size : length m.qu
       go false e true g true h = rw (cluster_run, e, created_run, g, h) (λ s. ordered_fresh m.queue size)
 
   by_kind : (k : Kind) → Orders (run_by k m l x f).memory
-  unfolding run_by refused_run
+  unfolding run_by
   by_kind K.Malformed = orders
   by_kind K.Cluster = cluster_orders x.first x.second
   by_kind K.Elect = planned_orders

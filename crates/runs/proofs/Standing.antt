@@ -1,19 +1,20 @@
 -- Counts of a cluster that stands, and what an accepted line has to agree in.
 use Rattle.std.proofs.Common.{◌≡◌, ℕ, ◌≤◌, Bool, true, false, leb, List, length, sym, refl, ◌∙◌, arith, le-leb, leb-true}
+use Rattle.std.specs.Prelude.{Ok}
 use mathlib.Core.Option.{none, some}
 use Rattle.entries.specs.Decoded.{table_in, value_bytes}
 use Rattle.table.specs.Form.{within}
 use Rattle.table.proofs.Fitting.{within_parts, within_from}
 use Rattle.model.specs.Measures.{max_servers, max_buckets, max_messages}
 use Rattle.model.specs.Lines as lines
-use Rattle.server.specs.declared.Effect.{Effect}
 use Rattle.memory.specs.declared.Counts.{Counts}
 use Rattle.memory.specs.Layout.{counts_at}
 use Rattle.views.specs.Memory.{Memory, standing, cluster_at, cluster_in}
 use Rattle.views.specs.Changes.{answers_at}
 use Rattle.plans.specs.Arrays.{Measured}
-use Rattle.runs.specs.Runs.{Ran}
-use Rattle.runs.specs.Meaning.{result_of}
+use Rattle.runs.specs.declared.Report.{Report}
+use Rattle.runs.specs.Runs.{ran}
+use Rattle.runs.specs.Meaning.{result_by, result_of}
 use Rattle.runs.proofs.Accepting.{Ready}
 
 -- ---- counts
@@ -55,23 +56,22 @@ no_cluster m e = rw (cluster_in, e)
 
 -- ---- an accepted line
 
--- a run of a line is the work w of the definitions
-pub record Does (w : lines.Work) (x : Ran) (f : Effect) : Type 0 where
-  pub taken : x.refusal ≡ 0
-  pub cluster : cluster_in x.memory ≡ some w.cluster
-  pub sent : x.sent ≡ w.sent
-  pub copied : x.copied ≡ w.copied
-  pub delivered : x.delivered ≡ w.delivered
-  pub lost : x.lost ≡ w.lost
-  pub messages : x.messages ≡ length w.cluster.messages
-  pub few : x.messages ≤ 64
-  pub answers : answers_at x.count x.answers (value_bytes f.value) (table_in f.table) ≡ w.answers
+-- an accepted line, what it leaves and reports, is the work w of the definitions
+pub record Does (w : lines.Work) (m : Memory) (l : List ℕ) (r : Report) : Type 0 where
+  pub cluster : cluster_in m ≡ some w.cluster
+  pub sent : r.sent ≡ w.sent
+  pub copied : r.copied ≡ w.copied
+  pub delivered : r.delivered ≡ w.delivered
+  pub lost : r.lost ≡ w.lost
+  pub messages : r.messages ≡ length w.cluster.messages
+  pub few : r.messages ≤ 64
+  pub answers : answers_at r.answers l (value_bytes r.effect.value) (table_in r.effect.table) ≡ w.answers
 
-pub accepts_line : (s : lines.State) (w : lines.Work) (x : Ran) (f : Effect) → Does w x f → lines.accept_line s w ≡ result_of s.tally x f
-unfolding lines.accept_line result_of
-accepts_line s w x f h =
+pub accepts_line : (s : lines.State) (w : lines.Work) (m : Memory) (l : List ℕ) (r : Report) → Does w m l r → lines.accept_line s w ≡ result_of s.tally (ran m l (Ok r))
+unfolding lines.accept_line result_by
+accepts_line s w m l r h =
     let room : leb (length w.cluster.messages) max_messages ≡ true = le-leb (length w.cluster.messages) max_messages (omega (arith, h.messages, h.few)) in
-    rw (lines.accept_line, result_of, room, h.taken, h.cluster, h.sent, h.copied, h.delivered, h.lost, h.messages, h.answers)
+    rw (lines.accept_line, room, h.cluster, h.sent, h.copied, h.delivered, h.lost, h.messages, h.answers)
 
 pub lacks_places : (s : lines.State) (w : lines.Work) → leb (length w.cluster.messages) max_messages ≡ false → lines.accept_line s w ≡ lines.refuse s 12
 unfolding lines.accept_line

@@ -4,10 +4,8 @@ use mathlib.Core.Option.{some}
 use borrow.Author.Tests.{lt-leb, eqb-false}
 use lib.ListN.{length-replicate}
 use Rattle.hash.specs.Fnv.{bucket_of}
-use Rattle.entries.specs.declared.Key.{Key}
-use Rattle.entries.specs.declared.Value.{Value}
-use Rattle.entries.specs.declared.Item.{Item}
-use Rattle.entries.specs.Decoded.{key_bytes, value_bytes, item_in, no_key, absent_item}
+use Rattle.std.specs.Prelude.{Some, None, if◌then◌else◌}
+use Rattle.entries.specs.Decoded.{Key, Value, Item, text_bytes, key_bytes, value_bytes, item_in, no_key}
 use Rattle.model.specs.Calls as calls
 use Rattle.model.specs.Cluster as cluster
 use Rattle.model.specs.Lines as lines
@@ -16,7 +14,7 @@ use Rattle.limits.specs.Measures.{KeySized, ValueSized, WordsSized}
 use Rattle.server.specs.declared.Words.{Words}
 use Rattle.server.specs.Views.{among, words_by, words_in}
 use Rattle.memory.specs.declared.Counts.{Counts}
-use Rattle.memory.specs.Layout.{Whole}
+use Rattle.memory.specs.Layout.{Whole, stored_value}
 use Rattle.parse.specs.Kept.{key_in, value_in, given_in}
 use Rattle.parse.specs.Meaning.{expected_item, new_item}
 use Rattle.plans.specs.Plans.{bad_key, bad_item, bad_lengths, call_bucket}
@@ -43,7 +41,7 @@ pub record Said (w : Words) (words : calls.Words) : Type 0 where
 
 module _ (k : Key) (room : length k.bytes ≡ 8) where
   length_key : length (key_in k) ≡ k.len
-  unfolding key_in key_bytes
+  unfolding key_in text_bytes
   length_key = simp (length-append, length-take, length-replicate) (omega arith)
 
   key_refused : lines.bad_key (key_in k) ≡ bad_key k.len
@@ -56,7 +54,7 @@ module _ (k : Key) (room : length k.bytes ≡ 8) where
 
 module _ (v : Value) (room : length v.bytes ≡ 16) where
   length_value : length (value_in v) ≡ v.len
-  unfolding value_in value_bytes
+  unfolding value_in text_bytes
   length_value = simp (length-append, length-take, length-replicate) (omega arith)
 
   value_same : v.len ≤ 16 → value_in v ≡ value_bytes v
@@ -64,34 +62,20 @@ module _ (v : Value) (room : length v.bytes ≡ 16) where
   value_same h = let z : v.len - 16 ≡ 0 = omega arith in rw (z, append-nil)
 
 -- the same of a value that may be absent
-module _ (v : Value) (room : length v.bytes ≡ 16) where
-  abbrev either_way : Bool → Item
-  either_way there = record { there = there; value = v }
+item_refused : (i : Item) → length (stored_value i).bytes ≡ 16 → lines.bad_value (given_in i) ≡ bad_item i
+unfolding lines.bad_value given_in bad_item
+item_refused (Some v) room = ap (ltb 16) (length_value v room)
+item_refused None room = refl
 
-  refused_either : (b : Bool) → lines.bad_value (given_in (either_way b)) ≡ bad_item (either_way b)
-  unfolding lines.bad_value given_in bad_item
-  refused_either true = ap (ltb 16) (length_value v room)
-  refused_either false = refl
+item_same : (i : Item) → length (stored_value i).bytes ≡ 16 → bad_item i ≡ false → given_in i ≡ item_in i
+unfolding given_in item_in bad_item
+item_same (Some v) room good = ap some (value_same v room (ltb-false 16 _ good))
+item_same None room good = refl
 
-  same_either : (b : Bool) → bad_item (either_way b) ≡ false → given_in (either_way b) ≡ item_in (either_way b)
-  unfolding given_in item_in bad_item
-  same_either true good = ap some (value_same v room (ltb-false 16 _ good))
-  same_either false good = refl
-
-  sized_either : (b : Bool) → bad_item (either_way b) ≡ false → ValueSized (given_in (either_way b))
-  unfolding given_in bad_item
-  sized_either true good = omega (arith, length_value v room, ltb-false 16 v.len good)
-  sized_either false good = tt
-
-module _ (i : Item) (room : length i.value.bytes ≡ 16) where
-  item_refused : lines.bad_value (given_in i) ≡ bad_item i
-  item_refused = refused_either i.value room i.there
-
-  item_same : bad_item i ≡ false → given_in i ≡ item_in i
-  item_same = same_either i.value room i.there
-
-  item_sized : bad_item i ≡ false → ValueSized (given_in i)
-  item_sized = sized_either i.value room i.there
+item_sized : (i : Item) → length (stored_value i).bytes ≡ 16 → bad_item i ≡ false → ValueSized (given_in i)
+unfolding given_in bad_item
+item_sized (Some v) room good = omega (arith, length_value v room, ltb-false 16 v.len good)
+item_sized None room good = tt
 
 -- the lengths of a key
 key_lengths : (n : ℕ) → bad_key n ≡ false → (1 ≤ n) × (n ≤ 8)
@@ -135,7 +119,7 @@ either_else false y = refl
 
 -- ---- the five calls
 
-module _ (k : Key) (room : length k.bytes ≡ 8) (e v : Item) (roomE : length e.value.bytes ≡ 16) (roomV : length v.value.bytes ≡ 16) where
+module _ (k : Key) (room : length k.bytes ≡ 8) (e v : Item) (roomE : length (stored_value e).bytes ≡ 16) (roomV : length (stored_value v).bytes ≡ 16) where
   abbrev Fits : Type 0
   Fits = Short k.len e v
 
@@ -185,27 +169,27 @@ key_alone : (k : Key) → length k.bytes ≡ 8 → lines.bad_key (key_in k) ≡ 
 key_alone k room = key_refused k room ∙ elim (bad_key k.len) as (λ z. z ≡ elim z [ true ↦ true | false ↦ false ]) [ true ↦ refl | false ↦ refl ]
 
 module _ (k : Key) (room : length k.bytes ≡ 8) where
-  said_get : Said (words_with 1 0 k absent_item absent_item) (calls.get (key_in k))
+  said_get : Said (words_with 1 0 k None None) (calls.get (key_in k))
   unfolding among lines.bad_words lines.no_bucket_for calls.bucket_for words_by bad_item
   said_get =
-      keyed k room absent_item absent_item refl refl 1 (calls.get (key_in k)) refl refl (key_alone k room) (λ x. refl) (λ n. refl)
-      (λ s. ap calls.get (same_key k room absent_item absent_item refl refl s)) (sized_key k room absent_item absent_item refl refl)
+      keyed k room None None refl refl 1 (calls.get (key_in k)) refl refl (key_alone k room) (λ x. refl) (λ n. refl)
+      (λ s. ap calls.get (same_key k room None None refl refl s)) (sized_key k room None None refl refl)
 
-  said_del : Said (words_with 4 0 k absent_item absent_item) (calls.del (key_in k))
+  said_del : Said (words_with 4 0 k None None) (calls.del (key_in k))
   unfolding among lines.bad_words lines.no_bucket_for calls.bucket_for words_by bad_item
   said_del =
-      keyed k room absent_item absent_item refl refl 4 (calls.del (key_in k)) refl refl (key_alone k room) (λ x. refl) (λ n. refl)
-      (λ s. ap calls.del (same_key k room absent_item absent_item refl refl s)) (sized_key k room absent_item absent_item refl refl)
+      keyed k room None None refl refl 4 (calls.del (key_in k)) refl refl (key_alone k room) (λ x. refl) (λ n. refl)
+      (λ s. ap calls.del (same_key k room None None refl refl s)) (sized_key k room None None refl refl)
 
-  said_set : (v : Item) → length v.value.bytes ≡ 16 → Said (words_with 2 0 k absent_item v) (calls.set (key_in k) (given_in v))
+  said_set : (v : Item) → length (stored_value v).bytes ≡ 16 → Said (words_with 2 0 k None v) (calls.set (key_in k) (given_in v))
   unfolding among lines.bad_words lines.no_bucket_for calls.bucket_for words_by bad_item
   said_set v roomV =
-      keyed k room absent_item v refl roomV 2 (calls.set (key_in k) (given_in v)) refl refl
+      keyed k room None v refl roomV 2 (calls.set (key_in k) (given_in v)) refl refl
       (ap₂ lines.either (key_refused k room) (item_refused v roomV) ∙ either_else (bad_key k.len) (bad_item v)) (λ x. refl) (λ n. refl)
-      (λ s. ap₂ calls.set (same_key k room absent_item v refl roomV s) (item_same v roomV s.value))
-      (λ s. (sized_key k room absent_item v refl roomV s, item_sized v roomV s.value))
+      (λ s. ap₂ calls.set (same_key k room None v refl roomV s) (item_same v roomV s.value))
+      (λ s. (sized_key k room None v refl roomV s, item_sized v roomV s.value))
 
-said_keys : (b : ℕ) → Said (words_with 5 b no_key absent_item absent_item) (calls.keys b)
+said_keys : (b : ℕ) → Said (words_with 5 b no_key None None) (calls.keys b)
 unfolding among lines.bad_words bad_lengths lines.no_bucket_for lines.no_bucket call_bucket calls.bucket_for words_by
 said_keys b =
     record {
@@ -223,6 +207,11 @@ said_keys b =
 
 -- ---- of a line that was read
 
+-- a value that is there or not has sixteen bytes to store
+stored_room : (there : Bool) (v : Value) → length v.bytes ≡ 16 → length (stored_value (if there then Some v else None)).bytes ≡ 16
+stored_room true v room = room
+stored_room false v room = refl
+
 module _ (x : Line) (whole : WholeLine x) where
   pub get_said : Said (words_of K.Get x) (calls.get (key_in x.key))
   unfolding words_of
@@ -230,11 +219,11 @@ module _ (x : Line) (whole : WholeLine x) where
 
   pub set_said : Said (words_of K.Set x) (calls.set (key_in x.key) (given_in (new_item x)))
   unfolding words_of
-  set_said = said_set x.key whole.key (new_item x) whole.value
+  set_said = said_set x.key whole.key (new_item x) (stored_room x.has_value x.value whole.value)
 
   pub setif_said : Said (words_of K.SetIf x) (calls.setif (key_in x.key) (given_in (expected_item x)) (given_in (new_item x)))
   unfolding words_of
-  setif_said = said_setif x.key whole.key (expected_item x) (new_item x) whole.expected whole.value
+  setif_said = said_setif x.key whole.key (expected_item x) (new_item x) (stored_room x.has_expected x.expected whole.expected) (stored_room x.has_value x.value whole.value)
 
   pub del_said : Said (words_of K.Del x) (calls.del (key_in x.key))
   unfolding words_of

@@ -1,12 +1,13 @@
 -- What the memory and a line's run stand for in the definitions of crates/model.
-use Rattle.std.specs.Prelude.{◌≡◌, ℕ, ◌+◌, ◌%◌, ◌^◌, true, false, List, length, ◌==◌}
+use Rattle.std.specs.Prelude.{◌≡◌, ℕ, ◌+◌, ◌%◌, ◌^◌, true, List, length, Result, Ok, Err}
 use Rattle.std.proofs.Math.Option.{Option, none, some}
 use Rattle.entries.specs.Decoded.{table_in, value_bytes}
 use Rattle.model.specs.Lines as lines
-use Rattle.server.specs.declared.Effect.{Effect}
 use Rattle.limits.specs.Stands.{Measured}
 use Rattle.blocks.specs.Order.{Ordered}
 use Rattle.memory.specs.Layout.{counts_at, order_of}
+use Rattle.refusals.specs.declared.Refusal.{Refusal}
+use Rattle.refusals.specs.Refusals.{number}
 use Rattle.views.specs.Memory.{Memory, standing, cluster_in}
 use Rattle.views.specs.Changes.{answers_at}
 use Rattle.parse.specs.declared.Line.{Line}
@@ -31,35 +32,32 @@ performed s none = lines.refuse s 1
 performed s (some x) = lines.perform s x
 
 -- the tally after a line that was accepted
-abbrev pub tallied_by : lines.Tally → Ran → lines.Tally
-tallied_by t x =
+abbrev pub tallied_by : lines.Tally → Report → lines.Tally
+tallied_by t r =
     record {
-      sent = t.sent + x.sent;
-      copied = t.copied + x.copied;
-      delivered = t.delivered + x.delivered;
-      lost = t.lost + x.lost;
-      count_in_flight = x.messages;
+      sent = t.sent + r.sent;
+      copied = t.copied + r.copied;
+      delivered = t.delivered + r.delivered;
+      lost = t.lost + r.lost;
+      count_in_flight = r.messages;
     }
 
--- the result of a line, with the data of the effect that it asked for
-unfoldable pub result_of : lines.Tally → Ran → Effect → lines.LineResult
-result_of t x f =
-    elim (x.refusal == 0) [
-      | true ↦
-          record {
-            state = state_in x.memory (tallied_by t x);
-            outcome = lines.printed (answers_at x.count x.answers (value_bytes f.value) (table_in f.table));
-          }
-      | false ↦ lines.refuse (state_in x.memory t) x.refusal
-    ]
+-- what a report tells: the answers, with the data of the effect that was asked for
+abbrev pub printed_in : Report → List ℕ → lines.Outcome
+printed_in r l = lines.printed (answers_at r.answers l (value_bytes r.effect.value) (table_in r.effect.table))
 
--- what a line tells: the refusal, or the answers, with the data of the effect that was asked for
-unfoldable pub outcome_in : Report → List ℕ → lines.Outcome
-outcome_in r l =
-    elim (r.refusal == 0) [
-      | true ↦ lines.printed (answers_at r.answers l (value_bytes r.effect.value) (table_in r.effect.table))
-      | false ↦ lines.refusal r.refusal
-    ]
+unfoldable pub result_by : lines.Tally → Memory → List ℕ → Result Report Refusal → lines.LineResult
+result_by t m l (Ok r) = record { state = state_in m (tallied_by t r); outcome = printed_in r l }
+result_by t m l (Err e) = lines.refuse (state_in m t) (number e)
+
+-- the result of a line
+abbrev pub result_of : lines.Tally → Ran → lines.LineResult
+result_of t x = result_by t x.memory x.answers x.told
+
+-- what a line tells: the refusal, or the answers
+unfoldable pub outcome_in : Result Report Refusal → List ℕ → lines.Outcome
+outcome_in (Ok r) l = printed_in r l
+outcome_in (Err e) l = lines.refusal (number e)
 
 -- a line whose key and values are arrays of eight, sixteen and sixteen bytes
 pub record WholeLine (x : Line) : Type 0 where
@@ -68,16 +66,13 @@ pub record WholeLine (x : Line) : Type 0 where
   pub value : length x.value.bytes ≡ 16
 
 -- the tally after a line, number by number; the counts wrap at 2 ^ 32
-unfoldable pub tally_after : Tally → Report → Tally
-tally_after t r =
-    elim (r.refusal == 0) [
-      | true ↦
-          record {
-            sent = (t.sent + r.sent) % 2 ^ 32;
-            copied = (t.copied + r.copied) % 2 ^ 32;
-            delivered = (t.delivered + r.delivered) % 2 ^ 32;
-            lost = (t.lost + r.lost) % 2 ^ 32;
-            flight = r.messages;
-          }
-      | false ↦ t
-    ]
+unfoldable pub tally_after : Tally → Result Report Refusal → Tally
+tally_after t (Ok r) =
+    record {
+      sent = (t.sent + r.sent) % 2 ^ 32;
+      copied = (t.copied + r.copied) % 2 ^ 32;
+      delivered = (t.delivered + r.delivered) % 2 ^ 32;
+      lost = (t.lost + r.lost) % 2 ^ 32;
+      flight = r.messages;
+    }
+tally_after t (Err e) = t

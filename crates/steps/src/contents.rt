@@ -9,7 +9,7 @@ use encoding::encode;
 use entries::Decoded;
 use memory::{CONTENT_SIZE, CopyBytes, PayloadBytes, WorkingBytes};
 use messages::contents::copy_content;
-use moves::codes::{FILLS_COPY, FILLS_MESSAGE, FILLS_TABLE, KEEPS_MESSAGE, KEEPS_WORK};
+use moves::{Filling, Keeping};
 
 // The bucket form of a table becomes the content of this slot.
 fn put_table(working: &mut [u8], slot: usize, table: Decoded)
@@ -21,51 +21,44 @@ fn put_table(working: &mut [u8], slot: usize, table: Decoded)
     encode(table, &mut working[from..end]);
 }
 
-// The working content of this slot, by the number of what fills it; `place` is that of the message handed over.
+// The working content of this slot, by what fills it; `place` is that of the message handed over.
+#[tactic(auto, unfolding(views::specs::Changes::filled_from))]
 pub fn fill_work(
     working: &mut WorkingBytes,
     copies: &CopyBytes,
     payloads: &PayloadBytes,
     slot: usize,
     place: usize,
-    fills: u32,
+    fills: Filling,
     table: Decoded,
 )
     requires { (slot < slot_room) × (place < message_room) }
     ensures { is working ≡ filled_from (was working) copies.now payloads.now slot place (table_in table) fills }
 {
-    if fills == FILLS_COPY {
-        copy_content(working, slot, copies, slot);
-        return;
-    }
-    if fills == FILLS_TABLE {
-        put_table(working, slot, table);
-        return;
-    }
-    if fills == FILLS_MESSAGE {
-        copy_content(working, slot, payloads, place);
-        return;
+    match fills {
+        Filling::Stays => {}
+        Filling::Copy => copy_content(working, slot, copies, slot),
+        Filling::Table => put_table(working, slot, table),
+        Filling::Message => copy_content(working, slot, payloads, place),
     }
 }
 
-// The content of the copy at this slot, by the number of what is kept.
+// The content of the copy at this slot, by what is kept.
+#[tactic(auto, unfolding(views::specs::Changes::kept_from))]
 pub fn keep_copy(
     copies: &mut CopyBytes,
     working: &WorkingBytes,
     payloads: &PayloadBytes,
     slot: usize,
     place: usize,
-    keeps: u32,
+    keeps: Keeping,
 )
     requires { (slot < slot_room) × (place < message_room) }
     ensures { is copies ≡ kept_from (was copies) working.now payloads.now slot place keeps }
 {
-    if keeps == KEEPS_WORK {
-        copy_content(copies, slot, working, slot);
-        return;
-    }
-    if keeps == KEEPS_MESSAGE {
-        copy_content(copies, slot, payloads, place);
-        return;
+    match keeps {
+        Keeping::Stays => {}
+        Keeping::Working => copy_content(copies, slot, working, slot),
+        Keeping::Message => copy_content(copies, slot, payloads, place),
     }
 }

@@ -39,16 +39,15 @@ fn store_slot(slots: &mut SlotWords, slot: usize, version: Version, round: Round
 }
 
 // Whether there is neither a round nor a call.
+#[tactic(auto, unfolding(views::specs::Changes::is_idle))]
 fn is_idle(round: Round, call: Call) -> bool
     ensures { result ≡ is_idle round call }
 {
-    if round.purpose == NO_ROUND {
-        return call.kind == NO_CALL;
-    }
-    false
+    round.purpose == NO_ROUND && call.kind == NO_CALL
 }
 
 // This slot has no round and no call any more.
+#[tactic(auto, unfolding(views::specs::Changes::cleared_slot))]
 fn clear_slot(slots: &mut SlotWords, slot: usize)
     requires { slot < slot_room }
     ensures { is slots ≡ cleared_slot (was slots) slot }
@@ -67,14 +66,13 @@ pub fn clear_slots(slots: &mut SlotWords, server: usize, buckets: usize)
     requires { (server < server_room) × (buckets ≤ bucket_room) }
     ensures { is slots ≡ cleared_slots (was slots) server buckets }
 {
-    let mut bucket = 0;
-    while bucket < buckets {
+    for bucket in 0..buckets {
         clear_slot(slots, slot_of(server, bucket));
-        bucket += 1;
     }
 }
 
 // A server's head and slots after a move.
+#[tactic(auto, unfolding(views::specs::Changes::slots_after))]
 fn settle(
     heads: &mut HeadWords,
     slots: &mut SlotWords,
@@ -89,7 +87,6 @@ fn settle(
     store_local(heads, slots, server, slot, next.local);
     if next.ceases {
         clear_slots(slots, server, buckets);
-        return;
     }
 }
 

@@ -1,12 +1,10 @@
 -- The contents after a step: the slot's tables are those of the definitions, the others stay.
 use mathlib.Core.Path.{◌≡◌, refl, ap, ◌∙◌}
 use mathlib.Core.Logic.{◌≢◌}
-use mathlib.Core.Bool.{Bool, true, false}
+use mathlib.Core.Bool.{true}
 use mathlib.Core.List.{List, ◌++◌}
 use Prim.Native.Nat.{ℕ, ◌+◌, ◌*◌, ◌≤◌, ◌<◌}
 use native.Mathlib.Omega.{arith}
-use borrow.Author.Tests.{eqb-true}
-use lib.Dec.{eqb}
 use lib.ListN.{length, drop, length-append, length-drop}
 use lib.Seq.{take_at}
 use Rattle.blocks.specs.Blocks.{block}
@@ -18,6 +16,10 @@ use Rattle.model.specs.Measures.{max_entries, max_value_bytes}
 use Rattle.memory.specs.Layout.{slot_room, message_room, content_size, content_bytes, put_content}
 use Rattle.messages.proofs.ContentLaws.{length-put_content, content_put_content, content_elsewhere, content_copied}
 use Rattle.moves.specs.declared.Move.{Move}
+use Rattle.moves.specs.declared.Filling.{Filling}
+use Rattle.moves.specs.declared.Filling.TheVariants as filling
+use Rattle.moves.specs.declared.Keeping.{Keeping}
+use Rattle.moves.specs.declared.Keeping.TheVariants as keeping
 use Rattle.moves.specs.Reactions.{Tables, work_after, copy_after}
 use Rattle.views.specs.Memory.{Memory, Sized, table_at}
 use Rattle.views.specs.Changes.{put_table, filled, kept, filled_from, kept_from}
@@ -64,33 +66,31 @@ module _ (k : ℕ) (l : List ℕ) (among : k < slot_room) (room : length l ≡ 7
       }
 
 module _ (m : Memory) (sized : Sized m) (k i : ℕ) (slot : k < slot_room) (message : i < message_room) (v : Move) (made : List Entry)
-    (form : v.fills ≡ 2 → fits max_entries max_value_bytes made ≡ true) where
+    (form : v.fills ≡ filling.Table → fits max_entries max_value_bytes made ≡ true) where
   pub working_after : Placed k m.working (filled m k i made v.fills) (work_after v (tables_at m k i made))
   unfolding filled_from work_after
-  working_after = go (eqb v.fills 1) refl (eqb v.fills 2) refl (eqb v.fills 3) refl
+  working_after = go v.fills refl
     where
-      go : (x : Bool) → eqb v.fills 1 ≡ x → (y : Bool) → eqb v.fills 2 ≡ y → (z : Bool) → eqb v.fills 3 ≡ z
-          → Placed k m.working (filled m k i made v.fills) (work_after v (tables_at m k i made))
-      go true a y b z c =
+      go : (x : Filling) → v.fills ≡ x → Placed k m.working (filled m k i made v.fills) (work_after v (tables_at m k i made))
+      go filling.Stays e = rw (work_after, e) (placed_none k m.working)
+      go filling.Copy e =
           let h = sized.copies in
-          rw (filled_from, work_after, a) (placed_copy k m.working slot sized.working k m.copies (omega arith))
-      go false a true b z c = rw (filled_from, work_after, a, b) (placed_table k m.working slot sized.working made (form (eqb-true _ _ b)))
-      go false a false b true c =
+          rw (work_after, e) (placed_copy k m.working slot sized.working k m.copies (omega arith))
+      go filling.Table e = rw (work_after, e) (placed_table k m.working slot sized.working made (form e))
+      go filling.Message e =
           let h = sized.payloads in
-          rw (filled_from, work_after, a, b, c) (placed_copy k m.working slot sized.working i m.payloads (omega arith))
-      go false a false b false c = rw (filled_from, work_after, a, b, c) (placed_none k m.working)
+          rw (work_after, e) (placed_copy k m.working slot sized.working i m.payloads (omega arith))
 
   pub copies_after : Placed k m.copies (kept m (filled m k i made v.fills) k i v.keeps) (copy_after v (tables_at m k i made))
   unfolding kept_from copy_after
-  copies_after = go (eqb v.keeps 1) refl (eqb v.keeps 2) refl
+  copies_after = go v.keeps refl
     where
-      go : (x : Bool) → eqb v.keeps 1 ≡ x → (y : Bool) → eqb v.keeps 2 ≡ y
-          → Placed k m.copies (kept m (filled m k i made v.fills) k i v.keeps) (copy_after v (tables_at m k i made))
-      go true a y b =
+      go : (x : Keeping) → v.keeps ≡ x → Placed k m.copies (kept m (filled m k i made v.fills) k i v.keeps) (copy_after v (tables_at m k i made))
+      go keeping.Stays e = rw (copy_after, e) (placed_none k m.copies)
+      go keeping.Working e =
           let h = working_after.size in
           let w = sized.working in
-          rw (kept_from, copy_after, a, ← working_after.there) (placed_copy k m.copies slot sized.copies k (filled m k i made v.fills) (omega arith))
-      go false a true b =
+          rw (copy_after, e, ← working_after.there) (placed_copy k m.copies slot sized.copies k (filled m k i made v.fills) (omega arith))
+      go keeping.Message e =
           let h = sized.payloads in
-          rw (kept_from, copy_after, a, b) (placed_copy k m.copies slot sized.copies i m.payloads (omega arith))
-      go false a false b = rw (kept_from, copy_after, a, b) (placed_none k m.copies)
+          rw (copy_after, e) (placed_copy k m.copies slot sized.copies i m.payloads (omega arith))

@@ -15,6 +15,7 @@ use Rattle.cells.specs.Cells.{Front, Cell, put_cell}
 use Rattle.memory.specs.Layout.{slot_room, message_room, slot_of, head_at, put_head}
 use Rattle.memory.proofs.Records.{length-put_head, head_put_head, head_elsewhere}
 use Rattle.moves.specs.declared.Move.{Move}
+use Rattle.moves.specs.declared.Filling.TheVariants as filling
 use Rattle.moves.specs.Reactions.{cell_in, front_in, work_after, copy_after, idled, moved_server, server_after}
 use Rattle.views.specs.Memory.{Memory, memory, Sized, each, WholeLocal, call_words_at, cell_at, server_of, server_at, servers_at}
 use Rattle.views.specs.Changes.{filled, kept, put_local, cleared_slots, slots_after, moved}
@@ -81,7 +82,7 @@ module _ (m : Memory) (room : length m.slots ≡ 1792) (n most s : ℕ) (server 
 -- ---- before rounds and calls are ended
 
 module _ (m : Memory) (n most s b i : ℕ) (v : Move) (made : List Entry) (sized : Sized m) (servers : n ≤ 7) (server : s < n) (buckets : most ≤ 8) (bucket : b < most)
-    (message : i < message_room) (whole : WholeLocal v.local) (form : v.fills ≡ 2 → fits max_entries max_value_bytes made ≡ true) where
+    (message : i < message_room) (whole : WholeLocal v.local) (form : v.fills ≡ filling.Table → fits max_entries max_value_bytes made ≡ true) where
   abbrev k : ℕ
   k = slot_of s b
 

@@ -14,6 +14,10 @@ use Rattle.memory.specs.Rows.{row, put_row}
 use Rattle.memory.specs.Layout.{slot_of, answer_size, content_size, content_bytes, round_at, call_at, put_head, put_version, put_round, put_call, put_content}
 use Rattle.moves.specs.declared.Local.{Local}
 use Rattle.moves.specs.declared.Move.{Move}
+use Rattle.moves.specs.declared.Filling.{Filling}
+use Rattle.moves.specs.declared.Filling.TheVariants as filling
+use Rattle.moves.specs.declared.Keeping.{Keeping}
+use Rattle.moves.specs.declared.Keeping.TheVariants as keeping
 use Rattle.moves.specs.Moves.{no_round, no_call}
 use Rattle.views.specs.Memory.{Memory, memory, each}
 
@@ -24,31 +28,22 @@ unfoldable pub put_table : List ℕ → ℕ → List Entry → List ℕ
 put_table l i t = put_content l i (bucket_bytes max_entries max_value_bytes t ++ drop content_bytes (block content_size i l))
 
 -- the working contents: `made` is the new table
-unfoldable pub filled_from : (working copies payloads : List ℕ) → ℕ → ℕ → List Entry → ℕ → List ℕ
-filled_from working copies payloads k i made fills =
-    elim (eqb fills 1) [
-      | true ↦ put_content working k (block content_size k copies)
-      | false ↦
-          elim (eqb fills 2) [
-            | true ↦ put_table working k made
-            | false ↦
-                elim (eqb fills 3) [ true ↦ put_content working k (block content_size i payloads) | false ↦ working ]
-          ]
-    ]
+unfoldable pub filled_from : (working copies payloads : List ℕ) → ℕ → ℕ → List Entry → Filling → List ℕ
+filled_from working copies payloads k i made filling.Stays = working
+filled_from working copies payloads k i made filling.Copy = put_content working k (block content_size k copies)
+filled_from working copies payloads k i made filling.Table = put_table working k made
+filled_from working copies payloads k i made filling.Message = put_content working k (block content_size i payloads)
 
-abbrev pub filled : Memory → ℕ → ℕ → List Entry → ℕ → List ℕ
+abbrev pub filled : Memory → ℕ → ℕ → List Entry → Filling → List ℕ
 filled m k i made fills = filled_from m.working m.copies m.payloads k i made fills
 
 -- the contents of copies, after the working contents were filled
-unfoldable pub kept_from : (copies working payloads : List ℕ) → ℕ → ℕ → ℕ → List ℕ
-kept_from copies working payloads k i keeps =
-    elim (eqb keeps 1) [
-      | true ↦ put_content copies k (block content_size k working)
-      | false ↦
-          elim (eqb keeps 2) [ true ↦ put_content copies k (block content_size i payloads) | false ↦ copies ]
-    ]
+unfoldable pub kept_from : (copies working payloads : List ℕ) → ℕ → ℕ → Keeping → List ℕ
+kept_from copies working payloads k i keeping.Stays = copies
+kept_from copies working payloads k i keeping.Working = put_content copies k (block content_size k working)
+kept_from copies working payloads k i keeping.Message = put_content copies k (block content_size i payloads)
 
-abbrev pub kept : Memory → List ℕ → ℕ → ℕ → ℕ → List ℕ
+abbrev pub kept : Memory → List ℕ → ℕ → ℕ → Keeping → List ℕ
 kept m working k i keeps = kept_from m.copies working m.payloads k i keeps
 
 -- ---- slots

@@ -9,6 +9,6 @@ remove-requires c = (c.requires.there c.if-step.true, c.requires.messages)
 pub returns-then-step : goal.returns-then-step
 returns-then-step c = rw c.if-step.true c.remove.ensures
 
-pub returns : goal.returns
+pub returns-else-step : goal.returns-else-step
 unfolding without_message
-returns c = rw c.if-step.false (record { is = refl; count = refl; few = c.requires.messages })
+returns-else-step c = rw c.if-step.false (record { is = refl; count = refl; few = c.requires.messages })

@@ -13,13 +13,13 @@ use Rattle.machine_flight.proofs.send_all.Goals as goal
 
 pub loop-receiver-init : goal.loop-receiver-init
 unfolding spread
-loop-receiver-init c = (omega arith, record { is = refl; count = refl; few = omega arith })
+loop-receiver-init c = record { is = refl; count = refl; few = omega arith }
 
 pub send_to-sent-requires : goal.send_to-sent-requires
 send_to-sent-requires c =
     let old = memory_of (regions c.args.words.now) (contents c.args.bytes.now) in
     let room = spread_room (block content_size c.args.content c.args.bytes.now) c.args.message (flight_of old c.args.count) c.loop-receiver.receiver c.args.servers in
-    (c.requires.0, (c.loop-receiver.invariant.1.few, λ o. omega (arith, c.loop-receiver.invariant.1.count, room o (omega arith) (omega arith) (omega arith))))
+    (c.requires.0, (c.loop-receiver.invariant.few, λ o. omega (arith, c.loop-receiver.invariant.count, room o (omega arith) (omega arith) (omega arith))))
 
 pub loop-receiver-preserved : goal.loop-receiver-preserved
 loop-receiver-preserved c =
@@ -27,13 +27,11 @@ loop-receiver-preserved c =
     let old = memory_of (regions c.args.words.now) (contents c.args.bytes.now) in
     let m = memory_of (regions c.loop-receiver.words) (contents c.loop-receiver.bytes) in
     let x = flight_of old c.args.count in
-    let same = content_kept c.args.bytes.now c.loop-receiver.bytes c.args.content c.requires.0 (ap (λ y. y.copies) c.loop-receiver.invariant.1.is) (ap (λ y. y.working) c.loop-receiver.invariant.1.is) in (
-      omega arith,
-      rw (spread_next v c.args.message x c.loop-receiver.receiver)
-          (flown_next old m _ (spread v c.args.message c.loop-receiver.receiver x) (sent_to v c.args.message c.loop-receiver.receiver) c.loop-receiver.sent _ c.loop-receiver.invariant.1 (rw (← same) c.send_to-sent.ensures)),
-    )
+    let same = content_kept c.args.bytes.now c.loop-receiver.bytes c.args.content c.requires.0 (ap (λ y. y.copies) c.loop-receiver.invariant.is) (ap (λ y. y.working) c.loop-receiver.invariant.is) in
+    rw (spread_next v c.args.message x c.loop-receiver.receiver)
+    (flown_next old m _ (spread v c.args.message c.loop-receiver.receiver x) (sent_to v c.args.message c.loop-receiver.receiver) c.loop-receiver.sent _ c.loop-receiver.invariant (rw (← same) c.send_to-sent.ensures))
 
 pub returns : goal.returns
 returns c =
     let e : c.loop-receiver.receiver ≡ c.args.servers = omega arith in
-    rw (← e) c.loop-receiver.invariant.1
+    rw (← e) c.loop-receiver.invariant

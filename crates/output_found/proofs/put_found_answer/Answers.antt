@@ -9,12 +9,12 @@ pub put_line-requires : goal.put_line-requires
 put_line-requires c =
     let h : c.args.call < 2 ^ 32 = search rules in
     let g : c.args.rounds < 2 ^ 32 = search rules in
-    let room = line_room_lem c.args.call c.args.word c.args.rounds c.args.found.now h g c.whole.ensures in
+    let room = line_room_lem c.args.call c.args.word c.args.rounds c.args.found.now h g (search rules) in
     omega (arith, c.requires, room)
 
 pub returns : goal.returns
 returns c =
     let h : c.args.call < 2 ^ 32 = search rules in
     let g : c.args.rounds < 2 ^ 32 = search rules in
-    let room = line_room_lem c.args.call c.args.word c.args.rounds c.args.found.now h g c.whole.ensures in
+    let room = line_room_lem c.args.call c.args.word c.args.rounds c.args.found.now h g (search rules) in
     (c.put_line.ensures, omega (arith, room, c.put_line.ensures.ends))

@@ -1,7 +1,8 @@
 -- `entry::feed_value` meets its contract.
+use borrow.Author.Rules.{rules}
 use Rattle.feed.proofs.Entering.{part_fed}
 use Rattle.feed.proofs.entry.feed_value.Goals as goal
 
 pub returns : goal.returns
 returns c =
-    rw c.change.ensures (part_fed _ _ c.args.reader.now _ _ _ _ _ _ _ _ c.feed_part-progress.result _ c.sizes.ensures.0 c.sizes.ensures.1 c.feed_part-progress.ensures c.put_reader.ensures)
+    rw c.change.ensures (part_fed _ _ c.args.reader.now _ _ _ _ _ _ _ _ c.feed_part-progress.result _ (search rules) (search rules) c.feed_part-progress.ensures c.put_reader.ensures)

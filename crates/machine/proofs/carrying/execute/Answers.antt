@@ -1,23 +1,26 @@
--- `carrying::execute` meets its contract: refused, lost or carried out.
-use Rattle.machine.proofs.Assembling.{reported}
-use Rattle.machine.proofs.Executing.{slot_within, executes_lost, executes_move, executes_refusal}
+-- `carrying::execute` meets its contract: lost or carried out.
+use Rattle.std.proofs.Common.{subst}
+use Rattle.machine.specs.Steps.{Executable}
+use Rattle.machine.proofs.Executing.{slot_within, executes_lost, executes_move, executes_taken}
 use Rattle.machine.proofs.carrying.execute.Goals as goal
 
 pub lose-requires : goal.lose-requires
-lose-requires c = c.requires.loses c.if-plan-eq-NONE.true c.if-plan.true
+lose-requires c = subst (Executable c.args.cluster) c.in-Loses.is c.requires
 
-pub returns-then-plan : goal.returns-then-plan
-returns-then-plan c = executes_lost _ _ _ _ _ _ _ _ _ _ c.args.plan c.if-plan-eq-NONE.true c.if-plan.true c.lose.ensures
+pub returns-in-Loses : goal.returns-in-Loses
+returns-in-Loses c = executes_lost _ _ _ _ _ _ _ _ _ _ c.args.plan _ c.in-Loses.is c.lose.ensures
+
+pub carry-requires : goal.carry-requires
+carry-requires c = subst (Executable c.args.cluster) c.in-Moves.is c.requires
+
+pub returns-in-Moves : goal.returns-in-Moves
+returns-in-Moves c = executes_move _ _ _ _ _ _ _ _ _ _ c.args.plan _ _ c.in-Moves.is c.carry.ensures
 
 pub take-requires : goal.take-requires
-take-requires c = slot_within (c.requires.moves c.if-plan-eq-NONE.true c.if-plan.false)
+take-requires c = slot_within (subst (Executable c.args.cluster) c.in-Takes.is c.requires)
 
-pub carry_out-told-requires : goal.carry_out-told-requires
-carry_out-told-requires c = c.requires.moves c.if-plan-eq-NONE.true c.if-plan.false
+pub carry-requires-in-Takes : goal.carry-requires-in-Takes
+carry-requires-in-Takes c = subst (Executable c.args.cluster) c.in-Takes.is c.requires
 
-pub returns-then-plan-eq-NONE : goal.returns-then-plan-eq-NONE
-returns-then-plan-eq-NONE c =
-    executes_move _ _ _ _ _ _ _ _ _ _ c.args.plan c.if-plan-eq-NONE.true c.if-plan.false c.take.ensures (reported c.args.plan.effect c.carry_out-told.ensures c.report_of.ensures)
-
-pub returns : goal.returns
-returns c = executes_refusal _ _ _ _ _ _ _ _ _ _ c.args.plan c.if-plan-eq-NONE.false c.bare_report.ensures
+pub returns-in-Takes : goal.returns-in-Takes
+returns-in-Takes c = executes_taken _ _ _ _ _ _ _ _ _ _ c.args.plan _ _ _ c.in-Takes.is c.take.ensures c.carry-in-Takes.ensures

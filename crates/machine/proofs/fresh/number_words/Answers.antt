@@ -1,22 +1,11 @@
 -- `fresh::number_words` meets its contract: number by number.
-use Rattle.std.proofs.Common.{arith}
-use Rattle.machine.proofs.Zeros.{numbers_start, numbers_go_on, numbers_end}
+use Rattle.std.proofs.Common.{length, sym, ◌∙◌, zero-add, arith}
+use Rattle.std.proofs.lemmas.List.{ext_get_or}
+use Rattle.blocks.proofs.Order.{length_rising, get_or_rising}
 use Rattle.machine.proofs.fresh.number_words.Goals as goal
 
-pub loop-i-init : goal.loop-i-init
-loop-i-init c = numbers_start _ _ c.requires.0
-
-pub overflow_cast-dst : goal.overflow_cast-dst
-overflow_cast-dst c = omega (arith, c.requires.1)
-
-pub bounds-dst-i : goal.bounds-dst-i
-bounds-dst-i c = omega (arith, c.loop-i.invariant.size, c.requires.0)
-
-pub loop-i-preserved : goal.loop-i-preserved
-loop-i-preserved c = numbers_go_on c.loop-i.invariant c.loop-i-test.true
-
-pub shape_of-dst : goal.shape_of-dst
-shape_of-dst c = c.loop-i.invariant.size
-
 pub returns : goal.returns
-returns c = numbers_end c.requires.0 c.loop-i.invariant c.loop-i-test.false
+returns c =
+    let n = length c.args.order.now in
+    ext_get_or 0 _ _ (c.loop-i.auto.order ∙ sym (length_rising n 0))
+    (λ k h. c.loop-i.invariant k (omega (arith, c.loop-i.auto.order)) ∙ sym (get_or_rising n 0 k (omega (arith, c.loop-i.auto.order)) ∙ zero-add k))

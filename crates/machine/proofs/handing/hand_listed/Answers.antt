@@ -1,7 +1,8 @@
 -- `handing::hand_listed` meets its contract: lost, or handed over to a server that is there.
-use Rattle.std.proofs.Common.{sym, ap, ◌∙◌}
+use Rattle.std.proofs.Common.{sym, ◌∙◌}
+use Rattle.std.proofs.lemmas.Result.{err_from_is_err_and}
 use Rattle.plans.proofs.Judging.{step_slot}
-use Rattle.machine.proofs.Assembling.{reported}
+use Rattle.runs.proofs.Reporting.{reported}
 use Rattle.machine.proofs.Messages.{losable, handable, carries, handled, no_places_left, listed_lost, listed_handed}
 use Rattle.machine.proofs.handing.hand_listed.Goals as goal
 
@@ -13,25 +14,26 @@ lose-requires c = losable c.args.cluster c.args.index c.args.removes _ _ c.messa
 
 pub returns-then-is_gone : goal.returns-then-is_gone
 returns-then-is_gone c =
-    listed_lost _ _ _ _ _ _ _ _ _ c.args.cluster c.args.index c.args.removes _ _ _ c.load_message-message.ensures c.message_step-step.ensures c.receiver-local.ensures _ (sym c.is_gone.ensures ∙ c.if-is_gone.true) c.lose.ensures
+    listed_lost _ _ _ _ _ _ _ _ _ c.args.cluster c.args.index c.args.removes _ _ _ c.load_message-message.ensures c.message_step-step.ensures c.receiver-local.ensures (sym c.is_gone.ensures ∙ c.if-is_gone.true) c.lose.ensures
 
 pub asked_effect-effect-requires : goal.asked_effect-effect-requires
 asked_effect-effect-requires c = step_slot c.args.cluster c.args.index c.args.removes _ _ c.message_step-step.ensures
 
-pub places_left-requires : goal.places_left-requires
-places_left-requires c = (c.requires.0.servers, c.requires.0.messages)
+pub places_refusal-requires : goal.places_refusal-requires
+places_refusal-requires c = (c.requires.0.servers, c.requires.0.messages)
+
+pub returns-in_err-places_refusal : goal.returns-in_err-places_refusal
+returns-in_err-places_refusal c =
+    let p = err_from_is_err_and c.from_residual.result c.from_residual.ensures.1 in
+    rw (p.1, p.2)
+    (listed_handed _ _ _ _ _ _ _ _ _ c.args.cluster c.args.index c.args.removes _ _ _ c.load_message-message.ensures c.message_step-step.ensures c.receiver-local.ensures c.asked_effect-effect.result (sym c.is_gone.ensures ∙ c.if-is_gone.false) c.asked_effect-effect.ensures
+    (no_places_left _ _ _ _ _ _ c.asked_effect-effect.result _ _ _ c.handled_move-next.ensures c.places_refusal.ensures c.in_err-places_refusal.was))
 
 pub carry_out-told-requires : goal.carry_out-told-requires
 carry_out-told-requires c =
-    carries (handable c.args.cluster c.args.index c.args.removes _ _ c.message_step-step.ensures c.requires.0 c.requires.1 _ (sym c.is_gone.ensures ∙ c.if-is_gone.false)) c.places_left.ensures c.if-places_left.true
-
-pub returns-then-places_left : goal.returns-then-places_left
-returns-then-places_left c =
-    let q = reported c.asked_effect-effect.result c.carry_out-told.ensures c.report_of.ensures in
-    listed_handed _ _ _ _ _ _ _ _ _ c.args.cluster c.args.index c.args.removes _ _ _ c.load_message-message.ensures c.message_step-step.ensures c.receiver-local.ensures c.asked_effect-effect.result (sym c.is_gone.ensures ∙ c.if-is_gone.false) c.asked_effect-effect.ensures
-    (record { is = handled _ _ _ _ _ _ c.asked_effect-effect.result _ _ _ c.handled_move-next.ensures c.places_left.ensures c.if-places_left.true q.is; effect = q.effect })
+    carries _ _ (handable c.args.cluster c.args.index c.args.removes _ _ c.message_step-step.ensures c.requires.0 c.requires.1 _ (sym c.is_gone.ensures ∙ c.if-is_gone.false)) c.places_refusal.ensures c.in_ok-places_refusal.was
 
 pub returns : goal.returns
 returns c =
     listed_handed _ _ _ _ _ _ _ _ _ c.args.cluster c.args.index c.args.removes _ _ _ c.load_message-message.ensures c.message_step-step.ensures c.receiver-local.ensures c.asked_effect-effect.result (sym c.is_gone.ensures ∙ c.if-is_gone.false) c.asked_effect-effect.ensures
-    (record { is = no_places_left _ _ _ _ _ _ c.asked_effect-effect.result _ _ _ c.handled_move-next.ensures c.places_left.ensures c.if-places_left.false c.bare_report.ensures; effect = ap (λ r. r.effect) c.bare_report.ensures })
+    (handled _ _ _ _ _ _ c.asked_effect-effect.result _ _ _ _ c.handled_move-next.ensures c.places_refusal.ensures c.in_ok-places_refusal.was (reported c.asked_effect-effect.result c.carry_out-told.ensures c.report_of.ensures))

@@ -1,21 +1,27 @@
 -- `one_line::planned_line` meets its contract: planned, then carried out.
-use Rattle.std.proofs.Common.{sym, ◌∙◌, subst}
+use Rattle.std.proofs.Common.{sym, ◌∙◌}
+use Rattle.std.proofs.lemmas.Result.{err_from_is_err_and}
 use Rattle.runs.proofs.Standing.{standing_measured}
-use Rattle.machine.specs.Steps.{Executable}
 use Rattle.machine.proofs.Executables.{executable}
-use Rattle.machine.proofs.Planning.{planned_run_lem, unplanned_run}
+use Rattle.machine.proofs.Planning.{accepted_run, refused_plan_run, unplanned_run}
 use Rattle.machine.proofs.one_line.planned_line.Goals as goal
 
-pub plan_line-plan-requires : goal.plan_line-plan-requires
-plan_line-plan-requires c = (standing_measured _ (sym c.standing.ensures ∙ c.if-standing.true), c.requires)
+pub returns-then-not-standing : goal.returns-then-not-standing
+returns-then-not-standing c = unplanned_run _ _ _ _ c.load_counts-cluster.ensures (sym c.standing.ensures ∙ c.if-not-standing.true)
+
+pub plan_line-requires : goal.plan_line-requires
+plan_line-requires c = (standing_measured _ (sym c.standing.ensures ∙ c.if-not-standing.false), c.requires)
+
+pub returns-in_err-plan : goal.returns-in_err-plan
+returns-in_err-plan c =
+    let p = err_from_is_err_and c.from_residual.result c.from_residual.ensures.1 in
+    rw (p.1, p.2)
+    (refused_plan_run _ _ _ _ c.load_counts-cluster.ensures _ _ (sym c.standing.ensures ∙ c.if-not-standing.false) c.plan_line.ensures c.in_err-plan.was)
 
 pub execute-requires : goal.execute-requires
 execute-requires c =
-    subst (Executable _) (sym c.plan_line-plan.ensures.is) (executable _ _ _ _ (standing_measured _ (sym c.standing.ensures ∙ c.if-standing.true)))
-
-pub returns-then-standing : goal.returns-then-standing
-returns-then-standing c =
-    planned_run_lem _ _ _ _ c.load_counts-cluster.ensures _ _ _ _ (sym c.standing.ensures ∙ c.if-standing.true) c.plan_line-plan.ensures c.execute.ensures
+    executable _ _ _ _ (standing_measured _ (sym c.standing.ensures ∙ c.if-not-standing.false)) c.plan_line.ensures.is c.in_ok-plan.was
 
 pub returns : goal.returns
-returns c = unplanned_run _ _ _ _ c.load_counts-cluster.ensures _ _ (sym c.standing.ensures ∙ c.if-standing.false) c.bare_report.ensures
+returns c =
+    accepted_run _ _ _ _ c.load_counts-cluster.ensures _ _ _ _ _ (sym c.standing.ensures ∙ c.if-not-standing.false) c.plan_line.ensures c.in_ok-plan.was c.execute.ensures

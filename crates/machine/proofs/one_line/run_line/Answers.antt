@@ -1,23 +1,30 @@
--- `one_line::run_line` meets its contract: by the route of the line.
-use Rattle.std.proofs.Common.{sym, refl, ◌∙◌}
-use Rattle.machine.proofs.Planning.{malformed_run, cluster_run_lem, other_run, hand_run}
+-- `one_line::run_line` meets its contract: kind by kind.
+use Rattle.std.proofs.Common.{ap, ◌∙◌}
+use Rattle.machine.proofs.Planning.{planned_by_default, malformed_run, cluster_made, cluster_refused, deliver_run, copy_run, planned_run_of}
+use Rattle.std.proofs.lemmas.Result.{err_from_is_err_and}
 use Rattle.machine.proofs.one_line.run_line.Goals as goal
 
-pub returns-then-route-eq-MALFORMED_LINE : goal.returns-then-route-eq-MALFORMED_LINE
-returns-then-route-eq-MALFORMED_LINE c =
-    malformed_run _ _ _ _ _ _ refl (sym c.route_of-route.ensures ∙ c.if-route-eq-MALFORMED_LINE.true) c.bare_report.ensures
+pub returns-in-Malformed : goal.returns-in-Malformed
+returns-in-Malformed c = malformed_run _ _ _ c.in-Malformed.is
 
-pub returns-then-route-eq-CLUSTER_LINE : goal.returns-then-route-eq-CLUSTER_LINE
-returns-then-route-eq-CLUSTER_LINE c =
-    cluster_run_lem _ _ _ _ _ _ _ _ _ _ _ _ refl (sym c.route_of-route.ensures ∙ c.if-route-eq-CLUSTER_LINE.true) c.cluster_line-refusal.ensures c.bare_report-then-route-eq-CLUSTER_LINE.ensures
+pub returns-in_err-cluster_line-in-Cluster : goal.returns-in_err-cluster_line-in-Cluster
+returns-in_err-cluster_line-in-Cluster c =
+    let p = err_from_is_err_and c.from_residual.result c.from_residual.ensures.1 in
+    rw (p.1, p.2) (cluster_refused _ _ _ _ _ _ _ _ _ _ c.in-Cluster.is c.cluster_line.ensures c.in_err-cluster_line.was)
+
+pub returns-in_ok-cluster_line-in-Cluster : goal.returns-in_ok-cluster_line-in-Cluster
+returns-in_ok-cluster_line-in-Cluster c =
+    cluster_made _ _ _ _ _ _ _ _ _ _ _ c.in-Cluster.is c.cluster_line.ensures c.in_ok-cluster_line.was c.bare_report.ensures
+
+pub returns-in-Deliver : goal.returns-in-Deliver
+returns-in-Deliver c = deliver_run _ _ _ _ _ _ c.in-Deliver.is c.hand_line.ensures
+
+pub returns-in-Copy : goal.returns-in-Copy
+returns-in-Copy c = copy_run _ _ _ _ _ _ c.in-Copy.is c.hand_line-in-Copy.ensures
 
 pub planned_line-requires : goal.planned_line-requires
-planned_line-requires c = sym c.route_of-route.ensures ∙ c.if-route-eq-PLANNED_LINE.true
+planned_line-requires c = planned_by_default _ c.in_default.not-Malformed c.in_default.not-Cluster c.in_default.not-Deliver c.in_default.not-Copy
 
-pub returns-then-route-eq-PLANNED_LINE : goal.returns-then-route-eq-PLANNED_LINE
-returns-then-route-eq-PLANNED_LINE c =
-    other_run _ _ _ _ _ _ _ refl (λ z. c.if-route-eq-MALFORMED_LINE.false (c.route_of-route.ensures ∙ z)) (λ z. c.if-route-eq-CLUSTER_LINE.false (c.route_of-route.ensures ∙ z)) c.planned_line.ensures
-
-pub returns : goal.returns
-returns c =
-    hand_run _ _ _ _ _ _ _ c.route_of-route.ensures c.if-route-eq-MALFORMED_LINE.false c.if-route-eq-CLUSTER_LINE.false c.if-route-eq-PLANNED_LINE.false c.hand_line.ensures
+pub returns-in_default : goal.returns-in_default
+returns-in_default c =
+    planned_run_of _ _ _ _ _ _ (planned_by_default _ c.in_default.not-Malformed c.in_default.not-Cluster c.in_default.not-Deliver c.in_default.not-Copy) c.planned_line.ensures

@@ -3,4 +3,4 @@ use Rattle.machine_carrying.proofs.Zeros.{copies_zeroed}
 use Rattle.machine_carrying.proofs.fresh.zero_copies.Goals as goal
 
 pub returns : goal.returns
-returns c = copies_zeroed c.args.bytes.now _ c.requires c.zero_bytes.ensures
+returns c = copies_zeroed c.args.bytes.now _ c.told-bytes c.fill.ensures.after

@@ -3,4 +3,4 @@ use Rattle.machine_carrying.proofs.Zeros.{heads_zeroed}
 use Rattle.machine_carrying.proofs.fresh.zero_heads.Goals as goal
 
 pub returns : goal.returns
-returns c = heads_zeroed c.args.words.now _ c.requires c.zero_words.ensures
+returns c = heads_zeroed c.args.words.now _ c.told-words c.fill.ensures.after

@@ -3,4 +3,4 @@ use Rattle.machine_carrying.proofs.Zeros.{slots_zeroed}
 use Rattle.machine_carrying.proofs.fresh.zero_slots.Goals as goal
 
 pub returns : goal.returns
-returns c = slots_zeroed c.args.words.now _ c.requires c.zero_words.ensures
+returns c = slots_zeroed c.args.words.now _ c.told-words c.fill.ensures.after

@@ -1,12 +1,8 @@
 -- `locals::clear_slots` meets its contract: slot by slot.
 use mathlib.Core.Path.{◌≡◌}
-use Prim.Native.Nat.{◌≤◌, ◌-◌}
 use Rattle.memory_regions.specs.Regions.{regions, with_slots}
 use Rattle.views.specs.Changes.{cleared_slots}
 use Rattle.machine_steps.proofs.locals.clear_slots.Given as goal
 
 abbrev pub invariant-loop-bucket : goal.invariant-loop-bucket
-invariant-loop-bucket l = (l.bucket ≤ l.buckets) × (regions l.words ≡ with_slots (regions l.initial.words) (cleared_slots (regions l.initial.words).slots l.server l.bucket))
-
-abbrev pub decreases-loop-bucket : goal.decreases-loop-bucket
-decreases-loop-bucket l = l.buckets - l.bucket
+invariant-loop-bucket l = regions l.words ≡ with_slots (regions l.initial.words) (cleared_slots (regions l.initial.words).slots l.server l.bucket)

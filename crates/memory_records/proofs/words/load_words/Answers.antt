@@ -8,6 +8,6 @@ returns c =
     rw (
       c.item_from-value.ensures,
       c.item_from-expected.ensures,
-      c.key_from-key.ensures,
+      c.text_from-key.ensures,
       c.load_numbers-numbers.ensures,
     )

@@ -3,11 +3,11 @@ use mathlib.Core.Path.{◌≡◌, refl}
 use native.Mathlib.Omega.{arith}
 use borrow.Author.Rules.{rules}
 use lib.ListN.{length, length-take}
-use Rattle.entries.specs.Decoded.{key_bytes}
+use Rattle.entries.specs.Decoded.{text_bytes}
 use Rattle.output.proofs.answer_list.key_of.Goals as goal
 
 pub returns : goal.returns
-unfolding key_bytes
+unfolding text_bytes
 returns c =
     let l : length c.args.entry.key.bytes ≡ 8 = search rules in
     record { is = refl; short = omega (arith, length-take c.args.entry.key.len c.args.entry.key.bytes) }

@@ -24,26 +24,6 @@ returns-in-Value c = rw (data_value c.args.word (found_in c.args.found.now) c.in
 pub returns-in-Keys : goal.returns-in-Keys
 returns-in-Keys c = rw (data_keys c.args.word (found_in c.args.found.now) c.in-Keys.is) c.put_keys.ensures
 
-pub returns-in-Done : goal.returns-in-Done
-unfolding result_of result_for data_of
-returns-in-Done c = printed_none _ _ (rw c.in-Done.is)
-
-pub returns-in-Mismatch : goal.returns-in-Mismatch
-unfolding result_of result_for data_of
-returns-in-Mismatch c = printed_none _ _ (rw c.in-Mismatch.is)
-
-pub returns-in-Full : goal.returns-in-Full
-unfolding result_of result_for data_of
-returns-in-Full c = printed_none _ _ (rw c.in-Full.is)
-
-pub returns-in-NotDone : goal.returns-in-NotDone
-unfolding result_of result_for data_of
-returns-in-NotDone c = printed_none _ _ (rw c.in-NotDone.is)
-
-pub returns-in-Unknown : goal.returns-in-Unknown
-unfolding result_of result_for data_of
-returns-in-Unknown c = printed_none _ _ (rw c.in-Unknown.is)
-
 pub returns-in-Absent : goal.returns-in-Absent
 unfolding bytes
 returns-in-Absent c = rw (data_absent c.args.word (found_in c.args.found.now) c.in-Absent.is) c.put_bytes.ensures

@@ -1,5 +1,4 @@
 -- `found_data::put_each_key` meets its contract: key by key.
-use Prim.Native.Nat.{◌-◌}
 use Rattle.model.specs.Print.{key_list}
 use Rattle.memory_found.specs.Found.{found_in}
 use Rattle.print.proofs.Printing.{Each}
@@ -7,6 +6,3 @@ use Rattle.output_found.proofs.found_data.put_each_key.Given as goal
 
 abbrev pub invariant-loop-i : goal.invariant-loop-i
 invariant-loop-i l = Each key_list (found_in l.found) l.initial.out l.at l.out l.end l.i
-
-abbrev pub decreases-loop-i : goal.decreases-loop-i
-decreases-loop-i l = l.count - l.i

@@ -1,7 +1,7 @@
 -- `found_data::put_keys` meets its contract: by their number.
 use mathlib.Core.Path.{sym, ◌∙◌}
 use Rattle.model.specs.Text.{bytes}
-use Rattle.print.proofs.Texts.{keys_none, keys_some}
+use Rattle.output_found.proofs.Texts.{keys_none, keys_some}
 use Rattle.output_found.proofs.found_data.put_keys.Goals as goal
 
 pub put_bytes-requires : goal.put_bytes-requires
@@ -15,5 +15,5 @@ returns-then-found_count-eq0 c = rw (keys_none _ (sym c.found_count.ensures.is �
 pub put_each_key-requires : goal.put_each_key-requires
 put_each_key-requires c = rw (keys_some _ (λ e. c.if-found_count-eq0.false (c.found_count.ensures.is ∙ e))) at c.requires
 
-pub returns : goal.returns
-returns c = rw (keys_some _ (λ e. c.if-found_count-eq0.false (c.found_count.ensures.is ∙ e))) c.put_each_key.ensures
+pub returns-else-found_count-eq0 : goal.returns-else-found_count-eq0
+returns-else-found_count-eq0 c = rw (keys_some _ (λ e. c.if-found_count-eq0.false (c.found_count.ensures.is ∙ e))) c.put_each_key.ensures

