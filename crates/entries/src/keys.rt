@@ -1,24 +1,10 @@
 // Keys and values by value: how long they are, how keys stand to each other, and how they are made of lent bytes.
-ghost use Rattle.std.specs.Prelude.{◌≡◌, ◌≤◌, min, take};
+ghost use Rattle.std.specs.Prelude.{◌≡◌, ◌≤◌, take};
 ghost use Rattle.entries.specs.Entries.{order};
 ghost use Rattle.entries.specs.Decoded.{Cut, key_bytes, text_bytes, empty_text};
 
 use crate::{Key, Text};
 use std::cmp::Ordering;
-
-// A number, or `top` where it is above.
-pub fn at_most(number: usize, top: usize) -> usize
-    ensures { result ≡ min top number }
-{
-    number.min(top)
-}
-
-// A byte as a number to count with.
-pub fn wide(byte: u8) -> usize
-    ensures { result ≡ byte }
-{
-    usize::from(byte)
-}
 
 impl<const ROOM: usize> Text<ROOM> {
     // The text of the lent bytes, of the first ROOM where there are more.

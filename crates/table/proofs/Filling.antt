@@ -37,35 +37,6 @@ put_zeros l at k ys e h =
     let n : length (take k (drop at l)) ≡ k = length-take-le k (drop at l) (simp length-drop (omega arith)) in
     put_part l at k ys (replicate k 0) (e ∙ ap (λ m. replicate m 0) n) (sym (length-replicate k 0)) (rw length-replicate h)
 
--- ---- a list w of n bytes written byte by byte: i of them are written from `at` on
-pub record Putting (out₀ : List ℕ) (at : ℕ) (w : List ℕ) (n : ℕ) (out : List ℕ) (i : ℕ) : Type 0 where
-  pub all : length w ≡ n
-  pub inside : i ≤ n
-  pub room : at + n ≤ length out₀
-  pub size : length out ≡ length out₀
-  pub rest : sets out₀ at w ≡ sets out (at + i) (drop i w)
-
-pub putting_starts : (out : List ℕ) (at : ℕ) (w : List ℕ) {n : ℕ} → length w ≡ n → at + n ≤ length out → Putting out at w n out 0
-putting_starts out at w a h =
-    let e : at + 0 ≡ at = omega arith in
-    record { all = a; inside = omega arith; room = h; size = refl; rest = rw e }
-
-module _ {out₀ : List ℕ} {at : ℕ} {w : List ℕ} {n : ℕ} {out : List ℕ} {i : ℕ} (c : Putting out₀ at w n out i) where
-  pub putting_goes_on : {x : ℕ} → i < n → get_or w i 0 ≡ x → Putting out₀ at w n (set out (at + i) x) (i + 1)
-  putting_goes_on {x} h e =
-      let m : at + (i + 1) ≡ suc (at + i) = omega arith in
-      let k : i < length w = omega (arith, c.all) in
-      record {
-        all = c.all;
-        inside = omega arith;
-        room = c.room;
-        size = length-set out (at + i) x ∙ c.size;
-        rest = c.rest ∙ rw (drop-cons w i 0 k, e, m, add-one i);
-      }
-
-  pub putting_ends : n ≤ i → out ≡ sets out₀ at w
-  putting_ends h = sym (c.rest ∙ rw (drop_of_length-le w {i = i} (omega (arith, c.all))))
-
 -- ---- the header: the offsets and lengths of the first i entries are written, and the next key begins at `at`
 pub record Heading (out₀ : List ℕ) (l : List Slot) (out : List ℕ) (at i : ℕ) : Type 0 where
   pub inside : i ≤ length l
