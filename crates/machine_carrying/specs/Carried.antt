@@ -7,6 +7,7 @@ use Rattle.memory.specs.declared.Counts.{Counts}
 use Rattle.memory.specs.Layout.{slot_of, put_counts}
 use Rattle.memory.specs.Lent.{Lent, was, is}
 use Rattle.refusals.specs.Refusals.{send_count}
+use Rattle.moves.specs.declared.Filling.{Filling}
 use Rattle.moves.specs.declared.Move.{Move}
 use Rattle.plans.specs.declared.Step.{Step}
 use Rattle.views.specs.Memory.{Memory, memory}
@@ -24,7 +25,7 @@ use Rattle.runs.specs.Runs.{ran, next_counts, left_flight, carried_run, lost_run
 -- ---- parts of a memory that a move changes
 
 -- the working content of slot k is filled, from the message at place i or with the table `made`
-abbrev pub with_filled : Memory → ℕ → ℕ → List Entry → ℕ → Memory
+abbrev pub with_filled : Memory → ℕ → ℕ → List Entry → Filling → Memory
 with_filled m k i made fills =
     memory m.counts m.heads m.slots m.copies (filled m k i made fills) m.texts m.queue m.payloads
 
