@@ -1,13 +1,11 @@
 -- Items one after another from the first on.
 use mathlib.Core.Path.{◌≡◌, refl, sym, ap, ◌∙◌}
 use mathlib.Core.List.{List, []}
-use Prim.Native.Nat.{ℕ, zero, suc, ◌≤◌, ◌<◌, ◌+◌, ◌-◌, min}
+use Prim.Native.Nat.{ℕ, zero, suc, ◌<◌, ◌+◌, ◌-◌, min}
 use native.Mathlib.Omega.{arith}
 use native.Mathlib.Nat.{zero-add}
-use native.Mathlib.Decide.{dec_le}
-use lib.ListN.{length, take, drop, get_or, length-drop, drop_of_length-le, get_or-eq_default}
+use lib.ListN.{length, take, drop, get_or, length-drop}
 use lib.Seq.{take_all, drop-drop, get_or-drop}
-use Rattle.entries.proofs.Lists.{take_min}
 use Rattle.memory_found.specs.Found.{most_items, found_len, items_in, found_in}
 use Rattle.memory_found.specs.Steps.{FoundCount}
 
@@ -52,6 +50,3 @@ item_there b {i} {r} {x} h f e =
     let z : i + 0 ≡ i = omega arith in
     let g : get_or (drop i (items_in (i + suc k) (drop 1 b))) 0 [] ≡ get_or (items_in (i + suc k) (drop 1 b)) i [] = get_or-drop i (items_in (i + suc k) (drop 1 b)) 0 [] ∙ rw z in
     e ∙ sym (ap (λ x. get_or (items_in x (drop 1 b)) i []) m ∙ sym g ∙ ap (λ x. get_or x 0 []) (f.is (suc k)))
-
-pub no_item : (b : List ℕ) {i n : ℕ} → FoundCount b n → n ≤ i → [] ≡ get_or (found_in b) i []
-no_item b {i} c h = sym (get_or-eq_default (found_in b) [] {n = i} (omega (arith, c.is)))

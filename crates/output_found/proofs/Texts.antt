@@ -112,6 +112,17 @@ pub data_keys : (o : ResultWord) (l : List (List ℕ)) → o ≡ O.Keys → data
 unfolding result_of result_for data_of
 data_keys o l e = rw e
 
+pub data_none : (o : ResultWord) (l : List (List ℕ)) → (o ≡ O.Value → ⊥) → (o ≡ O.Keys → ⊥) → (o ≡ O.Absent → ⊥) → data_of (result_of o l) ≡ []
+unfolding result_of result_for data_of
+data_none O.Value l h k e = absurd (h refl)
+data_none O.Keys l h k e = absurd (k refl)
+data_none O.Absent l h k e = absurd (e refl)
+data_none O.Done l h k e = refl
+data_none O.Mismatch l h k e = refl
+data_none O.Full l h k e = refl
+data_none O.NotDone l h k e = refl
+data_none O.Unknown l h k e = refl
+
 -- ---- the same answer as with its data by value: where the word asks for them, the first item is the value, and the items are the keys
 
 pub same_result : (o : ResultWord) (v : List ℕ) (l found : List (List ℕ)) → (o ≡ O.Value → item_of found 0 ≡ v) → (o ≡ O.Keys → found ≡ l) → result_of o found ≡ result_for o v l

@@ -1,7 +1,7 @@
 -- `reading::found_at` meets its contract: item by item.
-use mathlib.Core.Path.{◌≡◌, ◌∙◌}
+use mathlib.Core.Path.{◌≡◌}
 use native.Mathlib.Omega.{arith}
-use Rattle.memory_found.proofs.Items.{From, from_start, from_next, item_there, no_item, length_found}
+use Rattle.memory_found.proofs.Items.{from_start, from_next, item_there, length_found}
 use borrow.Author.Rules.{rules}
 use Rattle.memory_found.proofs.reading.found_at.Goals as goal
 

@@ -1,7 +1,6 @@
 -- `writing::put_each_key` meets its contract: key by key.
 use Rattle.memory_found.proofs.Forms.{listing_starts, listing_fits, listing_goes_on, listing_ends}
 use native.Mathlib.Omega.{arith}
-use borrow.Author.Rules.{rules}
 use Rattle.memory_found.proofs.writing.put_each_key.Goals as goal
 
 pub loop-slot-init : goal.loop-slot-init

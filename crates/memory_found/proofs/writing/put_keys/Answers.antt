@@ -1,6 +1,6 @@
 -- `writing::put_keys` meets its contract: their number, then the keys.
 use mathlib.Core.Path.{sym, ap, ◌∙◌}
-use lib.ListN.{length, length-map, length-set}
+use lib.ListN.{length, length-map}
 use borrow.Author.Rules.{rules}
 use Rattle.entries.specs.Entries.{keys_of}
 use Rattle.entries.specs.Decoded.{entry_in, table_in}

@@ -1,11 +1,8 @@
 -- `found_data::put_data` meets its contract: word by word.
 use Rattle.model.specs.Text.{bytes}
-use Rattle.model.specs.Print.{data_of}
 use Rattle.memory_found.specs.Found.{found_in}
-use Rattle.print.specs.Answers.{result_for}
 use Rattle.print.proofs.Printing.{printed_none}
-use Rattle.output_found.specs.Answers.{result_of}
-use Rattle.output_found.proofs.Texts.{data_value, data_absent, data_keys}
+use Rattle.output_found.proofs.Texts.{data_value, data_absent, data_keys, data_none}
 use Rattle.output_found.proofs.found_data.put_data.Goals as goal
 
 pub put_value-requires : goal.put_value-requires
@@ -27,3 +24,6 @@ returns-in-Keys c = rw (data_keys c.args.word (found_in c.args.found.now) c.in-K
 pub returns-in-Absent : goal.returns-in-Absent
 unfolding bytes
 returns-in-Absent c = rw (data_absent c.args.word (found_in c.args.found.now) c.in-Absent.is) c.put_bytes.ensures
+
+pub returns-in_default : goal.returns-in_default
+returns-in_default c = printed_none _ _ (data_none c.args.word (found_in c.args.found.now) c.in_default.not-Value c.in_default.not-Keys c.in_default.not-Absent)

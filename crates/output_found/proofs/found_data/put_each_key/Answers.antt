@@ -1,5 +1,4 @@
 -- `found_data::put_each_key` meets its contract: key by key.
-use native.Mathlib.Omega.{arith}
 use Rattle.model.specs.Print.{key_list}
 use Rattle.memory_found.specs.Found.{found_in}
 use Rattle.print.proofs.Printing.{each_starts, each_fits, each_goes_on, each_ends, each_size}
@@ -12,14 +11,14 @@ loop-i-init c = each_starts key_list _ _ _ c.requires
 
 pub put_key-end-requires : goal.put_key-end-requires
 put_key-end-requires c =
-    each_fits c.loop-i.invariant (next_item (found_in c.args.found.now) c.loop-i.i (rw (← c.found_count.ensures.is) c.loop-i-test.true))
+    each_fits c.loop-i.invariant (next_item (found_in c.args.found.now) c.loop-i.i (rw (← c.found_count-i-end.ensures.is) c.loop-i-test.true))
 
 pub loop-i-preserved : goal.loop-i-preserved
 loop-i-preserved c =
-    each_goes_on c.loop-i.invariant (rw (← c.found_count.ensures.is) c.loop-i-test.true) (next_item (found_in c.args.found.now) c.loop-i.i (rw (← c.found_count.ensures.is) c.loop-i-test.true)) c.put_key-end.ensures
+    each_goes_on c.loop-i.invariant (rw (← c.found_count-i-end.ensures.is) c.loop-i-test.true) (next_item (found_in c.args.found.now) c.loop-i.i (rw (← c.found_count-i-end.ensures.is) c.loop-i-test.true)) c.put_key-end.ensures
 
 pub shape_of-out : goal.shape_of-out
 shape_of-out c = each_size c.loop-i.invariant
 
 pub returns : goal.returns
-returns c = each_ends c.loop-i.invariant keys_end (rw (← c.found_count.ensures.is) c.loop-i-test.false)
+returns c = each_ends c.loop-i.invariant keys_end (rw (← c.found_count-i-end.ensures.is) c.loop-i-test.false)
