@@ -1,5 +1,8 @@
 -- The lent arrays of a cluster in contracts: what they were when a function was called, and what they are when it returns.
-use Rattle.std.specs.Prelude.{List, ℕ}
+use Rattle.std.specs.Prelude.{◌≡◌, List, ℕ}
+use Rattle.std.specs.Borrow.{MutBor}
+use denote.Triple.Both.{Both}
+use Rattle.memory.specs.declared.Arrays.{Arrays}
 use Rattle.memory.specs.Lent.{Lent, was, is}
 use Rattle.views.specs.Memory.{Memory, memory}
 
@@ -15,8 +18,38 @@ pub record Lents : Type 0 where
   pub payloads : Lent
   pub answers : Lent
 
-abbrev pub lent : (counts heads slots copies working texts queue payloads answers : Lent) → Lents
-lent c h s k w t q l a = record { counts = c; heads = h; slots = s; copies = k; working = w; texts = t; queue = q; payloads = l; answers = a }
+-- lent one by one
+abbrev pub lent_each : (counts heads slots copies working texts queue payloads answers : Lent) → Lents
+lent_each c h s k w t q l a = record { counts = c; heads = h; slots = s; copies = k; working = w; texts = t; queue = q; payloads = l; answers = a }
+
+-- lent together, in a struct that is itself lent
+abbrev pub LentArrays : Type 0
+LentArrays = Both (MutBor Arrays) (MutBor Arrays)
+
+abbrev pub lent : LentArrays → Lents
+lent a = record {
+  counts = record { entry = a.entry.now.counts; exit = a.exit.now.counts };
+  heads = record { entry = a.entry.now.heads; exit = a.exit.now.heads };
+  slots = record { entry = a.entry.now.slots; exit = a.exit.now.slots };
+  copies = record { entry = a.entry.now.copies; exit = a.exit.now.copies };
+  working = record { entry = a.entry.now.working; exit = a.exit.now.working };
+  texts = record { entry = a.entry.now.texts; exit = a.exit.now.texts };
+  queue = record { entry = a.entry.now.queue; exit = a.exit.now.queue };
+  payloads = record { entry = a.entry.now.payloads; exit = a.exit.now.payloads };
+  answers = record { entry = a.entry.now.answers; exit = a.exit.now.answers };
+}
+
+-- the struct holds the same arrays when the function returns, whatever is written in them
+pub record SameArrays (a : LentArrays) : Type 0 where
+  pub counts : a.exit.now.counts.ghost_name ≡ a.entry.now.counts.ghost_name
+  pub heads : a.exit.now.heads.ghost_name ≡ a.entry.now.heads.ghost_name
+  pub slots : a.exit.now.slots.ghost_name ≡ a.entry.now.slots.ghost_name
+  pub copies : a.exit.now.copies.ghost_name ≡ a.entry.now.copies.ghost_name
+  pub working : a.exit.now.working.ghost_name ≡ a.entry.now.working.ghost_name
+  pub texts : a.exit.now.texts.ghost_name ≡ a.entry.now.texts.ghost_name
+  pub queue : a.exit.now.queue.ghost_name ≡ a.entry.now.queue.ghost_name
+  pub payloads : a.exit.now.payloads.ghost_name ≡ a.entry.now.payloads.ghost_name
+  pub answers : a.exit.now.answers.ghost_name ≡ a.entry.now.answers.ghost_name
 
 -- the cluster's memory before and after
 abbrev pub old : Lents → Memory
