@@ -1,3 +1,1 @@
--- Laws that belong to no one function.
-pub mod Testing
-pub mod Sounding
+-- Laws that the tests' proofs cite.

@@ -19,7 +19,7 @@ fnv_byte h b = bit_xor h b * prime % 2 ^ 32
 
 -- a key's hash: after each of its bytes, the first one first
 unfoldable pub fnv : List ℕ → ℕ
-unfolding offset_basis
+unfolding offset_basis fnv_byte
 fnv key = fold fnv_byte offset_basis key
 
 -- a key's bucket: its hash modulo the number of buckets, and 0 where there are no buckets

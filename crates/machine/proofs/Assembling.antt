@@ -1,4 +1,5 @@
 -- The parts of a step, put together, are the run of specs/Runs.antt in crate `runs`.
+use Rattle.std.specs.Prelude.{Ok}
 use Rattle.std.proofs.Common.{◌≡◌, ℕ, ◌+◌, ◌-◌, ◌≤◌, Bool, true, false, leb, List, sym, ap, ◌∙◌, arith}
 use Rattle.entries.specs.Entries.{Entry}
 use Rattle.server.specs.declared.Effect.{Effect}
@@ -12,10 +13,10 @@ use Rattle.views.specs.Changes.{filled_from, moved}
 use Rattle.views.specs.Queue.{flight, without_message}
 use Rattle.flight.specs.Flown.{Flown}
 use Rattle.plans.specs.declared.Step.{Step}
-use Rattle.runs.specs.declared.Report.{Report}
-use Rattle.runs.specs.Runs.{Ran, ran, carried_run}
-use Rattle.machine.specs.declared.Told.{Told}
-use Rattle.machine.specs.Steps.{CarriedOn, carried_report, CarriedOut, Reported}
+use Rattle.runs.specs.Runs.{ran, carried_run}
+use Rattle.runs.specs.declared.Told.{Told}
+use Rattle.runs.specs.Carrying.{carried_report}
+use Rattle.machine.specs.Steps.{CarriedOn}
 use borrow.Author.Tests.{lt-leb}
 use native.Mathlib.Decide.{dec_le}
 
@@ -44,8 +45,8 @@ pub carried_out : (counts heads slots copies working texts queue payloads l : Li
     (counts' heads' slots' copies' working' queue' payloads' l' : List ℕ) (k place : ℕ) (t : Told) → k ≡ slot_of x.server x.bucket → place ≡ place_at queue x.index
     → working' ≡ filled_from working copies payloads k place made v.fills
     → CarriedOn counts heads slots copies working' queue payloads l c x v place counts' heads' slots' copies' queue' payloads' l' t
-    → ran (memory counts' heads' slots' copies' working' texts queue' payloads') l' (carried_report t x f)
-    ≡ carried_run (memory counts heads slots copies working texts queue payloads) l c x v made
+    → ran (memory counts' heads' slots' copies' working' texts queue' payloads') l' (Ok (carried_report t x f))
+    ≡ carried_run (memory counts heads slots copies working texts queue payloads) l c x v made f
 unfolding carried_run moved
 carried_out counts heads slots copies working texts queue payloads l c x v f made counts' heads' slots' copies' working' queue' payloads' l' k place t h p w g =
     let s = g.server in
@@ -66,7 +67,3 @@ carried_out counts heads slots copies working texts queue payloads l c x v f mad
       h,
       p,
     )
-
--- what is reported of a move that was carried out
-pub reported : {y : Ran} {x : Step} {m : Memory} {l : List ℕ} {t : Told} (f : Effect) {r : Report} → CarriedOut y x m l t → r ≡ carried_report t x f → Reported y f m l r
-reported {m = m} {l = l} f h e = record { is = ap (ran m l) e ∙ h.is f; effect = ap (λ r. r.effect) e }

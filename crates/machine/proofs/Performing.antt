@@ -1,7 +1,7 @@
 -- A line's run, with its tally, is the definition's step.
+use Rattle.std.specs.Prelude.{Result, Ok, Err}
 use Rattle.std.proofs.Common.{◌≡◌, ℕ, ◌^◌, ◌<◌, Bool, true, false, eqb, List, length, sym, refl, ap, ◌∙◌, subst, mod-eq_of_lt, arith}
 use mathlib.Core.Option.{Option, none, some}
-use Rattle.entries.specs.Decoded.{table_in, value_bytes}
 use Rattle.model.specs.Measures.{max_election}
 use Rattle.model.specs.Cluster as cluster
 use Rattle.model.specs.Lines as lines
@@ -11,12 +11,12 @@ use Rattle.limits.proofs.Always.{line_keeps_measures}
 use Rattle.blocks.specs.Order.{Ordered}
 use Rattle.memory.specs.Layout.{counts_at, order_of}
 use Rattle.views.specs.Memory.{Memory, Sized, standing, cluster_in}
-use Rattle.views.specs.Changes.{answers_room, answers_at}
+use Rattle.views.specs.Changes.{answers_room}
 use Rattle.parse.specs.declared.Line.{Line}
 use Rattle.parse.specs.Meaning.{line_in}
+use Rattle.refusals.specs.declared.Refusal.{Refusal}
 use Rattle.runs.specs.declared.Report.{Report}
-use Rattle.runs.specs.Runs.{ran}
-use Rattle.runs.specs.Meaning.{state_in, Bounded, performed, tallied_by, result_of, WholeLine, tally_in, outcome_in, tally_after}
+use Rattle.runs.specs.Meaning.{state_in, Bounded, performed, tallied_by, result_by, result_of, WholeLine, tally_in, outcome_in, tally_after}
 use Rattle.runs.proofs.LineMeans.{line_means}
 use Rattle.runs.proofs.Ordering.{line_orders}
 use Rattle.runs.specs.declared.Tally.{Tally}
@@ -50,34 +50,33 @@ small (some c) t h = record {
   lost = omega (arith, h.tallied.balance, h.sent, h.copied, h.accepted);
 }
 
-module _ (m : Memory) (l : List ℕ) (t : Tally) (x : Line) (m' : Memory) (l' : List ℕ) (r : Report) (sized : Sized m) (answers : length l ≡ answers_room) (whole : WholeLine x) (run : RanLine m l x m' l' r)
+module _ (m : Memory) (l : List ℕ) (t : Tally) (x : Line) (m' : Memory) (l' : List ℕ) (r : Result Report Refusal) (sized : Sized m) (answers : length l ≡ answers_room) (whole : WholeLine x) (run : RanLine m l x m' l' r)
     (bounded : Bounded m (tally_in t)) where
-  abbrev after : lines.LineResult
-  after = record { state = state_in m' (tally_in (tally_after t r)); outcome = outcome_in r l' }
+  abbrev after : Result Report Refusal → lines.LineResult
+  after r = record { state = state_in m' (tally_in (tally_after t r)); outcome = outcome_in r l' }
 
-  raw_result : performed (state_in m (tally_in t)) (line_in x) ≡ result_of (tally_in t) (ran m' l' r) r.effect
+  raw_result : performed (state_in m (tally_in t)) (line_in x) ≡ result_by (tally_in t) m' l' r
   raw_result =
-      line_means m l (tally_in t) x r.effect sized answers whole bounded run.effect ∙ ap (λ y. result_of (tally_in t) y r.effect) (sym run.is)
+      line_means m l (tally_in t) x run.effect sized answers whole bounded run.asked ∙ ap (result_of (tally_in t)) (sym run.is)
 
   kept : Measured (performed (state_in m (tally_in t)) (line_in x)).state.cluster (performed (state_in m (tally_in t)) (line_in x)).state.tally
   kept = line_keeps_measures max_election (state_in m (tally_in t)) (line_in x) _ (performed_comes_out (state_in m (tally_in t)) (line_in x)) bounded.measured
 
-  by_refusal : (b : Bool) → eqb r.refusal 0 ≡ b → performed (state_in m (tally_in t)) (line_in x) ≡ after
-  unfolding result_of tally_after outcome_in
-  by_refusal false e = raw_result ∙ rw (result_of, tally_after, outcome_in, e)
-  by_refusal true e =
-      let result : performed (state_in m (tally_in t)) (line_in x) ≡ record { state = state_in m' (tallied_by (tally_in t) (ran m' l' r)); outcome = lines.printed (answers_at r.answers l' (value_bytes r.effect.value) (table_in r.effect.table)) } = raw_result ∙ rw (result_of, e) in
-      let low : Small (tallied_by (tally_in t) (ran m' l' r)) = small (cluster_in m') _ (subst (λ y. Measured y.state.cluster y.state.tally) result kept) in
-      result ∙ rw (tally_after, outcome_in, e, mod-eq_of_lt low.sent, mod-eq_of_lt low.copied, mod-eq_of_lt low.delivered, mod-eq_of_lt low.lost)
+  by_told : (r : Result Report Refusal) → performed (state_in m (tally_in t)) (line_in x) ≡ result_by (tally_in t) m' l' r → performed (state_in m (tally_in t)) (line_in x) ≡ after r
+  unfolding result_by tally_after outcome_in
+  by_told (Err e) result = result
+  by_told (Ok r) result =
+      let low : Small (tallied_by (tally_in t) r) = small (cluster_in m') _ (subst (λ y. Measured y.state.cluster y.state.tally) result kept) in
+      result ∙ rw (mod-eq_of_lt low.sent, mod-eq_of_lt low.copied, mod-eq_of_lt low.delivered, mod-eq_of_lt low.lost)
 
-  pub step_means : performed (state_in m (tally_in t)) (line_in x) ≡ after
-  step_means = by_refusal (eqb r.refusal 0) refl
+  pub step_means : performed (state_in m (tally_in t)) (line_in x) ≡ after r
+  step_means = by_told r raw_result
 
   pub step_bounded : Bounded m' (tally_in (tally_after t r))
   step_bounded =
       record {
         measured = subst (λ y. Measured y.state.cluster y.state.tally) step_means kept;
-        ordered = subst (λ (z : Memory). standing (counts_at z.counts) ≡ true → Ordered (order_of z.queue)) (sym (ap (λ z. z.memory) run.is)) (line_orders m l x r.effect sized.queue bounded.ordered);
+        ordered = subst (λ (z : Memory). standing (counts_at z.counts) ≡ true → Ordered (order_of z.queue)) (sym (ap (λ z. z.memory) run.is)) (line_orders m l x run.effect sized.queue bounded.ordered);
       }
 
 -- the contract of `step`, from its parts

@@ -1,58 +1,80 @@
 -- The plan of a line, from the arrays that it looks at, and the run that follows it.
-use Rattle.std.proofs.Common.{◌≡◌, ℕ, Bool, true, false, List, [], sym, refl, ap, ◌∙◌, subst, arith}
+use Rattle.std.specs.Prelude.{Result, Ok, Err}
+use Rattle.std.proofs.Common.{◌≡◌, ℕ, Bool, true, false, true≢false, List, [], sym, refl, ap, ◌∙◌, subst, arith}
 use Rattle.server.specs.declared.Words.{Words}
 use Rattle.server.specs.declared.Effect.{Effect}
 use Rattle.memory.specs.declared.Counts.{Counts}
 use Rattle.memory.specs.Layout.{counts_at}
 use Rattle.views.specs.Memory.{Memory, memory, standing}
+use Rattle.refusals.specs.declared.Refusal.{Refusal}
+use Rattle.refusals.specs.declared.Refusal.TheVariants.{Malformed, ClusterWrong}
 use Rattle.plans.specs.declared.Plan.{Plan}
-use Rattle.plans.specs.Plans.{elect_at, timeout_at, stop_at, start_at, call_at, hand_at, lose_at, cut_at}
+use Rattle.plans.specs.Plans.{no_effect, elect_at, timeout_at, stop_at, start_at, call_at, hand_at, lose_at, cut_at}
 use Rattle.plans.specs.Arrays.{elect_in, timeout_in, stop_in, start_in, cut_in, CallPlanned}
 use Rattle.parse.specs.declared.Kind.{Kind}
 use Rattle.parse.specs.declared.Kind.TheVariants as K
 use Rattle.parse.specs.declared.Line.{Line}
 use Rattle.runs.specs.declared.Report.{Report}
-use Rattle.runs.specs.Runs.{Ran, ran, refused_run, executed, words_of, line_plan, planned_run, run_by, line_run, EffectOf}
-use Rattle.machine.specs.Steps.{Reported, seen, is_planned, LinePlanned, Clustered, HandRan, RanPlan, RanLine}
+use Rattle.runs.specs.Runs.{Ran, ran, refused_run, accepted, executed, words_of, line_plan, planned_run, run_by, line_run, EffectOf}
+use Rattle.machine.specs.Steps.{cluster_told, seen, is_planned, LinePlanned, Clustered, HandRan, RanPlan, RanLine}
 
-module _ (heads slots copies queue : List ℕ) (c : Counts) (x : Line) (p : Plan) where
+module _ (heads slots copies queue : List ℕ) (c : Counts) (x : Line) (p : Result Plan Refusal) where
   -- the plan of a line, by its kind
-  simply : (k : Kind) → x.kind ≡ k → p ≡ line_plan k (seen heads slots copies [] queue) c x p.effect
-      → ((texts : List ℕ) → EffectOf k (seen heads slots copies texts queue) c x p.effect) → LinePlanned heads slots copies queue c x p
-  simply k e h g = record {
-    is = h ∙ sym (ap (λ k. line_plan k (seen heads slots copies [] queue) c x p.effect) e);
-    effect = λ texts. subst (λ k. EffectOf k (seen heads slots copies texts queue) c x p.effect) (sym e) (g texts);
+  simply : (f : Effect) (k : Kind) → x.kind ≡ k → p ≡ line_plan k (seen heads slots copies [] queue) c x f
+      → ((texts : List ℕ) → EffectOf k (seen heads slots copies texts queue) c x f) → LinePlanned heads slots copies queue c x p
+  simply f k e h g = record {
+    effect = f;
+    asked = λ texts. subst (λ k. EffectOf k (seen heads slots copies texts queue) c x f) (sym e) (g texts);
+    is = h ∙ sym (ap (λ k. line_plan k (seen heads slots copies [] queue) c x f) e);
   }
 
-  pub elect_planned : x.kind ≡ K.Elect → p ≡ elect_in heads slots c x.first p.effect → LinePlanned heads slots copies queue c x p
+  pub elect_planned : x.kind ≡ K.Elect → p ≡ elect_in heads slots c x.first → LinePlanned heads slots copies queue c x p
   unfolding line_plan elect_at
-  elect_planned e h = simply K.Elect e h (λ _. tt)
+  elect_planned e h = simply no_effect K.Elect e h (λ _. tt)
 
-  pub timeout_planned : x.kind ≡ K.Timeout → p ≡ timeout_in heads slots c x.first x.second p.effect → LinePlanned heads slots copies queue c x p
+  pub timeout_planned : x.kind ≡ K.Timeout → p ≡ timeout_in heads slots c x.first x.second → LinePlanned heads slots copies queue c x p
   unfolding line_plan timeout_at
-  timeout_planned e h = simply K.Timeout e h (λ _. tt)
+  timeout_planned e h = simply no_effect K.Timeout e h (λ _. tt)
 
-  pub stop_planned : x.kind ≡ K.Stop → p ≡ stop_in heads slots c x.first p.effect → LinePlanned heads slots copies queue c x p
+  pub stop_planned : x.kind ≡ K.Stop → p ≡ stop_in heads slots c x.first → LinePlanned heads slots copies queue c x p
   unfolding line_plan stop_at
-  stop_planned e h = simply K.Stop e h (λ _. tt)
+  stop_planned e h = simply no_effect K.Stop e h (λ _. tt)
 
-  pub start_planned : x.kind ≡ K.Start → p ≡ start_in heads slots c x.first p.effect → LinePlanned heads slots copies queue c x p
+  pub start_planned : x.kind ≡ K.Start → p ≡ start_in heads slots c x.first → LinePlanned heads slots copies queue c x p
   unfolding line_plan start_at
-  start_planned e h = simply K.Start e h (λ _. tt)
+  start_planned e h = simply no_effect K.Start e h (λ _. tt)
 
-  pub cut_planned : x.kind ≡ K.Cut → p ≡ cut_in heads slots queue c x.first x.second p.effect → LinePlanned heads slots copies queue c x p
+  pub cut_planned : x.kind ≡ K.Cut → p ≡ cut_in heads slots queue c x.first x.second → LinePlanned heads slots copies queue c x p
   unfolding line_plan cut_at
-  cut_planned e h = simply K.Cut e h (λ _. tt)
+  cut_planned e h = simply no_effect K.Cut e h (λ _. tt)
 
-  pub lose_planned : x.kind ≡ K.Lose → p ≡ lose_at c x.first p.effect → LinePlanned heads slots copies queue c x p
+  pub lose_planned : x.kind ≡ K.Lose → p ≡ lose_at c x.first → LinePlanned heads slots copies queue c x p
   unfolding line_plan
-  lose_planned e h = simply K.Lose e h (λ _. tt)
+  lose_planned e h = simply no_effect K.Lose e h (λ _. tt)
 
   -- a call, by the five kinds that have words
-  called : (w : Words) (k : Kind) → x.kind ≡ k → w ≡ words_of x.kind x → CallPlanned heads slots copies c x.first w p → CallPlanned heads slots copies c x.first (words_of k x) p
-  called w k e q g = subst (λ v. CallPlanned heads slots copies c x.first v p) (q ∙ ap (λ k. words_of k x) e) g
+  call_by : (k : Kind) → x.kind ≡ k → is_planned k ≡ true → (k ≡ K.Elect → ⊥) → (k ≡ K.Lose → ⊥) → (k ≡ K.Timeout → ⊥) → (k ≡ K.Stop → ⊥) → (k ≡ K.Cut → ⊥) → (k ≡ K.Start → ⊥)
+      → CallPlanned heads slots copies c x.first (words_of k x) p → LinePlanned heads slots copies queue c x p
+  unfolding line_plan call_at is_planned
+  call_by K.Malformed e z a b d f g i h = absurd (true≢false (sym z))
+  call_by K.Cluster e z a b d f g i h = absurd (true≢false (sym z))
+  call_by K.Deliver e z a b d f g i h = absurd (true≢false (sym z))
+  call_by K.Copy e z a b d f g i h = absurd (true≢false (sym z))
+  call_by K.Elect e z a b d f g i h = absurd (a refl)
+  call_by K.Lose e z a b d f g i h = absurd (b refl)
+  call_by K.Timeout e z a b d f g i h = absurd (d refl)
+  call_by K.Stop e z a b d f g i h = absurd (f refl)
+  call_by K.Cut e z a b d f g i h = absurd (g refl)
+  call_by K.Start e z a b d f g i h = absurd (i refl)
+  call_by K.Get e z a b d f g i h = simply h.effect K.Get e h.is (λ _. h.needed)
+  call_by K.Set e z a b d f g i h = simply h.effect K.Set e h.is (λ _. h.needed)
+  call_by K.SetIf e z a b d f g i h = simply h.effect K.SetIf e h.is (λ _. h.needed)
+  call_by K.Del e z a b d f g i h = simply h.effect K.Del e h.is (λ _. h.needed)
+  call_by K.Keys e z a b d f g i h = simply h.effect K.Keys e h.is (λ _. h.needed)
 
-  -- @CALL
+  pub call_planned : (w : Words) → is_planned x.kind ≡ true → (x.kind ≡ K.Elect → ⊥) → (x.kind ≡ K.Lose → ⊥) → (x.kind ≡ K.Timeout → ⊥) → (x.kind ≡ K.Stop → ⊥) → (x.kind ≡ K.Cut → ⊥) → (x.kind ≡ K.Start → ⊥)
+      → w ≡ words_of x.kind x → CallPlanned heads slots copies c x.first w p → LinePlanned heads slots copies queue c x p
+  call_planned w z a b d f g i e h = call_by x.kind refl z a b d f g i (subst (λ v. CallPlanned heads slots copies c x.first v p) e h)
 
 -- ---- a plan looks at four of the arrays, and at a fifth only for a message that is handed over
 
@@ -98,89 +120,116 @@ effect_seen K.Start m c x f h = h
 -- ---- the run that follows
 
 abbrev plan_or_refuse : Memory → List ℕ → Line → Effect → Counts → Bool → Ran
-plan_or_refuse m l x f c b = elim b [ true ↦ executed m l c (line_plan x.kind m c x f) | false ↦ refused_run m l 2 ]
+plan_or_refuse m l x f c b = elim b [ true ↦ executed m l c (line_plan x.kind m c x f) | false ↦ refused_run m l ClusterWrong ]
 
 module _ (m : Memory) (l : List ℕ) (x : Line) (c : Counts) (e : c ≡ counts_at m.counts) where
   planned_by : (f : Effect) (b : Bool) → standing c ≡ b → planned_run m l x f ≡ plan_or_refuse m l x f c b
   unfolding planned_run
   planned_by f b s = ap (λ c. plan_or_refuse m l x f c (standing c)) (sym e) ∙ ap (plan_or_refuse m l x f c) s
 
-  pub planned_run_lem : (p : Plan) (m' : Memory) (l' : List ℕ) (r : Report) → standing c ≡ true → LinePlanned m.heads m.slots m.copies m.queue c x p
-      → Reported (executed m l c p) p.effect m' l' r → RanPlan m l x m' l' r
-  planned_run_lem p m' l' r s q y =
-      let z : p ≡ line_plan x.kind m c x r.effect = q.is ∙ plan_sees x.kind m c x p.effect ∙ ap (line_plan x.kind m c x) (sym y.effect) in
+  planned_as : (q : Result Plan Refusal) (m' : Memory) (l' : List ℕ) (r : Result Report Refusal) → standing c ≡ true → LinePlanned m.heads m.slots m.copies m.queue c x q
+      → ran m' l' r ≡ executed m l c q → RanPlan m l x m' l' r
+  planned_as q m' l' r s y h =
       record {
-        is = y.is ∙ ap (executed m l c) z ∙ sym (planned_by r.effect true s);
-        effect = λ _. rw (← e, y.effect) (effect_seen x.kind m c x p.effect (q.effect m.texts));
+        effect = y.effect;
+        asked = λ _. rw (← e) (effect_seen x.kind m c x y.effect (y.asked m.texts));
+        is = h ∙ ap (executed m l c) (y.is ∙ plan_sees x.kind m c x y.effect) ∙ sym (planned_by y.effect true s);
       }
 
-  pub unplanned_run : (r : Report) (f : Effect) → standing c ≡ false
-      → r ≡ record { refusal = 2; answers = 0; sent = 0; copied = 0; delivered = 0; lost = 0; messages = 0; effect = f } → RanPlan m l x m l r
-  unfolding refused_run
-  unplanned_run r f s h =
+  -- a plan that is carried out, or refused
+  pub accepted_run : (q : Result Plan Refusal) (p : Plan) (m' : Memory) (l' : List ℕ) (r : Report) → standing c ≡ true → LinePlanned m.heads m.slots m.copies m.queue c x q → q ≡ Ok p
+      → ran m' l' (Ok r) ≡ accepted m l c p → RanPlan m l x m' l' (Ok r)
+  unfolding executed
+  accepted_run q p m' l' r s y z h = planned_as q m' l' (Ok r) s y (h ∙ ap (executed m l c) (sym z))
+
+  pub refused_plan_run : (q : Result Plan Refusal) (a : Refusal) → standing c ≡ true → LinePlanned m.heads m.slots m.copies m.queue c x q → q ≡ Err a → RanPlan m l x m l (Err a)
+  unfolding executed
+  refused_plan_run q a s y z = planned_as q m l (Err a) s y (ap (executed m l c) (sym z))
+
+  pub unplanned_run : standing c ≡ false → RanPlan m l x m l (Err ClusterWrong)
+  unplanned_run s =
       record {
-        is = ap (ran m l) h ∙ sym (planned_by r.effect false s);
-        effect = λ z. let w : ◌≡◌ {A = Bool} true false = sym z ∙ ap standing (sym e) ∙ s in let v : ◌≡◌ {A = ℕ} 0 1 = cc in absurd (omega arith);
+        effect = no_effect;
+        asked = λ z. absurd (true≢false (sym z ∙ ap standing (sym e) ∙ s));
+        is = sym (planned_by no_effect false s);
       }
 
--- ---- lines by their route
+-- ---- lines by their kind
 
 abbrev EffectAsked : Memory → Line → Kind → Effect → Type 0
 EffectAsked m x k f = standing (counts_at m.counts) ≡ true → EffectOf k m (counts_at m.counts) x f
 
 module _ (m : Memory) (l : List ℕ) (x : Line) where
-  by_kind : (k : Kind) → x.kind ≡ k → {m' : Memory} {l' : List ℕ} {r : Report} → ran m' l' r ≡ run_by k m l x r.effect → EffectAsked m x k r.effect → RanLine m l x m' l' r
+  by_kind : (k : Kind) → x.kind ≡ k → {m' : Memory} {l' : List ℕ} {r : Result Report Refusal} (f : Effect) → EffectAsked m x k f → ran m' l' r ≡ run_by k m l x f → RanLine m l x m' l' r
   unfolding line_run
-  by_kind k e {m'} {l'} {r} h g = record {
-    is = h ∙ sym (ap (λ k. run_by k m l x r.effect) e);
-    effect = subst (λ k. EffectAsked m x k r.effect) (sym e) g;
+  by_kind k e f g h = record {
+    effect = f;
+    asked = subst (λ k. EffectAsked m x k f) (sym e) g;
+    is = h ∙ sym (ap (λ k. run_by k m l x f) e);
   }
 
-  pub malformed_run : (r : Report) (f : Effect) → x.kind ≡ K.Malformed
-      → r ≡ record { refusal = 1; answers = 0; sent = 0; copied = 0; delivered = 0; lost = 0; messages = 0; effect = f } → RanLine m l x m l r
-  unfolding run_by refused_run
-  malformed_run r f e h = by_kind K.Malformed e (ap (ran m l) h) (λ _. tt)
+  pub malformed_run : x.kind ≡ K.Malformed → RanLine m l x m l (Err Malformed)
+  unfolding run_by
+  malformed_run e = by_kind K.Malformed e no_effect (λ _. tt) refl
 
-  pub cluster_run_lem : (counts heads slots copies queue : List ℕ) (r : Report) (f : Effect) (n : ℕ) → x.kind ≡ K.Cluster
-      → Clustered m.counts m.heads m.slots m.copies m.queue x.first x.second counts heads slots copies queue n
-      → r ≡ record { refusal = n; answers = 0; sent = 0; copied = 0; delivered = 0; lost = 0; messages = 0; effect = f }
+  pub cluster_run_lem : (counts heads slots copies queue : List ℕ) (q : Result (Unit {0}) Refusal) (r : Result Report Refusal) → x.kind ≡ K.Cluster
+      → Clustered m.counts m.heads m.slots m.copies m.queue x.first x.second counts heads slots copies queue q → r ≡ cluster_told q
       → RanLine m l x (memory counts heads slots copies m.working m.texts queue m.payloads) l r
-  unfolding run_by refused_run
-  cluster_run_lem counts heads slots copies queue r f n e y h =
-      by_kind K.Cluster e (ap (ran (memory counts heads slots copies m.working m.texts queue m.payloads) l) h ∙ y.is m.working m.texts m.payloads l) (λ _. tt)
+  unfolding run_by
+  cluster_run_lem counts heads slots copies queue q r e y h =
+      by_kind K.Cluster e no_effect (λ _. tt) (ap (ran (memory counts heads slots copies m.working m.texts queue m.payloads) l) h ∙ y.is m.working m.texts m.payloads l)
 
-  other_run : (m' : Memory) (l' : List ℕ) (r : Report) (k : Kind) → x.kind ≡ k → is_planned k ≡ true → RanPlan m l x m' l' r → RanLine m l x m' l' r
+  other_run : (m' : Memory) (l' : List ℕ) (r : Result Report Refusal) (k : Kind) → x.kind ≡ k → is_planned k ≡ true → RanPlan m l x m' l' r → RanLine m l x m' l' r
   unfolding run_by is_planned
-  other_run m' l' r K.Malformed e z h = cc
-  other_run m' l' r K.Cluster e z h = cc
-  other_run m' l' r K.Elect e z h = by_kind K.Elect e h.is (subst (λ k. EffectAsked m x k r.effect) e h.effect)
-  other_run m' l' r K.Get e z h = by_kind K.Get e h.is (subst (λ k. EffectAsked m x k r.effect) e h.effect)
-  other_run m' l' r K.Set e z h = by_kind K.Set e h.is (subst (λ k. EffectAsked m x k r.effect) e h.effect)
-  other_run m' l' r K.SetIf e z h = by_kind K.SetIf e h.is (subst (λ k. EffectAsked m x k r.effect) e h.effect)
-  other_run m' l' r K.Del e z h = by_kind K.Del e h.is (subst (λ k. EffectAsked m x k r.effect) e h.effect)
-  other_run m' l' r K.Keys e z h = by_kind K.Keys e h.is (subst (λ k. EffectAsked m x k r.effect) e h.effect)
-  other_run m' l' r K.Deliver e z h = cc
-  other_run m' l' r K.Copy e z h = cc
-  other_run m' l' r K.Lose e z h = by_kind K.Lose e h.is (subst (λ k. EffectAsked m x k r.effect) e h.effect)
-  other_run m' l' r K.Timeout e z h = by_kind K.Timeout e h.is (subst (λ k. EffectAsked m x k r.effect) e h.effect)
-  other_run m' l' r K.Stop e z h = by_kind K.Stop e h.is (subst (λ k. EffectAsked m x k r.effect) e h.effect)
-  other_run m' l' r K.Cut e z h = by_kind K.Cut e h.is (subst (λ k. EffectAsked m x k r.effect) e h.effect)
-  other_run m' l' r K.Start e z h = by_kind K.Start e h.is (subst (λ k. EffectAsked m x k r.effect) e h.effect)
+  other_run m' l' r K.Malformed e z h = absurd (true≢false (sym z))
+  other_run m' l' r K.Cluster e z h = absurd (true≢false (sym z))
+  other_run m' l' r K.Elect e z h = by_kind K.Elect e h.effect (subst (λ k. EffectAsked m x k h.effect) e h.asked) h.is
+  other_run m' l' r K.Get e z h = by_kind K.Get e h.effect (subst (λ k. EffectAsked m x k h.effect) e h.asked) h.is
+  other_run m' l' r K.Set e z h = by_kind K.Set e h.effect (subst (λ k. EffectAsked m x k h.effect) e h.asked) h.is
+  other_run m' l' r K.SetIf e z h = by_kind K.SetIf e h.effect (subst (λ k. EffectAsked m x k h.effect) e h.asked) h.is
+  other_run m' l' r K.Del e z h = by_kind K.Del e h.effect (subst (λ k. EffectAsked m x k h.effect) e h.asked) h.is
+  other_run m' l' r K.Keys e z h = by_kind K.Keys e h.effect (subst (λ k. EffectAsked m x k h.effect) e h.asked) h.is
+  other_run m' l' r K.Deliver e z h = absurd (true≢false (sym z))
+  other_run m' l' r K.Copy e z h = absurd (true≢false (sym z))
+  other_run m' l' r K.Lose e z h = by_kind K.Lose e h.effect (subst (λ k. EffectAsked m x k h.effect) e h.asked) h.is
+  other_run m' l' r K.Timeout e z h = by_kind K.Timeout e h.effect (subst (λ k. EffectAsked m x k h.effect) e h.asked) h.is
+  other_run m' l' r K.Stop e z h = by_kind K.Stop e h.effect (subst (λ k. EffectAsked m x k h.effect) e h.asked) h.is
+  other_run m' l' r K.Cut e z h = by_kind K.Cut e h.effect (subst (λ k. EffectAsked m x k h.effect) e h.asked) h.is
+  other_run m' l' r K.Start e z h = by_kind K.Start e h.effect (subst (λ k. EffectAsked m x k h.effect) e h.asked) h.is
 
-  pub planned_run_of : (m' : Memory) (l' : List ℕ) (r : Report) → is_planned x.kind ≡ true → RanPlan m l x m' l' r → RanLine m l x m' l' r
+  pub planned_run_of : (m' : Memory) (l' : List ℕ) (r : Result Report Refusal) → is_planned x.kind ≡ true → RanPlan m l x m' l' r → RanLine m l x m' l' r
   planned_run_of m' l' r = other_run m' l' r x.kind refl
 
   -- the run of the plan that a kind makes
   abbrev run_as : Kind → Effect → Ran
   run_as k f =
       let c = counts_at m.counts in
-      elim (standing c) [ true ↦ executed m l c (line_plan k m c x f) | false ↦ refused_run m l 2 ]
+      elim (standing c) [ true ↦ executed m l c (line_plan k m c x f) | false ↦ refused_run m l ClusterWrong ]
 
   -- a message that is handed over, which leaves the list or stays
-  pub deliver_run : (m' : Memory) (l' : List ℕ) (r : Report) → x.kind ≡ K.Deliver → HandRan m l x.first true m' l' r → RanLine m l x m' l' r
+  pub deliver_run : (m' : Memory) (l' : List ℕ) (r : Result Report Refusal) → x.kind ≡ K.Deliver → HandRan m l x.first true m' l' r → RanLine m l x m' l' r
   unfolding run_by planned_run line_plan
-  deliver_run m' l' r e h = by_kind K.Deliver e (h.is ∙ ap (λ k. run_as k r.effect) (sym e)) h.effect
+  deliver_run m' l' r e h = by_kind K.Deliver e h.effect h.asked (h.is ∙ ap (λ k. run_as k h.effect) (sym e))
 
-  pub copy_run : (m' : Memory) (l' : List ℕ) (r : Report) → x.kind ≡ K.Copy → HandRan m l x.first false m' l' r → RanLine m l x m' l' r
+  pub copy_run : (m' : Memory) (l' : List ℕ) (r : Result Report Refusal) → x.kind ≡ K.Copy → HandRan m l x.first false m' l' r → RanLine m l x m' l' r
   unfolding run_by planned_run line_plan
-  copy_run m' l' r e h = by_kind K.Copy e (h.is ∙ ap (λ k. run_as k r.effect) (sym e)) h.effect
+  copy_run m' l' r e h = by_kind K.Copy e h.effect h.asked (h.is ∙ ap (λ k. run_as k h.effect) (sym e))
+
+  -- a kind that is none of the four others is planned
+  pub other_planned : (k : Kind) → (k ≡ K.Malformed → ⊥) → (k ≡ K.Cluster → ⊥) → (k ≡ K.Deliver → ⊥) → (k ≡ K.Copy → ⊥) → is_planned k ≡ true
+  unfolding is_planned
+  other_planned K.Malformed a b c d = absurd (a refl)
+  other_planned K.Cluster a b c d = absurd (b refl)
+  other_planned K.Deliver a b c d = absurd (c refl)
+  other_planned K.Copy a b c d = absurd (d refl)
+  other_planned K.Elect a b c d = refl
+  other_planned K.Get a b c d = refl
+  other_planned K.Set a b c d = refl
+  other_planned K.SetIf a b c d = refl
+  other_planned K.Del a b c d = refl
+  other_planned K.Keys a b c d = refl
+  other_planned K.Lose a b c d = refl
+  other_planned K.Timeout a b c d = refl
+  other_planned K.Stop a b c d = refl
+  other_planned K.Cut a b c d = refl
+  other_planned K.Start a b c d = refl

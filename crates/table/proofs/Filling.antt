@@ -1,15 +1,18 @@
 -- The writer's passes: each leaves the bytes that it has passed written, and says what is still to be written.
 use mathlib.Core.Path.{◌≡◌, refl, sym, ap, ◌∙◌}
-use mathlib.Core.List.{List, [], ◌∷◌, ◌++◌, append_assoc}
+use mathlib.Core.List.{List, [], ◌∷◌, ◌++◌, map, append_assoc}
 use Prim.Native.Nat.{ℕ, suc, ◌≤◌, ◌<◌, ◌+◌, ◌-◌, ◌*◌}
 use native.Mathlib.Omega.{arith}
 use native.Mathlib.Numerals.{add-one}
-use lib.ListN.{length, drop, get_or, set, replicate, length-set, length-append, length-replicate, drop_of_length-le}
-use lib.Seq.{sets, sets-eq, length-sets, drop-cons}
+use lib.ListN.{length, take, drop, get_or, set, replicate, length-set, length-append, length-drop, length-replicate, length-map, drop_of_length-le}
+use lib.Seq.{sets, sets-eq, length-take-le, length-sets, drop-cons}
+use borrow.Rule.Slice.PartMut.{put_mid}
+use Rattle.std.proofs.lemmas.Slice.{put_mid-paste}
+use Rattle.std.proofs.lemmas.List.Edits.{paste_all}
 use Rattle.entries.specs.declared.Slot.{Slot}
 use Rattle.entries.specs.Entries.{Entry}
 use Rattle.entries.specs.Decoded.{key_bytes, value_bytes, entry_in, blank}
-use Rattle.entries.proofs.Views.{entries_in, length_entries, next_entry}
+use Rattle.entries.proofs.Views.{next_slot}
 use Rattle.table.specs.Form.{bucket_size, header, body, packed, bucket_bytes}
 use Rattle.table.specs.Steps.{Offsets, Entered, Bodied}
 use Rattle.table.proofs.Reading.{length_header, length_packed}
@@ -23,6 +26,16 @@ sets_append l i (x ∷ a) b =
 
 pub sets_both : (l mid after : List ℕ) (i n : ℕ) (a b : List ℕ) → n ≡ length a → mid ≡ sets l i a → after ≡ sets mid (i + n) b → after ≡ sets l i (a ++ b)
 sets_both l mid after i n a b h e f = f ∙ rw (e, h) (sym (sets_append l i a b))
+
+-- a part from `at` on is given the bytes zs
+pub put_part : (l : List ℕ) (at k : ℕ) (ys zs : List ℕ) → ys ≡ zs → k ≡ length zs → at + length zs ≤ length l → put_mid at k l ys ≡ sets l at zs
+put_part l at k ys zs e m h =
+    put_mid-paste at k l ys zs (length zs) e (sym m) refl ∙ paste_all l at zs (length zs) refl ∙ sym (append_assoc (take at l) zs (drop (at + length zs) l)) ∙ sym (sets-eq zs l at h)
+
+pub put_zeros : (l : List ℕ) (at k : ℕ) (ys : List ℕ) → ys ≡ replicate (length (take k (drop at l))) 0 → at + k ≤ length l → put_mid at k l ys ≡ sets l at (replicate k 0)
+put_zeros l at k ys e h =
+    let n : length (take k (drop at l)) ≡ k = length-take-le k (drop at l) (simp length-drop (omega arith)) in
+    put_part l at k ys (replicate k 0) (e ∙ ap (λ m. replicate m 0) n) (sym (length-replicate k 0)) (rw length-replicate h)
 
 -- ---- a list w of n bytes written byte by byte: i of them are written from `at` on
 pub record Putting (out₀ : List ℕ) (at : ℕ) (w : List ℕ) (n : ℕ) (out : List ℕ) (i : ℕ) : Type 0 where
@@ -53,26 +66,24 @@ module _ {out₀ : List ℕ} {at : ℕ} {w : List ℕ} {n : ℕ} {out : List ℕ
   pub putting_ends : n ≤ i → out ≡ sets out₀ at w
   putting_ends h = sym (c.rest ∙ rw (drop_of_length-le w {i = i} (omega (arith, c.all))))
 
--- ---- the header: the offsets and lengths of the first i of n entries are written, and the next key begins at `at`
-pub record Heading (out₀ : List ℕ) (n : ℕ) (l : List Slot) (out : List ℕ) (at i : ℕ) : Type 0 where
-  pub inside : i ≤ n
-  pub low : n ≤ 4
-  pub four : length l ≡ 4
+-- ---- the header: the offsets and lengths of the first i entries are written, and the next key begins at `at`
+pub record Heading (out₀ : List ℕ) (l : List Slot) (out : List ℕ) (at i : ℕ) : Type 0 where
+  pub inside : i ≤ length l
+  pub low : length l ≤ 4
   pub room : 17 ≤ length out₀
   pub size : length out ≡ length out₀
-  pub far : at ≤ 1 + 4 * n + 24 * i
-  pub rest : sets out₀ 1 (header (1 + 4 * n) (entries_in n l)) ≡ sets out (1 + 4 * i) (header at (drop i (entries_in n l)))
+  pub far : at ≤ 1 + 4 * length l + 24 * i
+  pub rest : sets out₀ 1 (header (1 + 4 * length l) (map entry_in l)) ≡ sets out (1 + 4 * i) (header at (drop i (map entry_in l)))
 
-pub heading_starts : (out : List ℕ) (n : ℕ) (l : List Slot) → n ≤ 4 → length l ≡ 4 → 17 ≤ length out → Heading out n l out (1 + 4 * n) 0
-heading_starts out n l h f r = record { inside = omega arith; low = h; four = f; room = r; size = refl; far = omega arith; rest = refl }
+pub heading_starts : (out : List ℕ) (l : List Slot) → length l ≤ 4 → 17 ≤ length out → Heading out l out (1 + 4 * length l) 0
+heading_starts out l h r = record { inside = omega arith; low = h; room = r; size = refl; far = omega arith; rest = refl }
 
-module _ {out₀ : List ℕ} {n : ℕ} {l : List Slot} {out : List ℕ} {at i : ℕ} (c : Heading out₀ n l out at i) where
-  pub heading_goes_on : {r : ℕ} (after : List ℕ) → i < n → Offsets i at (get_or l i blank) out after r → Heading out₀ n l after r (i + 1)
+module _ {out₀ : List ℕ} {l : List Slot} {out : List ℕ} {at i : ℕ} (c : Heading out₀ l out at i) where
+  pub heading_goes_on : {r : ℕ} (after : List ℕ) → i < length l → Offsets i at (get_or l i blank) out after r → Heading out₀ l after r (i + 1)
   heading_goes_on {r} after h o =
       record {
         inside = omega arith;
         low = c.low;
-        four = c.four;
         room = c.room;
         size = ap length o.is ∙ length-sets out (1 + 4 * i) four ∙ c.size;
         far = omega (arith, c.far, o.next, o.key, o.value);
@@ -89,43 +100,41 @@ module _ {out₀ : List ℕ} {n : ℕ} {l : List Slot} {out : List ℕ} {at i : 
       four = at ∷ (k ∷ ((at + k) ∷ (v ∷ [])))
 
       tail : List ℕ
-      tail = header (at + k + v) (drop (i + 1) (entries_in n l))
+      tail = header (at + k + v) (drop (i + 1) (map entry_in l))
 
-      first : header at (drop i (entries_in n l)) ≡ four ++ tail
-      first = unfold header entry_in in rw (next_entry n l i h (omega (arith, c.low, c.four)))
+      first : header at (drop i (map entry_in l)) ≡ four ++ tail
+      first = unfold header entry_in in rw (next_slot l i h)
 
-      more : sets out (1 + 4 * i) (header at (drop i (entries_in n l))) ≡ sets after (1 + 4 * (i + 1)) (header r (drop (i + 1) (entries_in n l)))
+      more : sets out (1 + 4 * i) (header at (drop i (map entry_in l))) ≡ sets after (1 + 4 * (i + 1)) (header r (drop (i + 1) (map entry_in l)))
       more =
           let p : 1 + 4 * i + 4 ≡ 1 + 4 * (i + 1) = omega arith in
           ap (sets out (1 + 4 * i)) first ∙ sets_append out (1 + 4 * i) four tail ∙ rw (p, ← o.is, o.next)
 
-  pub heading_ends : n ≤ i → out ≡ sets out₀ 1 (header (1 + 4 * n) (entries_in n l))
+  pub heading_ends : {t : List Entry} → map entry_in l ≡ t → length l ≤ i → out ≡ sets out₀ 1 (header (1 + 4 * length t) t)
   unfolding header
-  heading_ends h =
-      let e : drop i (entries_in n l) ≡ [] = drop_of_length-le (entries_in n l) {i = i} (omega (arith, length_entries n l (omega (arith, c.low, c.four)))) in
-      sym (c.rest ∙ rw e)
+  heading_ends {t} m h =
+      let e : drop i (map entry_in l) ≡ [] = drop_of_length-le (map entry_in l) {i = i} (rw length-map h) in
+      rw (← m, length-map) (sym (c.rest ∙ rw e))
 
--- ---- the body: the keys and values of the first i of n entries are written, up to `at`
-pub record Bodying (out₀ : List ℕ) (n : ℕ) (l : List Slot) (out : List ℕ) (at i : ℕ) : Type 0 where
-  pub inside : i ≤ n
-  pub low : n ≤ 4
-  pub four : length l ≡ 4
+-- ---- the body: the keys and values of the first i entries are written, up to `at`
+pub record Bodying (out₀ : List ℕ) (l : List Slot) (out : List ℕ) (at i : ℕ) : Type 0 where
+  pub inside : i ≤ length l
+  pub low : length l ≤ 4
   pub room : 113 ≤ length out₀
   pub size : length out ≡ length out₀
-  pub far : at ≤ 1 + 4 * n + 24 * i
-  pub ahead : at + length (body (drop i (entries_in n l))) ≡ 1 + 4 * n + length (body (entries_in n l))
-  pub rest : sets out₀ (1 + 4 * n) (body (entries_in n l)) ≡ sets out at (body (drop i (entries_in n l)))
+  pub far : at ≤ 1 + 4 * length l + 24 * i
+  pub ahead : at + length (body (drop i (map entry_in l))) ≡ 1 + 4 * length l + length (body (map entry_in l))
+  pub rest : sets out₀ (1 + 4 * length l) (body (map entry_in l)) ≡ sets out at (body (drop i (map entry_in l)))
 
-pub bodying_starts : (out : List ℕ) (n : ℕ) (l : List Slot) → n ≤ 4 → length l ≡ 4 → 113 ≤ length out → Bodying out n l out (1 + 4 * n) 0
-bodying_starts out n l h f r = record { inside = omega arith; low = h; four = f; room = r; size = refl; far = omega arith; ahead = refl; rest = refl }
+pub bodying_starts : (out : List ℕ) (l : List Slot) → length l ≤ 4 → 113 ≤ length out → Bodying out l out (1 + 4 * length l) 0
+bodying_starts out l h r = record { inside = omega arith; low = h; room = r; size = refl; far = omega arith; ahead = refl; rest = refl }
 
-module _ {out₀ : List ℕ} {n : ℕ} {l : List Slot} {out : List ℕ} {at i : ℕ} (c : Bodying out₀ n l out at i) where
-  pub bodying_goes_on : {r : ℕ} (after : List ℕ) → i < n → Entered at (get_or l i blank) out after r → Bodying out₀ n l after r (i + 1)
+module _ {out₀ : List ℕ} {l : List Slot} {out : List ℕ} {at i : ℕ} (c : Bodying out₀ l out at i) where
+  pub bodying_goes_on : {r : ℕ} (after : List ℕ) → i < length l → Entered at (get_or l i blank) out after r → Bodying out₀ l after r (i + 1)
   bodying_goes_on {r} after h o =
       record {
         inside = omega arith;
         low = c.low;
-        four = c.four;
         room = c.room;
         size = ap length o.is ∙ length-sets out at (key ++ value) ∙ c.size;
         far = omega (arith, c.far, o.next, o.key, o.value);
@@ -140,31 +149,31 @@ module _ {out₀ : List ℕ} {n : ℕ} {l : List Slot} {out : List ℕ} {at i : 
       value = value_bytes (get_or l i blank).value
 
       tail : List ℕ
-      tail = body (drop (i + 1) (entries_in n l))
+      tail = body (drop (i + 1) (map entry_in l))
 
-      first : body (drop i (entries_in n l)) ≡ (key ++ value) ++ tail
-      first = unfold body entry_in in rw (next_entry n l i h (omega (arith, c.low, c.four))) (sym (append_assoc key value tail))
+      first : body (drop i (map entry_in l)) ≡ (key ++ value) ++ tail
+      first = unfold body entry_in in rw (next_slot l i h) (sym (append_assoc key value tail))
 
       both : length (key ++ value) ≡ length key + length value
       both = length-append key value
 
-      longer : length (body (drop i (entries_in n l))) ≡ length (key ++ value) + length tail
+      longer : length (body (drop i (map entry_in l))) ≡ length (key ++ value) + length tail
       longer = ap length first ∙ length-append (key ++ value) tail
 
-      more : sets out at (body (drop i (entries_in n l))) ≡ sets after r tail
+      more : sets out at (body (drop i (map entry_in l))) ≡ sets after r tail
       more =
           let e : at + length (key ++ value) ≡ r = omega (arith, both, o.next) in
           ap (sets out at) first ∙ sets_append out at (key ++ value) tail ∙ rw (← o.is, e)
 
-  pub bodying_ends : n ≤ i → Bodied (entries_in n l) out₀ out at
+  pub bodying_ends : {t : List Entry} → map entry_in l ≡ t → length l ≤ i → Bodied t out₀ out at
   unfolding body
-  bodying_ends h =
-      let m = length_entries n l (omega (arith, c.low, c.four)) in
-      let e : drop i (entries_in n l) ≡ [] = drop_of_length-le (entries_in n l) {i = i} (omega arith) in
-      let a : at + 0 ≡ 1 + 4 * n + length (body (entries_in n l)) = rw e at c.ahead in
+  bodying_ends {t} m h =
+      let e : drop i (map entry_in l) ≡ [] = drop_of_length-le (map entry_in l) {i = i} (rw length-map h) in
+      let n : length t ≡ length l = rw (← m) (length-map l entry_in) in
+      let a : at + 0 ≡ 1 + 4 * length l + length (body (map entry_in l)) = rw e at c.ahead in
       record {
-        is = rw m (sym (c.rest ∙ rw e));
-        ends = rw m (omega arith);
+        is = rw (n, ← m) (sym (c.rest ∙ rw e));
+        ends = rw (n, ← m) (omega arith);
         low = omega (arith, c.far, c.inside, c.low);
       }
 

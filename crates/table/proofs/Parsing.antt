@@ -34,21 +34,20 @@ decoding_starts {b} {n} {l} h r f =
     record { inside = omega arith; low = omega arith; room = r; four = f; far = omega arith; bounded = tt; whole = rw (z, h) }
 
 -- one entry of those to be read
-next_of : (m : ℕ) (b : List ℕ) (i at k v : ℕ) → k ≡ min 8 (get_or b (4 * i + 2) 0) → v ≡ min 16 (get_or b (4 * i + 4) 0) → entries_of 16 (suc m) (drop (1 + 4 * i) b) (drop at b) ≡ entry (take k (drop at b)) (take v (drop k (drop at b))) ∷ entries_of 16 m (drop (1 + 4 * (i + 1)) b) (drop (at + k + v) b)
+next_of : (m : ℕ) (b : List ℕ) (i at k v : ℕ) → k ≡ min 8 (get_or b (4 * i + 2) 0) → v ≡ min 16 (get_or b (4 * i + 4) 0) → entries_of 16 (suc m) (drop (1 + 4 * i) b) (drop at b) ≡ entry (take k (drop at b)) (take v (drop k (drop at b))) ∷ entries_of 16 m (drop (1 + 4 * (i + 1)) b) (drop (at + (k + v)) b)
 unfolding entries_of
 next_of m b i at k v hk hv =
     let a : 1 + 4 * i + 1 ≡ 4 * i + 2 = omega arith in
     let b₃ : 1 + 4 * i + 3 ≡ 4 * i + 4 = omega arith in
     let d : 1 + 4 * i + 4 ≡ 1 + 4 * (i + 1) = omega arith in
-    let e : at + (k + v) ≡ at + k + v = omega arith in
     let one : get_or (drop (1 + 4 * i) b) 1 0 ≡ get_or b (4 * i + 2) 0 = get_or-drop (1 + 4 * i) b 1 0 ∙ ap (λ x. get_or b x 0) a in
     let three : get_or (drop (1 + 4 * i) b) 3 0 ≡ get_or b (4 * i + 4) 0 = get_or-drop (1 + 4 * i) b 3 0 ∙ ap (λ x. get_or b x 0) b₃ in
     let four : drop 4 (drop (1 + 4 * i) b) ≡ drop (1 + 4 * (i + 1)) b = drop-drop 4 (1 + 4 * i) b ∙ ap (λ x. drop x b) d in
-    let past : drop (k + v) (drop at b) ≡ drop (at + k + v) b = drop-drop (k + v) at b ∙ ap (λ x. drop x b) e in
+    let past : drop (k + v) (drop at b) ≡ drop (at + (k + v)) b = drop-drop (k + v) at b in
     rw (one, three, ← hk, ← hv, four, past)
 
 module _ {b : List ℕ} {n : ℕ} {l : List Slot} {at i : ℕ} (c : Decoding b n l at i) where
-  pub decoding_goes_on : {k v : ℕ} (s : Slot) → i < n → k ≡ min 8 (get_or b (4 * i + 2) 0) → v ≡ min 16 (get_or b (4 * i + 4) 0) → CutOut b at k v s → Decoding b n (set l i s) (at + k + v) (i + 1)
+  pub decoding_goes_on : {k v : ℕ} (s : Slot) → i < n → k ≡ min 8 (get_or b (4 * i + 2) 0) → v ≡ min 16 (get_or b (4 * i + 4) 0) → CutOut b at k v s → Decoding b n (set l i s) (at + (k + v)) (i + 1)
   decoding_goes_on {k} {v} s h hk hv e =
       record {
         inside = omega arith;
@@ -60,7 +59,7 @@ module _ {b : List ℕ} {n : ℕ} {l : List Slot} {at i : ℕ} (c : Decoding b n
         whole = c.whole ∙ more;
       }
     where
-      more : map entry_in (take i l) ++ entries_of 16 (n - i) (drop (1 + 4 * i) b) (drop at b) ≡ map entry_in (take (i + 1) (set l i s)) ++ entries_of 16 (n - (i + 1)) (drop (1 + 4 * (i + 1)) b) (drop (at + k + v) b)
+      more : map entry_in (take i l) ++ entries_of 16 (n - i) (drop (1 + 4 * i) b) (drop at b) ≡ map entry_in (take (i + 1) (set l i s)) ++ entries_of 16 (n - (i + 1)) (drop (1 + 4 * (i + 1)) b) (drop (at + (k + v)) b)
       more =
           let left : n - i ≡ suc (n - (i + 1)) = omega arith in
           rw (left, next_of (n - (i + 1)) b i at k v hk hv, ← e.is, add-one i, take-suc-set l i s (omega (arith, c.four, c.low)), map-append entry_in (take i l) (s ∷ []))

@@ -10,4 +10,5 @@ pub returns : goal.returns
 returns c =
     let k : c.args.at + c.args.key_len - c.args.at ≡ c.args.key_len = omega arith in
     let v : c.args.at + c.args.key_len + c.args.value_len - (c.args.at + c.args.key_len) ≡ c.args.value_len = omega arith in
-    slot_cut c.args.bucket.now c.args.at c.args.key_len c.args.value_len c.key_of-key_read.result c.value_of-value_read.result (search rules) (search rules) (search rules) (rw k at c.key_of-key_read.ensures) (rw v at c.value_of-value_read.ensures)
+    slot_cut c.args.bucket.now c.args.at c.args.key_len c.args.value_len c.of.result c.of-2.result (search rules) (search rules) (search rules) (rw k at c.of.ensures.bytes)
+    (rw v at c.of-2.ensures.bytes) c.of.ensures.low c.of-2.ensures.low

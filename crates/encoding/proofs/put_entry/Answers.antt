@@ -1,15 +1,15 @@
 -- `put_entry` meets its contract: the value behind the key.
+use native.Mathlib.Omega.{arith}
 use Rattle.entries.specs.Decoded.{key_bytes, value_bytes}
 use Rattle.table.proofs.Filling.{sets_both}
-use native.Mathlib.Omega.{arith}
 use Rattle.encoding.proofs.put_entry.Goals as goal
 
 pub returns : goal.returns
 returns c =
     record {
-      key = rw (← c.key_length-key_len.ensures.is) c.key_length-key_len.ensures.low;
-      value = rw (← c.value_length-value_len.ensures.is) c.value_length-value_len.ensures.low;
-      next = omega (arith, c.key_length-key_len.ensures.is, c.value_length-value_len.ensures.is);
+      key = rw (← c.length.ensures.is) c.length.ensures.low;
+      value = rw (← c.length-2.ensures.is) c.length-2.ensures.low;
+      next = omega (arith, c.length.ensures.is, c.length-2.ensures.is);
       is =
-          sets_both c.args.out.now c.put_key.new.out c.put_value.new.out c.args.at c.key_length-key_len.result (key_bytes c.args.slot.key) (value_bytes c.args.slot.value) c.key_length-key_len.ensures.is c.put_key.ensures c.put_value.ensures;
+          sets_both c.args.out.now c.put_text.new.out c.put_text-2.new.out c.args.at c.length.result (key_bytes c.args.slot.key) (value_bytes c.args.slot.value) c.length.ensures.is c.put_text.ensures c.put_text-2.ensures;
     }

@@ -1,10 +1,6 @@
 -- `put_header` meets its contract: entry by entry.
-use Prim.Native.Nat.{◌-◌}
 use Rattle.table.proofs.Filling.{Heading}
 use Rattle.encoding.proofs.put_header.Given as goal
 
 abbrev pub invariant-loop-i : goal.invariant-loop-i
-invariant-loop-i l = Heading l.initial.out l.count l.slots l.out l.at l.i
-
-abbrev pub decreases-loop-i : goal.decreases-loop-i
-decreases-loop-i l = l.count - l.i
+invariant-loop-i l = Heading l.initial.out l.slots l.out l.at l.i
