@@ -2,8 +2,8 @@
 #![tactic(auto)]
 
 ghost use Rattle.std.specs.Prelude.{◌≡◌, ℕ};
-ghost use Rattle.entries.specs.Decoded.{key_bytes, item_in, table_in, no_value};
-ghost use Rattle.table.specs.Form.{same_value};
+ghost use Rattle.entries.specs.Decoded.{key_bytes, value_bytes, item_in, table_in, no_value};
+ghost use Rattle.table.specs.Form.{same_bytes, same_value};
 ghost use Rattle.model.specs.Calls as calls;
 ghost use Rattle.model.specs.Calls.{effect, setting};
 ghost use Rattle.server.specs.Views.{words_in, effect_in};
@@ -13,13 +13,20 @@ use entries::{Decoded, Key, Value};
 use server::codes::{ABSENT, DEL, FULL, GET, LISTED, MISMATCH, NO_RESULT, SET, SETIF, VALUE};
 use server::{Effect, Words};
 
-// Whether two values have the same bytes; an absent one is the same as an absent one alone.
+// Whether two values have the same bytes.
+pub fn same_value(a: Value, b: Value) -> bool
+    ensures { result ≡ same_bytes (value_bytes a) (value_bytes b) }
+{
+    a.as_slice() == b.as_slice()
+}
+
+// Whether two values are the same; an absent one is the same as an absent one alone.
 #[tactic(auto, unfolding(table::specs::Form::same_value, entries::specs::Decoded::item_in))]
-fn same_value(a: Option<Value>, b: Option<Value>) -> bool
+fn same_item(a: Option<Value>, b: Option<Value>) -> bool
     ensures { result ≡ same_value (item_in a) (item_in b) }
 {
     match (a, b) {
-        (Some(a), Some(b)) => a.as_slice() == b.as_slice(),
+        (Some(a), Some(b)) => same_value(a, b),
         (None, None) => true,
         _ => false,
     }
@@ -75,7 +82,8 @@ pub fn setting(key: Key, item: Option<Value>, old: Decoded) -> Effect
 fn setting_if(key: Key, expected: Option<Value>, item: Option<Value>, table: Decoded) -> Effect
     ensures { effect_in result ≡ effect (calls.setif (key_bytes key) (item_in expected) (item_in item)) (table_in table) }
 {
-    if same_value(find(table, key), expected) {
+    let present = find(table, key);
+    if same_item(present, expected) {
         setting(key, item, table)
     } else {
         without_value(MISMATCH, table)

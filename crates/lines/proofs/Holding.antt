@@ -1,17 +1,18 @@
 -- The bytes of the present line, one after the other.
-use mathlib.Core.Logic.{◌≢◌}
+use mathlib.Core.Logic.{◌≢◌, ◌⊎◌, inl, inr}
 use mathlib.Core.Path.{◌≡◌, refl, sym, ap, ◌∙◌}
 use mathlib.Core.Bool.{Bool, true, false}
-use mathlib.Core.List.{List, [], ◌∷◌, ◌++◌}
-use Prim.Native.Nat.{ℕ, ◌+◌, ◌≤◌, ◌<◌, min}
+use mathlib.Core.List.{List, [], ◌∷◌, ◌++◌, append_assoc}
+use Prim.Native.Nat.{ℕ, suc, ◌+◌, ◌-◌, ◌≤◌, ◌<◌, min}
 use native.Mathlib.Omega.{arith}
 use native.Mathlib.Numerals.{add-one}
 use native.Mathlib.Decide.{dec_le}
-use native.Mathlib.Nat.{min-eq_left, min-eq_right, le_refl}
+use native.Mathlib.Nat.{min-eq_left, min-eq_right, le_refl, add-zero}
 use lib.Dec.{ltb}
-use lib.ListN.{length, take, get_or, length-set}
-use lib.Seq.{take-suc, take_all, take-suc-set, length-take-le}
-use borrow.Author.Tests.{lt-leb, le-leb, ltb-true, ltb-false, eq-eqb, ne_eqb}
+use lib.ListN.{length, take, drop, set, length-set, take-append-drop, drop_of_length-le}
+use lib.Seq.{take_all, take-suc-set, length-take-le, sets, sets-eq, drop-drop}
+use borrow.Rule.Slice.PartMut.{put_mid}
+use borrow.Author.Tests.{lt-ltb, le-ltb, lt-leb, le-leb, ltb-true, ltb-false, eq-eqb, ne_eqb}
 use Rattle.model.specs.Measures.{max_line_bytes}
 use Rattle.input.specs.Reading.{kept, kept_all}
 use Rattle.lines.specs.Sessions.{Held, held, present_line, put, put_all, ended_line, held_after}
@@ -24,14 +25,34 @@ put_all_append h (x ∷ a) b = put_all_append (put h x) a b
 -- bytes that find room
 put_run : (l : List ℕ) (n : ℕ) (b : List ℕ) → n + length b ≤ 121 → put_all (held l n) b ≡ held (sets l n b) (n + length b)
 unfolding put_all put
-put_run l n [] h = rw add-zero
-put_run l n (x ∷ b) h = rw (lt-ltb n 121 (omega arith)) (put_run (set l n x) (n + 1) b (omega arith) ∙ ?)
+put_run l n [] h = ap (held l) (sym (add-zero n))
+put_run l n (x ∷ b) h =
+    let e : n + 1 + length b ≡ n + suc (length b) = omega arith in
+    rw (put, lt-ltb n 121 (omega arith)) (put_run (set l n x) (n + 1) b (omega arith) ∙ rw (e, add-one n))
 
 -- and those that find none
 pub put_none : (h : Held) (b : List ℕ) → 121 ≤ h.count → put_all h b ≡ h
 unfolding put_all put
 put_none h [] k = refl
-put_none h (x ∷ b) k = rw (le-ltb h.count 121 k) (put_none h b k)
+put_none h (x ∷ b) k = rw (put, le-ltb h.count 121 k) (put_none h b k)
+
+-- as many of them as there is room for
+pub put_cut : (l : List ℕ) (n : ℕ) (b : List ℕ) {k : ℕ} {mid : List ℕ} → length l ≡ 121 → n < 121 → k ≡ min (length b) (121 - n) → mid ≡ take k b → held (put_mid n (n + k - n) l mid) (n + k) ≡ put_all (held l n) b
+put_cut l n b {k} {mid} s h e m =
+    let z : length (take k b) ≡ k = length-take-le k b (omega arith) in
+    let d : n + k - n ≡ k = omega arith in
+    let run : put_all (held l n) (take k b) ≡ held (sets l n (take k b)) (n + k) = put_run l n (take k b) (omega arith) ∙ rw z in
+    let stored : sets l n (take k b) ≡ put_mid n (n + k - n) l mid = sets-eq (take k b) l n (omega arith) ∙ append_assoc (take n l) (take k b) (drop (n + length (take k b)) l) ∙ rw (z, d, m, drop-drop) in
+    let rest : put_all (held (sets l n (take k b)) (n + k)) (drop k b) ≡ held (sets l n (take k b)) (n + k) = none_left (held (sets l n (take k b)) (n + k)) b k (either (dec_le (length b) k)) in
+    rw (← stored) (sym (ap (put_all (held l n)) (sym (take-append-drop k b)) ∙ put_all_append (held l n) (take k b) (drop k b) ∙ rw run rest))
+  where
+    none_left : (h : Held) (b : List ℕ) (k : ℕ) → (length b ≤ k) ⊎ (121 ≤ h.count) → put_all h (drop k b) ≡ h
+    none_left h b k (inl f) = unfold put_all in rw (drop_of_length-le b {i = k} f)
+    none_left h b k (inr f) = put_none h (drop k b) f
+
+    either : Dec (length b ≤ k) → (length b ≤ k) ⊎ (121 ≤ n + k)
+    either (yes f) = inl f
+    either (no f) = inr (omega arith)
 
 -- a count above the room counts as all of it
 pub present_cut : (l : List ℕ) (count : ℕ) → take (min (length l) count) l ≡ present_line (held l count)
@@ -43,9 +64,6 @@ present_cut l count = go (dec_le (length l) count)
     go (no h) =
         let w : count ≤ length l = omega arith in
         rw (min-eq_right w)
-
-pub cut_within : (l : List ℕ) (count n : ℕ) → n ≡ min (length l) count → n ≤ length l
-cut_within l count n e = omega arith
 
 -- ---- what is held stands for what is kept
 

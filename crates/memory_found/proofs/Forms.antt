@@ -1,10 +1,10 @@
 -- Items written one after another.
 use mathlib.Core.Path.{◌≡◌, refl, sym, ap, ◌∙◌}
-use mathlib.Core.List.{List, [], ◌∷◌, ◌++◌, map, append-nil}
+use mathlib.Core.List.{List, [], ◌∷◌, ◌++◌, map, append-nil, append_assoc}
 use Prim.Native.Nat.{ℕ, ◌≤◌, ◌<◌, ◌+◌, ◌-◌, ◌*◌}
 use native.Mathlib.Omega.{arith}
 use native.Mathlib.Nat.{zero-add}
-use lib.ListN.{length, drop, get_or, set, length-append, length-map, length-set, get_or-map, drop_of_length-le}
+use lib.ListN.{length, take, drop, get_or, set, length-append, length-map, length-set, get_or-map, drop_of_length-le}
 use lib.Seq.{sets, sets-eq, length-sets, drop-drop, drop-cons}
 use native.Mathlib.Numerals.{add-one}
 use borrow.Rule.Slice.PartMut.{put_mid}
@@ -32,7 +32,7 @@ pub item_put : (room : ℕ) (x b : List ℕ) (at : ℕ) {len r : ℕ} {mid : Lis
 item_put room x b at {len} {r} {mid} h e k m f =
     let n : at + 1 + len - (at + 1) ≡ length x = omega arith in
     record {
-      is = rw (n, e, m, drop-drop, ← sets-eq x (set b at (length x)) (at + 1) (rw length-set h), add-one);
+      is = rw (n, e, m, drop-drop) (sym (append_assoc (take (at + 1) (set b at (length x))) x (drop (at + 1 + length x) (set b at (length x)))) ∙ sym (sets-eq x (set b at (length x)) (at + 1) (rw length-set h)) ∙ ap (λ k. sets (set b at (length x)) k x) (add-one at));
       ends = omega arith;
       short = k;
     }

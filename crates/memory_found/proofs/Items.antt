@@ -5,10 +5,10 @@ use Prim.Native.Nat.{ℕ, zero, suc, ◌≤◌, ◌<◌, ◌+◌, ◌-◌, min}
 use native.Mathlib.Omega.{arith}
 use native.Mathlib.Nat.{zero-add}
 use native.Mathlib.Decide.{dec_le}
-use lib.ListN.{length, take, drop, get_or, drop_of_length-le, get_or-eq_default}
-use lib.Seq.{drop-drop, get_or-drop}
+use lib.ListN.{length, take, drop, get_or, length-drop, drop_of_length-le, get_or-eq_default}
+use lib.Seq.{take_all, drop-drop, get_or-drop}
 use Rattle.entries.proofs.Lists.{take_min}
-use Rattle.memory_found.specs.Found.{most_items, items_in, found_in}
+use Rattle.memory_found.specs.Found.{most_items, found_len, items_in, found_in}
 use Rattle.memory_found.specs.Steps.{FoundCount}
 
 length_items : (n : ℕ) (b : List ℕ) → length (items_in n b) ≡ n
@@ -16,7 +16,7 @@ unfolding items_in
 length_items zero b = refl
 length_items (suc n) b = ap suc (length_items n (drop (get_or b 0 0) (drop 1 b)))
 
-length_found : (b : List ℕ) → length (found_in b) ≡ min most_items (get_or b 0 0)
+pub length_found : (b : List ℕ) → length (found_in b) ≡ min most_items (get_or b 0 0)
 unfolding found_in
 length_found b = length_items (min most_items (get_or b 0 0)) (drop 1 b)
 
@@ -27,8 +27,11 @@ counted b r e = record { is = e ∙ sym (length_found b); low = omega arith }
 pub record From (b : List ℕ) (i : ℕ) (r : List ℕ) : Type 0 where
   pub is : (n : ℕ) → drop i (items_in (i + n) (drop 1 b)) ≡ items_in n r
 
-pub from_first : (b : List ℕ) → From b 0 (drop 1 b)
+from_first : (b : List ℕ) → From b 0 (drop 1 b)
 from_first b = record { is = λ n. rw (zero-add n) }
+
+pub from_start : (b : List ℕ) → length b ≡ found_len → From b 0 (take 36 (drop 1 b))
+from_start b h = rw (take_all 36 (drop 1 b) (rw length-drop (omega arith))) (from_first b)
 
 pub from_next : (b : List ℕ) {i : ℕ} {r s : List ℕ} → From b i r → s ≡ drop (get_or r 0 0) (drop 1 r) → From b (i + 1) s
 unfolding items_in

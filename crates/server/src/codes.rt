@@ -1,4 +1,6 @@
 // Words that stand for a choice, each named once. What each stands for in the definitions is said in specs/Views.antt.
+// They are no enums: they lie in lent arrays that may hold any numbers, and `leaves` of `Performed` (crates/machine/specs/Meaning.antt)
+// settles each word for any memory.
 
 // Roles of a server.
 pub const FOLLOWER: u32 = 0;

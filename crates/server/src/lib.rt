@@ -31,7 +31,7 @@ pub struct Head {
 }
 
 // An open round: one mark for each server beside its numbers. Open with a purpose from RECOVERY_READ to OWN_WRITE; with any
-// other word, as NO_ROUND, none is.
+// other word, as NO_ROUND, none is. Seven marks by value are prescribed (docs/DECISIONS.md, Forms of code).
 #[derive(Clone, Copy)]
 pub struct Round {
     pub purpose: u32,
@@ -76,7 +76,8 @@ pub struct Answer {
 }
 
 // What is left to do once the table is read: with NO_RESULT the table is to be written, otherwise the call is answered. The
-// value counts with VALUE; with ABSENT there is none.
+// value counts with VALUE; with ABSENT there is none. It is handed on for every line, so its arrays stand first and no flag or
+// tag goes with the value (docs/DECISIONS.md, Fields by size).
 #[derive(Clone, Copy)]
 pub struct Effect {
     pub value: Value,

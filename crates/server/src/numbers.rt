@@ -34,7 +34,7 @@ pub fn count(servers: u32, places: [u32; SERVERS], word: u32) -> u32
         .count() as u32
 }
 
-// The places with the word at one of them; there is none at SERVERS or above.
+// The places with the word at one of them; there is none at SERVERS or above. After `get_mut` a proof would not know the array.
 pub fn placed(mut places: [u32; SERVERS], at: u32, word: u32) -> [u32; SERVERS]
     ensures { result ≡ slice_set places at word }
 {

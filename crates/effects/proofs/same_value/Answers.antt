@@ -1,14 +1,14 @@
 -- `same_value` meets its contract: the bytes that count are compared.
-use Rattle.std.proofs.Common.{◌≡◌, Bool, true, false, List, ℕ, refl, sym, ap, ◌∙◌}
+use Rattle.std.proofs.Common.{◌≡◌, true, false, List, ℕ, refl, sym, ap, ◌∙◌}
 use Rattle.std.proofs.lemmas.Map.Text.{is_eq-slice_cmp}
 use Rattle.core.specs.Str.{bytes_eq}
 use Rattle.std.specs.Ordering.{is_eq}
 use Rattle.std.specs.declared.cmp.Ordering.{Ordering}
 use Rattle.std.specs.declared.cmp.Ordering.TheVariants.{Less, Equal, Greater}
 use Rattle.entries.specs.Entries.{order}
-use Rattle.entries.specs.Decoded.{item_in, text_bytes}
+use Rattle.entries.specs.Decoded.{text_bytes}
 use Rattle.entries.proofs.Comparison.{order_cmp}
-use Rattle.table.specs.Form.{same_bytes, same_value}
+use Rattle.table.specs.Form.{same_bytes}
 use Rattle.effects.proofs.same_value.Goals as goal
 
 -- lists are the same in the order where they are equal byte by byte
@@ -21,8 +21,5 @@ bytes_same a b = sym (is_eq-slice_cmp a b) ∙ ap is_eq (order_cmp a b) ∙ go (
     go Equal = refl
     go Greater = refl
 
-pub returns-in-Some-Some : goal.returns-in-Some-Some
-unfolding item_in same_value
-returns-in-Some-Some c =
-    rw (c.in-Some-Some.is-0, c.in-Some-Some.is-1, c.eq.ensures, c.as_slice.ensures, c.as_slice-in-Some-Some.ensures)
-    (bytes_same (text_bytes c.in-Some-Some.a) (text_bytes c.in-Some-Some.b))
+pub returns : goal.returns
+returns c = rw (c.eq.ensures, c.as_slice.ensures, c.as_slice-2.ensures) (bytes_same (text_bytes c.args.a) (text_bytes c.args.b))

@@ -11,4 +11,4 @@ next_counts-requires c = c.change_flight-count.ensures.few
 pub returns : goal.returns
 returns c =
     let m = memory_of (regions c.args.words.now) (contents c.args.bytes.now) in
-    carried_on c.args.cluster c.args.step c.args.next m _ _ _ _ _ _ _ _ _ c.change_server-written.ensures c.change_flight-count.ensures (rw (c.store_counts.ensures, c.next_counts.ensures)) c.send_count-sent.ensures
+    carried_on c.args.cluster c.args.step c.args.next m _ _ _ _ _ _ _ _ _ c.change_server-written.ensures c.change_flight-count.ensures (rw (c.store_counts.ensures, c.next_counts.ensures)) c.send_count.ensures

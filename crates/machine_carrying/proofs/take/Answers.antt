@@ -6,6 +6,6 @@ pub returns-then-plan : goal.returns-then-plan
 unfolding taken
 returns-then-plan c = rw (taken, c.if-plan.true, ← c.slot_of-slot.ensures, c.store_words.ensures.numbers, c.store_words.ensures.texts)
 
-pub returns : goal.returns
+pub returns-else-plan : goal.returns-else-plan
 unfolding taken
-returns c = rw (taken, c.if-plan.false)
+returns-else-plan c = rw (taken, c.if-plan.false)
