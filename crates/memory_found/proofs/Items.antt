@@ -55,15 +55,3 @@ item_there b {i} {r} {x} h f e =
 
 pub no_item : (b : List ℕ) {i n : ℕ} → FoundCount b n → n ≤ i → [] ≡ get_or (found_in b) i []
 no_item b {i} c h = sym (get_or-eq_default (found_in b) [] {n = i} (omega (arith, c.is)))
-
--- ---- parts of bytes, cut at their end
-
-pub take_cut : (n : ℕ) (l : List ℕ) → take (min n (length l)) l ≡ take n l
-take_cut n l = take_min n l
-
-pub drop_cut : (n : ℕ) (l : List ℕ) → drop (min n (length l)) l ≡ drop n l
-drop_cut n l = go (dec_le n (length l))
-  where
-    go : Dec (n ≤ length l) → drop (min n (length l)) l ≡ drop n l
-    go (yes h) = let e : min n (length l) ≡ n = omega arith in rw e
-    go (no h) = drop_of_length-le l {i = min n (length l)} (omega arith) ∙ sym (drop_of_length-le l {i = n} (omega arith))

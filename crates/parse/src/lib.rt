@@ -38,7 +38,7 @@ pub enum Kind {
 // A line that was read. `first` is its server, index or number of servers, `second` its bucket, its number of buckets or
 // of stores. A key or value has its whole length, which may be above its room, and as many of its bytes as there is room
 // for, with zeros behind them; what a line does not have is zeros. Whether the expected value and the value are there
-// stands last: a flag among the arrays makes every line slower.
+// stands last, as two flags: with an Option or a flag in each value the whole program was slower (docs/DECISIONS.md, "Fields by size").
 #[derive(Clone, Copy)]
 pub struct Line {
     pub key: Key,

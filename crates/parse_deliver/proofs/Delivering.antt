@@ -7,7 +7,11 @@ use Prim.Native.Nat.{ℕ, suc, ◌≤◌, ◌<◌, ◌+◌, ◌-◌, ◌*◌}
 use native.Mathlib.Omega.{arith}
 use native.Mathlib.Decide.{dec_lt}
 use lib.Dec.{eqb, ltb}
-use Rattle.std.specs.Prelude.{Some, None, position}
+use Rattle.std.specs.Prelude.{Option as Maybe, Some, None, position, IfSome, MatchOption}
+use Rattle.std.specs.Borrow.{Bor}
+use Rattle.std.specs.Cmp.Lexicographic.{pointwise}
+use Rattle.std.proofs.lemmas.Slice.Eq.{strip_prefix_is}
+use Rattle.std.proofs.lemmas.Bool.Decides.{Decides-eqb}
 use Rattle.std.specs.List.{position_or_len}
 use Rattle.std.proofs.lemmas.Option.{cond_some}
 use lib.ListN.{length, take, drop, get_or, length-append, length-drop}
@@ -95,23 +99,29 @@ deliver_reads l n e =
 unfoldable pub first_feed : List ℕ → ℕ
 first_feed l = position_or_len (λ b. eqb b 10) l
 
-pub none_before : (l : List ℕ) → NoFeed (take (first_feed l) l)
+first_here : (b : ℕ) (l : List ℕ) → eqb b 10 ≡ true → first_feed (b ∷ l) ≡ 0
 unfolding first_feed
-none_before [] = tt
+first_here b l e = rw e
+
+first_later : (b : ℕ) (l : List ℕ) → eqb b 10 ≡ false → first_feed (b ∷ l) ≡ suc (first_feed l)
+unfolding first_feed
+first_later b l e = rw e (omega arith)
+
+pub none_before : (l : List ℕ) → NoFeed (take (first_feed l) l)
+none_before [] = unfold first_feed in tt
 none_before (b ∷ l) = go (eqb b 10) refl (none_before l)
   where
     go : (t : Bool) → eqb b 10 ≡ t → NoFeed (take (first_feed l) l) → NoFeed (take (first_feed (b ∷ l)) (b ∷ l))
-    go true e h = rw e tt
-    go false e h = rw e (e, h)
+    go true e h = rw (first_here b l e) tt
+    go false e h = rw (first_later b l e) (e, h)
 
 pub there : (l : List ℕ) → first_feed l < length l → get_or l (first_feed l) 0 ≡ 10
-unfolding first_feed
 there [] h = absurd (omega arith)
 there (b ∷ l) h = go (eqb b 10) refl (there l)
   where
     go : (t : Bool) → eqb b 10 ≡ t → (first_feed l < length l → get_or l (first_feed l) 0 ≡ 10) → get_or (b ∷ l) (first_feed (b ∷ l)) 0 ≡ 10
-    go true e ih = rw e (eqb-true b 10 e)
-    go false e ih = rw e (ih (omega (arith, (rw e at h))))
+    go true e ih = rw (first_here b l e) (eqb-true b 10 e)
+    go false e ih = rw (first_later b l e) (ih (omega (arith, first_later b l e)))
 
 pub feed_place : (l : List ℕ) {e : ℕ} → Some e ≡ position (λ b. eqb b 10) l → first_feed l ≡ e
 unfolding first_feed
@@ -129,15 +139,25 @@ no_feed_there l h = go (ltb (first_feed l) (length l)) refl
 
 eight : (e : ℕ) (l : List ℕ) → take (8 + e) (bytes "deliver " ++ l) ≡ bytes "deliver " ++ take e l
 unfolding bytes
-eight e l = refl
+eight e l =
+    let k : 8 + e ≡ suc (suc (suc (suc (suc (suc (suc (suc e))))))) = omega arith in
+    rw k
 
 ninth : (e : ℕ) (l : List ℕ) → get_or (bytes "deliver " ++ l) (8 + e) 0 ≡ get_or l e 0
 unfolding bytes
-ninth e l = refl
+ninth e l =
+    let k : 8 + e ≡ suc (suc (suc (suc (suc (suc (suc (suc e))))))) = omega arith in
+    rw k
 
-pub deliver_read : (input : List ℕ) (from : ℕ) {rest : List ℕ} {e n next : ℕ} → from ≤ length input → drop from input ≡ bytes "deliver " ++ rest → Some e ≡ position (λ b. eqb b 10) rest → e < length rest → Some n ≡ optional (number (take e rest)) → next ≡ from + 8 + e + 1 → DeliverRead input from (record { number = n; next = next })
+-- what follows the word that was compared
+pub stripped : (s p : List ℕ) (r : Maybe (Bor (List ℕ))) → MatchOption r (pointwise eqb (take (length p) s) p ≡ false) (λ x. (pointwise eqb (take (length p) s) p ≡ true) × (x.now ≡ drop (length p) s) × (length x.now + length p ≡ length s)) → IfSome r (λ x. s ≡ p ++ x.now)
+stripped s p None h = tt
+stripped s p (Some x) h = strip_prefix_is Decides-eqb s p (Some x) h
+
+pub deliver_read : (input : List ℕ) (from : ℕ) (rest : List ℕ) {e n next : ℕ} → from ≤ length input → take (length input - from) (drop from input) ≡ bytes "deliver " ++ rest → Some e ≡ position (λ b. eqb b 10) rest → e < length rest → Some n ≡ optional (number (take e rest)) → next ≡ from + 8 + e + 1 → DeliverRead input from (record { number = n; next = next })
 unfolding first_feed
-deliver_read input from {rest} {e} {n} {next} h w p q r s =
+deliver_read input from rest {e} {n} {next} h v p q r s =
+    let w : drop from input ≡ bytes "deliver " ++ rest = sym (take_all (length input - from) (drop from input) (rw length-drop (omega arith))) ∙ v in
     let f : first_feed rest ≡ e = feed_place rest p in
     let to = from + 8 + e in
     let k : to - from ≡ 8 + e = omega arith in

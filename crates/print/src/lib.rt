@@ -1,4 +1,5 @@
-// What is printed (RULES, Output), written into a lent buffer.
+// What is printed (RULES, Output), written into a lent buffer. A printer is given the output and a place in it, and answers where its text
+// ends; a struct of the two would say no more, since each contract speaks of the output before and after.
 #![tactic(auto)]
 
 use entries::{Key, TABLE_ROOM, Value};
@@ -17,7 +18,7 @@ pub const TALLY_ROOM: usize = 64;
 // The most figures of a number.
 pub const FIGURES: usize = 10;
 
-// The figures of a number: the bytes from `from` on.
+// The figures of a number: the bytes from `from` on. There is no heap, and the last figure comes first.
 #[derive(Clone, Copy)]
 pub struct Figures {
     pub bytes: [u8; FIGURES],

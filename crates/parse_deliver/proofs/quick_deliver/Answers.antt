@@ -1,6 +1,7 @@
 -- `quick_deliver` meets its contract.
+use native.Mathlib.Omega.{arith}
 use Rattle.parse_deliver.proofs.Delivering.{deliver_read}
 use Rattle.parse_deliver.proofs.quick_deliver.Goals as goal
 
 pub returns : goal.returns
-returns c = ?
+returns c = deliver_read c.args.input.now c.args.from _ c.requires c.in_ok-rest.ensures c.in_ok-end.ensures.is c.in_ok-end.ensures.within c.in_ok-number.ensures (omega arith)
