@@ -1,44 +1,32 @@
 -- The definitions of reading and writing lent bytes, case by case.
-use mathlib.Core.Path.{◌≡◌, refl, sym, ap, ap₂, ◌∙◌}
+use mathlib.Core.Path.{◌≡◌, refl, sym, ap, ◌∙◌}
 use mathlib.Core.List.{List, [], ◌∷◌, ◌++◌, append-nil}
-use mathlib.Core.Bool.{true, false}
+use mathlib.Core.Bool.{Bool, true, false, ◌&&◌}
 use mathlib.Core.Option.{none, some}
 use Prim.Native.Nat.{ℕ, ◌≤◌, ◌<◌}
-use native.Mathlib.Omega.{arith}
 use lib.ListN.{length, take, drop}
-use lib.Seq.{take_all}
 use borrow.Author.Tests.{le-leb, lt-leb}
+use Rattle.std.specs.Prelude.{Ok, Err}
 use Rattle.entries.specs.declared.Slot.{Slot}
 use Rattle.entries.specs.declared.Decoded.{Decoded}
-use Rattle.entries.specs.Entries.{Entry}
 use Rattle.entries.specs.Decoded.{table_in}
 use Rattle.checks.specs.Tests.{sound_slots, sound}
 use Rattle.table.specs.Form.{bucket_size, fits, bucket_bytes, table_of, read_bucket, same_bytes, read_number}
 use Rattle.table.specs.Steps.{Bounded, Decodes}
 use Rattle.table.proofs.Reading.{other_length, read_taken, read_unfit, bytes_same}
-use Rattle.bucket.specs.declared.Outcome.TheVariants.{Accepted, Malformed}
-use Rattle.bucket.specs.declared.Reading.{Reading}
-use Rattle.bucket.specs.Answers.{numbered, outcome_number, reading_of, table_read, Read, Refused, write_of}
+use Rattle.bucket.specs.declared.Malformed.{Malformed}
+use Rattle.bucket.specs.Answers.{numbered, Read, write_of}
 
 -- ---- reading
 
-pub reading_refused : (b : List ℕ) (r : Reading) → Refused r → read_bucket 4 16 b ≡ none → Read b r
-unfolding reading_of read_number table_read outcome_number
-reading_refused b r o e = record { is = rw (reading_of, o.outcome, e); number = rw (o.outcome, read_number, e); table = rw (table_read, e) o.table.table; sound = o.table.sound }
+reading_refused : (b : List ℕ) (e : Malformed) → read_bucket 4 16 b ≡ none → Read b (Err e)
+unfolding read_number
+reading_refused b e h = record { is = sym h; number = rw (read_number, h); sound = tt }
 
 -- bytes of another length are refused
-pub length_unread : (b : List ℕ) → (length b ≡ 113 → ⊥) → read_bucket 4 16 b ≡ none
+pub reading_of_other_length : (b : List ℕ) (e : Malformed) → (length b ≡ 113 → ⊥) → Read b (Err e)
 unfolding bucket_size
-length_unread b h = other_length 4 16 b h
-
--- a table whose count is 0 can be written as it stands
-pub empty_sound : (t : Decoded) → t.count ≡ 0 → sound t ≡ true
-unfolding sound sound_slots
-empty_sound t e = rw (sound, e, e)
-
-pub reading_taken : (b : List ℕ) (t : Decoded) (u : List Entry) → table_in t ≡ u → sound t ≡ true → read_bucket 4 16 b ≡ some u → Read b (record { outcome = Accepted; table = t })
-unfolding reading_of read_number table_read outcome_number
-reading_taken b t u h s e = record { is = ap some h ∙ sym e; number = rw (read_number, e); table = rw (table_read, e) h; sound = s }
+reading_of_other_length b e h = reading_refused b e (other_length 4 16 b h)
 
 -- a decoded table is sound
 bounded_sound : (l : List Slot) → Bounded l → sound_slots l ≡ true
@@ -52,51 +40,54 @@ decoded_sound b t d = rw (sound, le-leb t.count 4 d.count) (bounded_sound (take 
 
 -- the reader's way: the decoded table is encoded again, and the two are compared
 module _ (b : List ℕ) (t : Decoded) (d : Decodes b t) where
-  pub reading_unfit : (r : Reading) → Refused r → fits 4 16 (table_in t) ≡ false → Read b r
-  reading_unfit r o f = reading_refused b r o (read_unfit 4 16 b (ap (fits 4 16) (sym d.table) ∙ f))
+  pub reading_unfit : (e : Malformed) → fits 4 16 (table_in t) ≡ false → Read b (Err e)
+  reading_unfit e f = reading_refused b e (read_unfit 4 16 b (ap (fits 4 16) (sym d.table) ∙ f))
 
-  module _ (form : List ℕ) (f : fits 4 16 (table_in t) ≡ true) (e : form ≡ bucket_bytes 4 16 (table_in t) ++ []) where
-    encoded : form ≡ bucket_bytes 4 16 (table_of 4 16 b)
-    encoded = e ∙ append-nil (bucket_bytes 4 16 (table_in t)) ∙ ap (bucket_bytes 4 16) d.table
+  module _ (f : fits 4 16 (table_in t) ≡ true) where
+    fit : fits 4 16 (table_of 4 16 b) ≡ true
+    fit = ap (fits 4 16) (sym d.table) ∙ f
 
-    -- all 113 bytes of both
-    whole : length b ≡ 113 → length form ≡ 113 → same_bytes (take 113 b) (take 113 form) ≡ same_bytes b form
-    whole l m = ap₂ same_bytes (take_all 113 b (omega arith)) (take_all 113 form (omega arith))
+    form : bucket_bytes 4 16 (table_in t) ++ [] ≡ bucket_bytes 4 16 (table_of 4 16 b)
+    form = append-nil (bucket_bytes 4 16 (table_in t)) ∙ ap (bucket_bytes 4 16) d.table
 
-    pub reading_same : length b ≡ 113 → length form ≡ 113 → same_bytes (take 113 b) (take 113 form) ≡ true → Read b (record { outcome = Accepted; table = t })
-    reading_same l m s = reading_taken b t (table_of 4 16 b) d.table (decoded_sound b t d) (read_taken 4 16 b (ap (fits 4 16) (sym d.table) ∙ f) (bytes_same b form (sym (whole l m) ∙ s) ∙ encoded))
+    pub reading_same : b ≡ bucket_bytes 4 16 (table_in t) ++ [] → Read b (Ok t)
+    unfolding read_number
+    reading_same e =
+        let r = read_taken 4 16 b fit (e ∙ form) in
+        record { is = ap some d.table ∙ sym r; number = rw (read_number, r); sound = decoded_sound b t d }
 
-    pub reading_other : (r : Reading) → Refused r → length b ≡ 113 → length form ≡ 113 → same_bytes (take 113 b) (take 113 form) ≡ false → Read b r
+    pub reading_other : (e : Malformed) → (b ≡ bucket_bytes 4 16 (table_in t) ++ [] → ⊥) → Read b (Err e)
     unfolding read_bucket
-    reading_other r o l m s =
-        let g : fits 4 16 (table_of 4 16 b) ≡ true = ap (fits 4 16) (sym d.table) ∙ f in
-        let n : same_bytes b (bucket_bytes 4 16 (table_of 4 16 b)) ≡ false = ap (same_bytes b) (sym encoded) ∙ sym (whole l m) ∙ s in
-        reading_refused b r o (rw (read_bucket, g, n))
-
-module _ {b : List ℕ} {r : Reading} (c : Read b r) where
-  pub was_read : r.outcome ≡ Accepted → read_bucket 4 16 b ≡ some (table_in r.table)
-  unfolding reading_of
-  was_read o = sym c.is ∙ rw (reading_of, o)
-
-  pub was_refused : r.outcome ≡ Malformed → read_bucket 4 16 b ≡ none
-  unfolding reading_of
-  was_refused o = sym c.is ∙ rw (reading_of, o)
+    reading_other e h = go (same_bytes b (bucket_bytes 4 16 (table_of 4 16 b))) refl
+      where
+        go : (p : Bool) → same_bytes b (bucket_bytes 4 16 (table_of 4 16 b)) ≡ p → Read b (Err e)
+        go true p = absurd (h (bytes_same b (bucket_bytes 4 16 (table_of 4 16 b)) p ∙ sym form))
+        go false p = reading_refused b e (rw (read_bucket, fit, p))
 
 -- ---- writing
 
 module _ (t : Decoded) (out : List ℕ) where
-  pub write_unsound : sound t ≡ false → numbered 13 out ≡ write_of t out
+  pub write_unfit : (sound t && fits 4 16 (table_in t)) ≡ false → numbered 13 out ≡ write_of t out
   unfolding write_of
-  write_unsound h = rw (write_of, h)
+  write_unfit h = go (sound t) refl (fits 4 16 (table_in t)) refl
+    where
+      go : (p : Bool) → sound t ≡ p → (q : Bool) → fits 4 16 (table_in t) ≡ q → numbered 13 out ≡ write_of t out
+      go true p true q = cc (rw (p, q) at h)
+      go true p false q = rw (write_of, p, q)
+      go false p q r = rw (write_of, p)
 
-  pub write_unfit : sound t ≡ true → fits 4 16 (table_in t) ≡ false → numbered 13 out ≡ write_of t out
-  unfolding write_of
-  write_unfit h k = rw (write_of, h, k)
+  module _ (h : (sound t && fits 4 16 (table_in t)) ≡ true) where
+    parts : (sound t ≡ true) × (fits 4 16 (table_in t) ≡ true)
+    parts = go (sound t) (fits 4 16 (table_in t)) h
+      where
+        go : (p q : Bool) → (p && q) ≡ true → (p ≡ true) × (q ≡ true)
+        go true q e = (refl, e)
+        go false q e = (cc)
 
-  pub write_short : sound t ≡ true → fits 4 16 (table_in t) ≡ true → length out < 113 → numbered 15 out ≡ write_of t out
-  unfolding write_of
-  write_short h k l = rw (write_of, h, k, lt-leb 113 (length out) l)
+    pub write_short : length out < 113 → numbered 15 out ≡ write_of t out
+    unfolding write_of
+    write_short l = rw (write_of, parts.0, parts.1, lt-leb 113 (length out) l)
 
-  pub write_done : (after : List ℕ) → sound t ≡ true → fits 4 16 (table_in t) ≡ true → 113 ≤ length out → after ≡ bucket_bytes 4 16 (table_in t) ++ drop 113 out → numbered 0 after ≡ write_of t out
-  unfolding write_of
-  write_done after h k l e = rw (write_of, h, k, le-leb 113 (length out) l, e)
+    pub write_done : (after : List ℕ) → 113 ≤ length out → after ≡ bucket_bytes 4 16 (table_in t) ++ drop 113 out → numbered 0 after ≡ write_of t out
+    unfolding write_of
+    write_done after l e = rw (write_of, parts.0, parts.1, le-leb 113 (length out) l, e)

@@ -1,28 +1,26 @@
 -- What reading and writing lent bytes answer, and what the lent bytes hold afterwards.
-use Rattle.std.specs.Prelude.{◌≡◌, List, [], ◌++◌, true, false, ℕ, leb, length, drop}
+use Rattle.std.specs.Prelude.{◌≡◌, List, ◌++◌, true, false, ℕ, leb, length, drop, Result, Ok, Err, IfOk}
 use Rattle.std.proofs.Math.Option.{Option, none, some}
 use Rattle.entries.specs.declared.Decoded.{Decoded}
 use Rattle.entries.specs.Entries.{Entry}
 use Rattle.entries.specs.Decoded.{table_in}
 use Rattle.checks.specs.Tests.{sound}
 use Rattle.table.specs.Form.{fits, bucket_bytes, read_bucket, read_number}
-use Rattle.bucket.specs.declared.Outcome.{Outcome}
-use Rattle.bucket.specs.declared.Outcome.TheVariants.{Accepted, Malformed}
-use Rattle.bucket.specs.declared.Written.{Written}
-use Rattle.bucket.specs.declared.Written.TheVariants as written
-use Rattle.bucket.specs.declared.Reading.{Reading}
+use Rattle.bucket.specs.declared.Malformed.{Malformed}
+use Rattle.bucket.specs.declared.WriteError.{WriteError}
+use Rattle.bucket.specs.declared.WriteError.TheVariants as write_error
 
 -- ---- the numbers of the answers
 
 -- the refusal (RULES, Refusals 3); 0 where nothing is refused
-unfoldable pub outcome_number : Outcome → ℕ
-outcome_number Accepted = 0
-outcome_number Malformed = 13
+abbrev pub outcome_number : {T : Type 0} → Result T Malformed → ℕ
+outcome_number (Ok t) = 0
+outcome_number (Err e) = 13
 
-unfoldable pub written_number : Written → ℕ
-written_number written.Accepted = 0
-written_number written.Malformed = 13
-written_number written.Short = 15
+abbrev pub written_number : Result (Unit {0}) WriteError → ℕ
+written_number (Ok u) = 0
+written_number (Err write_error.Malformed) = 13
+written_number (Err write_error.Short) = 15
 
 -- a number, with bytes: those found, or those lent as they are afterwards
 pub record Numbered : Type 0 where
@@ -34,27 +32,15 @@ numbered n b = record { number = n; bytes = b }
 
 -- ---- reading
 
-unfoldable pub reading_of : Reading → Option (List Entry)
-reading_of r = elim r.outcome [ Accepted ↦ some (table_in r.table) | Malformed ↦ none ]
+abbrev pub reading_of : Result Decoded Malformed → Option (List Entry)
+reading_of (Ok t) = some (table_in t)
+reading_of (Err e) = none
 
-unfoldable pub table_read : List ℕ → List Entry
-table_read b = elim (read_bucket 4 16 b) [ none ↦ [] | some t ↦ t ]
-
--- no entries; every table that a call gives can be written as it stands
-pub record Empty (t : Decoded) : Type 0 where
-  pub table : table_in t ≡ []
-  pub sound : sound t ≡ true
-
--- the number, and the table, which has no entries where the bytes are refused; slots that are not in use may hold anything
-pub record Read (b : List ℕ) (r : Reading) : Type 0 where
+-- the number, and the table, which can be written as it stands; slots that are not in use may hold anything
+pub record Read (b : List ℕ) (r : Result Decoded Malformed) : Type 0 where
   pub is : reading_of r ≡ read_bucket 4 16 b
-  pub number : outcome_number r.outcome ≡ read_number 4 16 b
-  pub table : table_in r.table ≡ table_read b
-  pub sound : sound r.table ≡ true
-
-pub record Refused (r : Reading) : Type 0 where
-  pub outcome : r.outcome ≡ Malformed
-  pub table : Empty r.table
+  pub number : outcome_number r ≡ read_number 4 16 b
+  pub sound : IfOk r (λ t. sound t ≡ true)
 
 -- ---- writing
 

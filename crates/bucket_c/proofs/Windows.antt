@@ -1,41 +1,33 @@
 -- Bytes taken out of a slice, zeros where there are none.
-use mathlib.Core.Path.{◌≡◌, refl, sym, ap, ◌∙◌}
-use mathlib.Core.List.{List, [], ◌∷◌, ◌++◌}
-use Prim.Native.Nat.{ℕ, zero, suc, ◌≤◌, ◌<◌, ◌+◌}
+use mathlib.Core.Path.{◌≡◌, refl, ap₂}
+use mathlib.Core.List.{List, [], ◌∷◌}
+use Prim.Native.Nat.{ℕ, zero, suc, ◌<◌, ◌+◌}
 use native.Mathlib.Omega.{arith}
-use native.Mathlib.Numerals.{add-one}
-use lib.ListN.{length, take, get_or, set, length-set}
-use lib.Seq.{take-suc-set, take_all}
+use lib.ListN.{length, get_or}
 use Rattle.bucket_c.specs.Exports.{window}
 
--- one byte more, at the end
-window_suc : (n at : ℕ) (l : List ℕ) → window (suc n) at l ≡ window n at l ++ (get_or l (at + n) 0 ∷ [])
+-- n bytes that are those from `at` of l on
+pub windowed : (n at : ℕ) (l w : List ℕ) → length w ≡ n → ((i : ℕ) → i < n → get_or w i 0 ≡ get_or l (at + i) 0) → w ≡ window n at l
 unfolding window
-window_suc zero at l = let e : at + 0 ≡ at = omega arith in rw e
-window_suc (suc n) at l =
-    let e : suc at + n ≡ at + suc n = omega arith in
-    ap (λ r. get_or l at 0 ∷ r) (rw e at (window_suc n (suc at) l))
+windowed zero at l [] h f = refl
+windowed zero at l (x ∷ w) h f = absurd (omega arith)
+windowed (suc n) at l [] h f = absurd (omega arith)
+windowed (suc n) at l (x ∷ w) h f =
+    let z : at + 0 ≡ at = omega arith in
+    let k : length w ≡ n = omega arith in
+    ap₂ (λ y r. y ∷ r) (rw z at (f 0 (omega arith)))
+    (windowed n (suc at) l w k (λ i q. let e : at + suc i ≡ suc at + i = omega arith in rw e at (f (suc i) (omega arith))))
 
--- ---- an array b of top bytes is filled from `at` of l on; i are done
-pub record Windowing (top : ℕ) (l : List ℕ) (at : ℕ) (b : List ℕ) (i : ℕ) : Type 0 where
-  pub inside : i ≤ top
-  pub size : length b ≡ top
-  pub same : take i b ≡ window i at l
-
-pub windowing_starts : {top : ℕ} {l : List ℕ} {at : ℕ} {b : List ℕ} → length b ≡ top → Windowing top l at b 0
-unfolding window
-windowing_starts h = record { inside = omega arith; size = h; same = refl }
-
-module _ {top : ℕ} {l : List ℕ} {at : ℕ} {b : List ℕ} {i : ℕ} (c : Windowing top l at b i) where
-  pub windowing_goes_on : {x : ℕ} → i < top → x ≡ get_or l (at + i) 0 → Windowing top l at (set b i x) (i + 1)
-  windowing_goes_on {x} h e =
-      record {
-        inside = omega arith;
-        size = length-set b i x ∙ c.size;
-        same = rw (add-one i, take-suc-set b i x (omega (arith, c.size)), c.same, e) (sym (window_suc i at l));
-      }
-
-  pub windowing_ends : top ≤ i → b ≡ window top at l
-  windowing_ends h =
-      let e : i ≡ top = omega (arith, c.inside) in
-      sym (take_all top b (omega (arith, c.size))) ∙ (rw e at c.same)
+-- four items, one by one
+pub four_items : {A : Type 0} (f : ℕ → A) (d : A) (w : List A) → length w ≡ 4 → ((i : ℕ) → i < 4 → get_or w i d ≡ f i) → w ≡ f 0 ∷ (f 1 ∷ (f 2 ∷ (f 3 ∷ [])))
+four_items f d [] h e = absurd (omega arith)
+four_items f d (a ∷ []) h e = absurd (omega arith)
+four_items f d (a ∷ (b ∷ [])) h e = absurd (omega arith)
+four_items f d (a ∷ (b ∷ (c ∷ []))) h e = absurd (omega arith)
+four_items f d (a ∷ (b ∷ (c ∷ (g ∷ [])))) h e =
+    let p : a ≡ f 0 = e 0 (omega arith) in
+    let q : b ≡ f 1 = e 1 (omega arith) in
+    let r : c ≡ f 2 = e 2 (omega arith) in
+    let s : g ≡ f 3 = e 3 (omega arith) in
+    cc
+four_items f d (a ∷ (b ∷ (c ∷ (g ∷ (k ∷ w))))) h e = absurd (omega arith)

@@ -1,8 +1,7 @@
 -- What the exported calls say, over the definitions of the calls on lent bytes.
 use Rattle.std.specs.Prelude.{List, [], ◌∷◌, ◌++◌, true, false, ℕ, zero, suc, ◌+◌, ◌*◌, leb, length, get_or, drop}
 use Rattle.std.proofs.Math.Option.{none, some}
-use Rattle.entries.specs.declared.Key.{Key}
-use Rattle.entries.specs.declared.Value.{Value}
+use Rattle.entries.specs.declared.Text.{Text}
 use Rattle.entries.specs.declared.Slot.{Slot}
 use Rattle.entries.specs.declared.Decoded.{Decoded}
 use Rattle.entries.specs.Entries.{value_of, keys_of}
@@ -16,15 +15,12 @@ unfoldable pub window : ℕ → ℕ → List ℕ → List ℕ
 window zero at l = []
 window (suc n) at l = get_or l at 0 ∷ window n (suc at) l
 
-abbrev pub key_from : List ℕ → ℕ → ℕ → Key
-key_from l at n = record { bytes = window 8 at l; len = n }
-
-abbrev pub value_from : List ℕ → ℕ → ℕ → Value
-value_from l at n = record { bytes = window 16 at l; len = n }
+abbrev pub text_from : (room : ℕ) → List ℕ → ℕ → ℕ → Text room
+text_from room l at n = record { bytes = window room at l; len = n }
 
 -- entry i: its lengths at 2i and 2i + 1, its key at 24i and its value at 24i + 8
 abbrev pub slot_from : List ℕ → List ℕ → ℕ → Slot
-slot_from h l i = record { key = key_from l (24 * i) (get_or h (2 * i) 0); value = value_from l (24 * i + 8) (get_or h (2 * i + 1) 0) }
+slot_from h l i = record { key = text_from 8 l (24 * i) (get_or h (2 * i) 0); value = text_from 16 l (24 * i + 8) (get_or h (2 * i + 1) 0) }
 
 unfoldable pub table_from : ℕ → List ℕ → List ℕ → Decoded
 table_from n h l = record { count = n; slots = slot_from h l 0 ∷ (slot_from h l 1 ∷ (slot_from h l 2 ∷ (slot_from h l 3 ∷ []))) }

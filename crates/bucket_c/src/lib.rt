@@ -1,19 +1,19 @@
 // The calls on bucket bytes for programs in other languages: numbers and slices only. Crate `bucket_c_c` exports them.
 #![tactic(auto)]
 
-ghost use Rattle.std.specs.Prelude.{◌≡◌, ◌≤◌, ◌<◌, ◌+◌, ◌*◌, length, get_or};
-ghost use Rattle.entries.specs.Decoded.{value_bytes};
+ghost use Rattle.std.specs.Prelude.{◌≡◌, ◌≤◌, ◌<◌, ◌+◌, ◌*◌, length, map, get_or};
+ghost use Rattle.entries.specs.Decoded.{key_bytes, value_bytes};
 ghost use Rattle.table.specs.Form.{read_number};
-ghost use Rattle.bucket.specs.Answers.{numbered, outcome_number, written_number, write_of};
-ghost use Rattle.bucket_calls.specs.Answers.{change_number, put_of, remove_of, keys_in};
-ghost use Rattle.bucket_c.specs.Exports.{key_from, value_from, slot_from, table_from, written_out, get_of, keys_bytes, keys_out};
+ghost use Rattle.bucket.specs.Answers.{numbered, write_of};
+ghost use Rattle.bucket_calls.specs.Answers.{put_of, remove_of};
+ghost use Rattle.bucket_c.specs.Exports.{text_from, slot_from, table_from, written_out, get_of, keys_bytes, keys_out};
 
-use bucket::{Outcome, Written, read, write};
-use bucket_calls::{Change, Listing, list_keys, look_up, put, remove};
-use encoding::{put_key, put_value};
-use entries::keys::{key_length, value_length, wide};
-use entries::{Decoded, KEY_ROOM, Key, Slot, VALUE_ROOM, Value};
+use bucket::{Malformed, WriteError, read, write};
+use bucket_calls::{ChangeError, list_keys, look_up, put, remove};
+use entries::{Decoded, KEY_ROOM, Key, Slot, Text, VALUE_ROOM, Value};
+use std::array;
 
+// The answers are numbers, and a table is two slices of bytes, since this is the interface for C (`bucket_c_c`).
 // The refusals, and the same where the number is else a length or a count, which may be 13 or 15.
 pub const MALFORMED: u32 = 13;
 
@@ -33,81 +33,33 @@ const LENGTHS: usize = 2;
 
 const ENTRY_ROOM: usize = KEY_ROOM + VALUE_ROOM;
 
-// The numbers of the answers.
-fn outcome_number(outcome: Outcome) -> u32
-    ensures { result ≡ outcome_number outcome }
-{
-    match outcome {
-        Outcome::Accepted => 0,
-        Outcome::Malformed => MALFORMED,
-    }
-}
-
-fn written_number(written: Written) -> u32
-    ensures { result ≡ written_number written }
-{
-    match written {
-        Written::Accepted => 0,
-        Written::Malformed => MALFORMED,
-        Written::Short => SHORT,
-    }
-}
-
-fn change_number(change: Change) -> u32
-    ensures { result ≡ change_number change }
-{
-    match change {
-        Change::Done => 0,
-        Change::Full => FULL,
-        Change::Malformed => MALFORMED,
-    }
-}
-
 // 0 where the bytes are a bucket, 13 else.
 pub fn bucket_read(bucket: &[u8]) -> u32
     ensures { result ≡ read_number 4 16 bucket.now }
 {
-    let reading = read(bucket);
-    let outcome = reading.outcome;
-    outcome_number(outcome)
+    match read(bucket) {
+        Ok(_) => 0,
+        Err(Malformed) => MALFORMED,
+    }
 }
 
 // The byte at i, 0 where there is none.
 pub fn byte_at(bytes: &[u8], i: usize) -> u8
     ensures { result ≡ get_or bytes.now i 0 }
 {
-    if i < bytes.len() {
-        return bytes[i];
-    }
-    0
+    bytes.get(i).copied().unwrap_or(0)
 }
 
-// Eight bytes from `at` on, with a length that may be any.
-fn key_from(bytes: &[u8], at: usize, len: usize) -> Key
-    requires { at ≤ 96 }
-    ensures { result ≡ key_from bytes.now at len }
+// The bytes from `at` on, zeros where there are none, with a length that may be any.
+fn text_from<const ROOM: usize>(bytes: &[u8], at: usize, len: usize) -> Text<ROOM>
+    requires { at + ROOM < 256 }
+    ensures { result ≡ text_from ROOM bytes.now at len }
 {
-    let mut kept = [0u8; KEY_ROOM];
-    let mut i = 0;
-    while i < KEY_ROOM {
-        kept[i] = byte_at(bytes, at + i);
-        i += 1;
+    let mut kept = [0; ROOM];
+    for (i, byte) in kept.iter_mut().enumerate() {
+        *byte = byte_at(bytes, at + i);
     }
-    Key { bytes: kept, len }
-}
-
-// Sixteen bytes from `at` on, with a length that may be any.
-fn value_from(bytes: &[u8], at: usize, len: usize) -> Value
-    requires { at ≤ 96 }
-    ensures { result ≡ value_from bytes.now at len }
-{
-    let mut kept = [0u8; VALUE_ROOM];
-    let mut i = 0;
-    while i < VALUE_ROOM {
-        kept[i] = byte_at(bytes, at + i);
-        i += 1;
-    }
-    Value { bytes: kept, len }
+    Text { bytes: kept, len }
 }
 
 // Entry i of two slices.
@@ -115,23 +67,22 @@ fn slot_from(lengths: &[u8], bytes: &[u8], i: usize) -> Slot
     requires { i < 4 }
     ensures { result ≡ slot_from lengths.now bytes.now i }
 {
-    let key_len = wide(byte_at(lengths, LENGTHS * i));
-    let value_len = wide(byte_at(lengths, LENGTHS * i + 1));
-    let key = key_from(bytes, ENTRY_ROOM * i, key_len);
-    let value = value_from(bytes, ENTRY_ROOM * i + KEY_ROOM, value_len);
-    Slot { key, value }
+    let key_len = usize::from(byte_at(lengths, LENGTHS * i));
+    let value_len = usize::from(byte_at(lengths, LENGTHS * i + 1));
+    Slot {
+        key: text_from(bytes, ENTRY_ROOM * i, key_len),
+        value: text_from(bytes, ENTRY_ROOM * i + KEY_ROOM, value_len),
+    }
 }
 
 // The table of two slices, whatever its count.
 pub fn table_from(count: usize, lengths: &[u8], bytes: &[u8]) -> Decoded
     ensures { result ≡ table_from count lengths.now bytes.now }
 {
-    let first = slot_from(lengths, bytes, 0);
-    let second = slot_from(lengths, bytes, 1);
-    let third = slot_from(lengths, bytes, 2);
-    let fourth = slot_from(lengths, bytes, 3);
-    let slots = [first, second, third, fourth];
-    Decoded { count, slots }
+    Decoded {
+        count,
+        slots: array::from_fn(|i| slot_from(lengths, bytes, i)),
+    }
 }
 
 // The form of a table of `count` entries. Entry i has its key's length at 2i of `lengths` and its value's at 2i + 1, its key
@@ -139,20 +90,22 @@ pub fn table_from(count: usize, lengths: &[u8], bytes: &[u8]) -> Decoded
 pub fn bucket_write(count: usize, lengths: &[u8], bytes: &[u8], out: &mut [u8]) -> u32
     ensures { numbered result out.new ≡ write_of (table_from count lengths.now bytes.now) out.old }
 {
-    let table = table_from(count, lengths, bytes);
-    let written = write(table, out);
-    written_number(written)
+    match write(table_from(count, lengths, bytes), out) {
+        Ok(()) => 0,
+        Err(WriteError::Malformed) => MALFORMED,
+        Err(WriteError::Short) => SHORT,
+    }
 }
 
 // A value, written to `out`: its length, 115 where `out` is too short.
 fn put_found(value: Value, out: &mut [u8]) -> u32
     ensures { numbered result out.new ≡ written_out (length (value_bytes value)) (value_bytes value) out.old }
 {
-    let len = value_length(value);
+    let len = value.length();
     if out.len() < len {
         return HIGH_SHORT;
     }
-    put_value(out, 0, value);
+    out[..len].copy_from_slice(value.as_slice());
     len as u32
 }
 
@@ -161,17 +114,10 @@ fn put_found(value: Value, out: &mut [u8]) -> u32
 pub fn bucket_get(bucket: &[u8], key: &[u8], out: &mut [u8]) -> u32
     ensures { numbered result out.new ≡ get_of bucket.now key.now out.old }
 {
-    let found = look_up(bucket, key);
-    let item = found.item;
-    let outcome = found.outcome;
-    match outcome {
-        Outcome::Accepted => {
-            if item.there {
-                return put_found(item.value, out);
-            }
-            ABSENT
-        }
-        Outcome::Malformed => HIGH_MALFORMED,
+    match look_up(bucket, key) {
+        Ok(Some(value)) => put_found(value, out),
+        Ok(None) => ABSENT,
+        Err(Malformed) => HIGH_MALFORMED,
     }
 }
 
@@ -179,54 +125,49 @@ pub fn bucket_get(bucket: &[u8], key: &[u8], out: &mut [u8]) -> u32
 pub fn bucket_put(bucket: &mut [u8], key: &[u8], value: &[u8]) -> u32
     ensures { numbered result bucket.new ≡ put_of bucket.old key.now value.now }
 {
-    let change = put(bucket, key, value);
-    change_number(change)
+    match put(bucket, key, value) {
+        Ok(()) => 0,
+        Err(ChangeError::Full) => FULL,
+        Err(ChangeError::Malformed) => MALFORMED,
+    }
 }
 
 // The bucket without a key: 0 or 13.
 pub fn bucket_remove(bucket: &mut [u8], key: &[u8]) -> u32
     ensures { numbered result bucket.new ≡ remove_of bucket.old key.now }
 {
-    let outcome = remove(bucket, key);
-    outcome_number(outcome)
+    match remove(bucket, key) {
+        Ok(()) => 0,
+        Err(Malformed) => MALFORMED,
+    }
 }
 
 // How many bytes the keys take, each behind its length.
-fn keys_room(listing: Listing) -> usize
-    requires { listing.count ≤ 4 }
-    ensures { result ≡ length (keys_bytes (keys_in listing)) }
+fn keys_room(keys: &[Key]) -> usize
+    requires { length keys.now ≤ 4 }
+    ensures { result ≡ length (keys_bytes (map key_bytes keys.now)) }
 {
-    let count = listing.count;
-    let keys = listing.keys;
     let mut room = 0;
-    let mut i = 0;
-    while i < count {
-        let key = keys[i];
-        let len = key_length(key);
-        room = room + 1 + len;
-        i += 1;
+    for key in keys {
+        room += 1 + key.length();
     }
     room
 }
 
 // The keys, each behind its length, written to `out`. The answer is how many they are.
-fn put_keys(out: &mut [u8], listing: Listing) -> u32
-    requires { (listing.count ≤ 4) × (length (keys_bytes (keys_in listing)) ≤ length out.old) }
-    ensures { numbered result out.new ≡ written_out (length (keys_in listing)) (keys_bytes (keys_in listing)) out.old }
+fn put_keys(out: &mut [u8], keys: &[Key]) -> u32
+    requires few { length keys.now ≤ 4 }
+    requires room { length (keys_bytes (map key_bytes keys.now)) ≤ length out.old }
+    ensures { numbered result out.new ≡ written_out (length keys.now) (keys_bytes (map key_bytes keys.now)) out.old }
 {
-    let count = listing.count;
-    let keys = listing.keys;
     let mut at = 0;
-    let mut i = 0;
-    while i < count {
-        let key = keys[i];
-        let len = key_length(key);
+    for key in keys {
+        let len = key.length();
         out[at] = len as u8;
-        put_key(out, at + 1, key);
-        at = at + 1 + len;
-        i += 1;
+        out[at + 1..at + 1 + len].copy_from_slice(key.as_slice());
+        at += 1 + len;
     }
-    count as u32
+    keys.len() as u32
 }
 
 // All keys, rising, each behind its length, written to `out`: how many they are, 113 where the bucket is refused, 115 where
@@ -234,16 +175,15 @@ fn put_keys(out: &mut [u8], listing: Listing) -> u32
 pub fn bucket_keys(bucket: &[u8], out: &mut [u8]) -> u32
     ensures { numbered result out.new ≡ keys_out bucket.now out.old }
 {
-    let listing = list_keys(bucket);
-    let outcome = listing.outcome;
-    match outcome {
-        Outcome::Accepted => {
-            let room = keys_room(listing);
+    match list_keys(bucket) {
+        Ok(list) => {
+            let keys = &list.keys[..list.count];
+            let room = keys_room(keys);
             if out.len() < room {
                 return HIGH_SHORT;
             }
-            put_keys(out, listing)
+            put_keys(out, keys)
         }
-        Outcome::Malformed => HIGH_MALFORMED,
+        Err(Malformed) => HIGH_MALFORMED,
     }
 }

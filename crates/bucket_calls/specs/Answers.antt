@@ -1,17 +1,14 @@
 -- What the calls on lent bytes answer, and what the lent bytes hold afterwards.
-use Rattle.std.specs.Prelude.{◌≡◌, List, [], ◌∷◌, map, Bool, true, false, ℕ, ◌≤◌, leb, length, take}
+use Rattle.std.specs.Prelude.{◌≡◌, List, [], ◌∷◌, map, Bool, true, false, ℕ, ◌≤◌, leb, length, take, Result, Ok, Err, IfOk, IfSome}
 use Rattle.std.proofs.Math.Option.{Option, none, some}
-use Rattle.entries.specs.declared.Key.{Key}
-use Rattle.entries.specs.declared.Item.{Item}
-use Rattle.entries.specs.declared.Slot.{Slot}
+use Rattle.entries.specs.Decoded.{Key, Value, Item, key_bytes, item_in}
 use Rattle.entries.specs.Entries.{value_of, remove, stored, keys_of}
-use Rattle.entries.specs.Decoded.{key_bytes, item_in}
 use Rattle.table.specs.Form.{max_key, within, bucket_bytes, read_bucket}
+use Rattle.bucket.specs.declared.Malformed.{Malformed}
 use Rattle.bucket.specs.Answers.{Numbered, numbered, outcome_number}
-use Rattle.bucket_calls.specs.declared.Change.{Change}
-use Rattle.bucket_calls.specs.declared.Change.TheVariants.{Done, Full, Malformed}
-use Rattle.bucket_calls.specs.declared.Found.{Found}
-use Rattle.bucket_calls.specs.declared.Listing.{Listing}
+use Rattle.bucket_calls.specs.declared.ChangeError.{ChangeError}
+use Rattle.bucket_calls.specs.declared.ChangeError.TheVariants as change_error
+use Rattle.bucket_calls.specs.declared.KeyList.{KeyList}
 
 -- ---- searching
 
@@ -27,15 +24,15 @@ looked n v = record { number = n; value = v }
 unfoldable pub look_of : List ℕ → List ℕ → Looked
 look_of b k = elim (read_bucket 4 16 b) [ none ↦ looked 13 none | some t ↦ looked 0 (value_of k t) ]
 
--- what a look-up answers; the length of its value is within the array, also where the key is absent
-pub record LookedUp (b k : List ℕ) (r : Found) : Type 0 where
-  pub is : looked (outcome_number r.outcome) (item_in r.item) ≡ look_of b k
-  pub within : r.item.value.len ≤ 16
+-- the value that a look-up answers; none where the bucket is refused, too
+abbrev pub value_told : Result Item Malformed → Option (List ℕ)
+value_told (Ok i) = item_in i
+value_told (Err e) = none
 
--- the same value, its length within the array
-pub record TrimmedItem (i r : Item) : Type 0 where
-  pub is : item_in r ≡ item_in i
-  pub within : r.value.len ≤ 16
+-- what a look-up answers; the length of its value is within the array
+pub record LookedUp (b k : List ℕ) (r : Result Item Malformed) : Type 0 where
+  pub is : looked (outcome_number r) (value_told r) ≡ look_of b k
+  pub within : IfOk r (λ i. IfSome i (λ v. v.len ≤ 16))
 
 -- ---- changing
 
@@ -43,11 +40,11 @@ pub record TrimmedItem (i r : Item) : Type 0 where
 abbrev pub full_number : ℕ
 full_number = 255
 
--- 0 for `done`, and refusal 13
-unfoldable pub change_number : Change → ℕ
-change_number Done = 0
-change_number Full = full_number
-change_number Malformed = 13
+-- 0 where the change was made, and refusal 13
+abbrev pub change_number : Result (Unit {0}) ChangeError → ℕ
+change_number (Ok u) = 0
+change_number (Err change_error.Full) = full_number
+change_number (Err change_error.Malformed) = 13
 
 -- a key of 1 to 8 bytes, a value of at most 16
 unfoldable pub storable : List ℕ → List ℕ → Bool
@@ -77,8 +74,13 @@ pub record Listed : Type 0 where
 abbrev pub listed : ℕ → List (List ℕ) → Listed
 listed n k = record { number = n; keys = k }
 
-unfoldable pub keys_in : Listing → List (List ℕ)
-keys_in r = take r.count (map key_bytes r.keys)
+unfoldable pub keys_in : KeyList → List (List ℕ)
+keys_in l = take l.count (map key_bytes l.keys)
+
+-- the keys that a listing answers; none where the bucket is refused
+abbrev pub keys_told : Result KeyList Malformed → List (List ℕ)
+keys_told (Ok l) = keys_in l
+keys_told (Err e) = []
 
 unfoldable pub list_of : List ℕ → Listed
 list_of b = elim (read_bucket 4 16 b) [ none ↦ listed 13 [] | some t ↦ listed 0 (keys_of t) ]
@@ -89,17 +91,7 @@ Short [] = Unit {0}
 Short (k ∷ l) = (k.len ≤ 8) × Short l
 
 -- what a listing answers; its count is within the keys, and the length of every one of them, in use or not, within its array
-pub record KeysListed (b : List ℕ) (r : Listing) : Type 0 where
-  pub is : listed (outcome_number r.outcome) (keys_in r) ≡ list_of b
-  pub count : r.count ≤ 4
-  pub lengths : Short r.keys
-
--- the same key, its length within the array
-pub record TrimmedKey (k r : Key) : Type 0 where
-  pub is : key_bytes r ≡ key_bytes k
-  pub within : r.len ≤ 8
-
--- the keys of slots, used or not, with their lengths within their arrays
-pub record KeysTaken (l : List Slot) (r : List Key) : Type 0 where
-  pub is : map key_bytes r ≡ map (λ s. key_bytes s.key) l
-  pub lengths : Short r
+pub record KeysListed (b : List ℕ) (r : Result KeyList Malformed) : Type 0 where
+  pub is : listed (outcome_number r) (keys_told r) ≡ list_of b
+  pub count : IfOk r (λ l. l.count ≤ 4)
+  pub lengths : IfOk r (λ l. Short l.keys)

@@ -1,167 +1,110 @@
 // Calls on lent bucket bytes: a key is looked up, given a value or removed, and the keys are listed.
 #![tactic(auto)]
 
-ghost use Rattle.std.specs.Prelude.{◌≡◌};
-ghost use Rattle.entries.specs.Decoded.{key_bytes, value_bytes};
+ghost use Rattle.std.specs.Prelude.{◌≡◌, ◌≤◌, map};
+ghost use Rattle.entries.specs.Decoded.{text_bytes};
 ghost use Rattle.bucket.specs.Answers.{numbered, outcome_number};
-ghost use Rattle.bucket_calls.specs.Answers.{change_number, LookedUp, TrimmedItem, storable, put_in, put_of, remove_of, TrimmedKey, KeysTaken, KeysListed};
+ghost use Rattle.bucket_calls.specs.Answers.{change_number, LookedUp, storable, put_of, remove_of, KeysListed};
+ghost use Rattle.bucket_calls.specs.declared.ChangeError.TheVariants as change_error;
 
-use bucket::{Outcome, read};
+use bucket::{Malformed, read};
 use encoding::encode;
-use entries::keys::{key_length, key_of, value_length, value_of};
-use entries::slots::{absent, count_of, find, store};
-use entries::{Decoded, Item, KEY_ROOM, Key, Slot, TABLE_ROOM, VALUE_ROOM, Value, slots};
+use entries::slots::{count_of, find, store};
+use entries::{Full, KEY_ROOM, Key, TABLE_ROOM, Text, VALUE_ROOM, Value, slots};
 
-// What became of a change. The number for each case is `change_number`.
-#[derive(Clone, Copy)]
-pub enum Change {
-    Done,
+// Why a change was not made. The number for each case is `change_number`.
+#[derive(Clone, Copy, Debug, PartialEq, Eq)]
+pub enum ChangeError {
     Full,
     Malformed,
 }
 
-// The value that was found, none where the key is absent or the bucket is refused. Its length is at most 16, found or not.
-#[derive(Clone, Copy)]
-pub struct Found {
-    pub outcome: Outcome,
-    pub item: Item,
+impl From<Full> for ChangeError {
+    ghost from_gives = { λ _ e. e ≡ change_error.Full };
+
+    fn from(_refusal: Full) -> ChangeError {
+        ChangeError::Full
+    }
 }
 
-// The first `count` keys, at most four; none where the bucket is refused. The length of each of the four is at most 8.
+impl From<Malformed> for ChangeError {
+    ghost from_gives = { λ _ e. e ≡ change_error.Malformed };
+
+    fn from(_refusal: Malformed) -> ChangeError {
+        ChangeError::Malformed
+    }
+}
+
+// The first `count` keys, at most four. The length of each of the four is at most 8.
 #[derive(Clone, Copy)]
-pub struct Listing {
-    pub outcome: Outcome,
+pub struct KeyList {
     pub count: usize,
     pub keys: [Key; TABLE_ROOM],
 }
 
-// The same value, its length within its bytes.
-fn trimmed_item(item: Item) -> Item
-    ensures { TrimmedItem item result }
+// The same bytes, their length within the array: a slot that is not in use may hold any.
+fn trimmed<const ROOM: usize>(text: Text<ROOM>) -> Text<ROOM>
+    ensures is { text_bytes result ≡ text_bytes text.entry }
+    ensures within { result.len ≤ ROOM }
 {
-    let whole = item.value;
-    let len = value_length(whole);
-    let bytes = whole.bytes;
-    let value = Value { bytes, len };
-    let there = item.there;
-    Item { value, there }
+    Text {
+        len: text.length(),
+        ..text
+    }
 }
 
-// The value of a key; 13 where the bucket is refused, which is read as a table of no entries.
-pub fn look_up(bucket: &[u8], key: &[u8]) -> Found
+// The value of a key, its length at most 16; 13 where the bucket is refused.
+pub fn look_up(bucket: &[u8], key: &[u8]) -> Result<Option<Value>, Malformed>
     ensures { LookedUp bucket.now key.now result }
 {
-    let reading = read(bucket);
-    let outcome = reading.outcome;
-    let table = reading.table;
+    let table = read(bucket)?;
     if KEY_ROOM < key.len() {
-        let item = absent();
-        return Found { outcome, item };
+        return Ok(None);
     }
-    let item = trimmed_item(find(table, key_of(key)));
-    Found { outcome, item }
+    Ok(find(table, Key::of(key)).map(trimmed))
 }
 
 // A key's new value, in place; it may have no bytes. 13 where the bucket is refused, or the key or the value has a length
-// that no bucket holds.
-pub fn put(bucket: &mut [u8], key: &[u8], value: &[u8]) -> Change
+// that no bucket holds. An error leaves the bucket as it was.
+pub fn put(bucket: &mut [u8], key: &[u8], value: &[u8]) -> Result<(), ChangeError>
     ensures { numbered (change_number result) bucket.new ≡ put_of bucket.old key.now value.now }
 {
-    if storable(key, value) {
-        return put_in(bucket, key_of(key), value_of(value));
+    if !storable(key, value) {
+        return Err(ChangeError::Malformed);
     }
-    Change::Malformed
+    let table = read(bucket)?;
+    let changed = store(table, Key::of(key), Some(Value::of(value)))?;
+    encode(changed, bucket);
+    Ok(())
 }
 
 // Whether a bucket can hold a key and a value of these lengths.
+#[tactic(auto, unfolding(crate::specs::Answers::storable, table::specs::Form::within))]
 fn storable(key: &[u8], value: &[u8]) -> bool
     ensures { result ≡ storable key.now value.now }
 {
-    if key.len() == 0 {
-        return false;
-    }
-    if KEY_ROOM < key.len() {
-        return false;
-    }
-    value.len() <= VALUE_ROOM
+    !key.is_empty() && key.len() <= KEY_ROOM && value.len() <= VALUE_ROOM
 }
 
-// The same, for a key and a value by value.
-fn put_in(bucket: &mut [u8], key: Key, value: Value) -> Change
-    ensures { numbered (change_number result) bucket.new ≡ put_in bucket.old (key_bytes key) (value_bytes value) }
-{
-    let reading = read(bucket);
-    let table = reading.table;
-    let outcome = reading.outcome;
-    match outcome {
-        Outcome::Accepted => {
-            let item = Item { there: true, value };
-            let stored = store(table, key, item);
-            if stored.full {
-                return Change::Full;
-            }
-            let changed = stored.table;
-            encode(changed, bucket);
-            Change::Done
-        }
-        Outcome::Malformed => Change::Malformed,
-    }
-}
-
-// The bucket without a key, in place; 13 where the bucket is refused.
-pub fn remove(bucket: &mut [u8], key: &[u8]) -> Outcome
+// The bucket without a key, in place; 13 where the bucket is refused, which stays as it was.
+pub fn remove(bucket: &mut [u8], key: &[u8]) -> Result<(), Malformed>
     ensures { numbered (outcome_number result) bucket.new ≡ remove_of bucket.old key.now }
 {
-    let reading = read(bucket);
-    let table = reading.table;
-    let outcome = reading.outcome;
-    match outcome {
-        Outcome::Accepted => {
-            if KEY_ROOM < key.len() {
-                return Outcome::Accepted;
-            }
-            let changed = slots::remove(table, key_of(key));
-            encode(changed, bucket);
-            Outcome::Accepted
-        }
-        Outcome::Malformed => Outcome::Malformed,
+    let before = read(bucket)?;
+    if KEY_ROOM < key.len() {
+        return Ok(());
     }
+    encode(slots::remove(before, Key::of(key)), bucket);
+    Ok(())
 }
 
-// The key of a slot, its length within its bytes: a slot that is not in use may hold any.
-fn trimmed_key(slot: Slot) -> Key
-    ensures { TrimmedKey slot.key result }
-{
-    let key = slot.key;
-    let len = key_length(key);
-    let bytes = key.bytes;
-    Key { bytes, len }
-}
-
-// The keys of the four slots.
-fn keys_of(table: Decoded) -> [Key; TABLE_ROOM]
-    ensures { KeysTaken table.slots result }
-{
-    let slots = table.slots;
-    let first = trimmed_key(slots[0]);
-    let second = trimmed_key(slots[1]);
-    let third = trimmed_key(slots[2]);
-    let fourth = trimmed_key(slots[3]);
-    [first, second, third, fourth]
-}
-
-// All keys, rising; 13 where the bucket is refused, which is read as a table of no entries.
-pub fn list_keys(bucket: &[u8]) -> Listing
+// All keys, rising; 13 where the bucket is refused.
+pub fn list_keys(bucket: &[u8]) -> Result<KeyList, Malformed>
     ensures { KeysListed bucket.now result }
 {
-    let reading = read(bucket);
-    let outcome = reading.outcome;
-    let table = reading.table;
-    let count = count_of(table);
-    let keys = keys_of(table);
-    Listing {
-        outcome,
-        count,
-        keys,
-    }
+    let table = read(bucket)?;
+    Ok(KeyList {
+        count: count_of(table),
+        keys: table.slots.map(|slot| trimmed(slot.key)),
+    })
 }

@@ -1,29 +1,31 @@
 -- What the calls on lent bytes answer, and what the lent bytes hold afterwards.
-use Rattle.std.specs.Prelude.{◌≡◌, true, false, List, [], ℕ}
+use Rattle.std.specs.Prelude.{◌≡◌, true, false, List, ℕ, Result, Ok, Err, IfOk}
 use Rattle.entries.specs.declared.Decoded.{Decoded}
 use Rattle.entries.specs.Decoded.{table_in}
 use Rattle.checks.specs.Tests.{sound}
 use Rattle.bucket.specs.Answers.{Numbered, numbered}
+use Rattle.fields.specs.Form.{Datagram, version_of, Parsed, taken, refused, carries, write_datagram}
 use Rattle.datagram.specs.declared.Datagram as code
-use Rattle.datagram.specs.declared.Reading.{Reading}
-use Rattle.datagram.specs.declared.Outcome.{Outcome}
-use Rattle.datagram.specs.declared.Outcome.TheVariants.{Accepted, BadBucket, BadDatagram}
-use Rattle.datagram.specs.declared.Written.{Written}
-use Rattle.datagram.specs.declared.Written.TheVariants as written
-use Rattle.fields.specs.Form.{Datagram, version, Parsed, taken, refused, carries, write_datagram}
+use Rattle.datagram.specs.declared.ReadError.{ReadError}
+use Rattle.datagram.specs.declared.ReadError.TheVariants as read_error
+use Rattle.datagram.specs.declared.WriteError.{WriteError}
+use Rattle.datagram.specs.declared.WriteError.TheVariants as write_error
 
 -- ---- the numbers of the answers: the refusal (RULES, Refusals 3), 0 where nothing is refused
 
-unfoldable pub outcome_number : Outcome → ℕ
-outcome_number Accepted = 0
-outcome_number BadBucket = 13
-outcome_number BadDatagram = 14
+abbrev pub refusal_number : ReadError → ℕ
+refusal_number read_error.BadBucket = 13
+refusal_number read_error.BadDatagram = 14
 
-unfoldable pub written_number : Written → ℕ
-written_number written.Accepted = 0
-written_number written.BadBucket = 13
-written_number written.BadDatagram = 14
-written_number written.Short = 15
+abbrev pub outcome_number : Result code.Datagram ReadError → ℕ
+outcome_number (Ok d) = 0
+outcome_number (Err e) = refusal_number e
+
+abbrev pub written_number : Result (Unit {0}) WriteError → ℕ
+written_number (Ok u) = 0
+written_number (Err write_error.BadBucket) = 13
+written_number (Err write_error.BadDatagram) = 14
+written_number (Err write_error.Short) = 15
 
 -- ---- reading
 
@@ -37,34 +39,18 @@ meant d =
       bucket = d.bucket;
       election = d.election;
       round = d.round;
-      version = version d.version_election d.version_counter;
+      version = version_of d.version;
       table = table_in d.table;
     }
 
-unfoldable pub parsed_of : Reading → Parsed
-parsed_of r =
-    elim r.outcome [
-      | Accepted ↦ taken (meant r.datagram)
-      | BadBucket ↦ refused 13
-      | BadDatagram ↦ refused 14
-    ]
-
--- where bytes are refused the reading holds zeros and no entries
-unfoldable pub datagram_in : Parsed → Datagram
-datagram_in (taken d) = d
-datagram_in (refused n) = record { kind = 0; from = 0; to = 0; bucket = 0; election = 0; round = 0; version = version 0 0; table = [] }
+abbrev pub parsed_of : Result code.Datagram ReadError → Parsed
+parsed_of (Ok d) = taken (meant d)
+parsed_of (Err e) = refused (refusal_number e)
 
 -- what a reading holds; a table that is read can be written as it stands, and slots that are not in use may hold anything
-pub record StandsFor (p : Parsed) (r : Reading) : Type 0 where
+pub record StandsFor (p : Parsed) (r : Result code.Datagram ReadError) : Type 0 where
   pub is : parsed_of r ≡ p
-  pub datagram : meant r.datagram ≡ datagram_in p
-  pub sound : sound r.datagram.table ≡ true
-
--- bytes that are not taken
-pub record Refused (o : Outcome) (r : Reading) : Type 0 where
-  pub is : r.outcome ≡ o
-  pub datagram : meant r.datagram ≡ datagram_in (refused (outcome_number o))
-  pub sound : sound r.datagram.table ≡ true
+  pub sound : IfOk r (λ d. sound d.table ≡ true)
 
 -- a datagram made of a header, with the table that was given
 pub record Made (d : Datagram) (t : Decoded) (r : code.Datagram) : Type 0 where

@@ -5,33 +5,35 @@ ghost use Rattle.std.specs.Prelude.{◌≡◌};
 ghost use Rattle.bucket.specs.Answers.{numbered};
 ghost use Rattle.bucket_c.specs.Exports.{table_from};
 ghost use Rattle.fields.specs.Form.{read_datagram};
-ghost use Rattle.datagram.specs.Answers.{outcome_number, written_number, write_of};
+ghost use Rattle.datagram.specs.Answers.{refusal_number, written_number, write_of};
 ghost use Rattle.datagram_c.specs.Exports.{parsed_number, rewritten};
 
 use bucket_c::{MALFORMED, SHORT, table_from};
-use datagram::{Datagram, Outcome, Written, read, write};
+use datagram::{Datagram, ReadError, WriteError, read, write};
+use fields::Version;
 
-// The refusal that buckets do not have.
+// The answers are numbers, since this is the interface for C (`datagram_c_c`). The refusal that buckets do not have.
 const BAD_DATAGRAM: u32 = 14;
 
-fn outcome_number(outcome: Outcome) -> u32
-    ensures { result ≡ outcome_number outcome }
+// The number of a refusal.
+fn refusal_number(error: ReadError) -> u32
+    ensures { result ≡ refusal_number error }
 {
-    match outcome {
-        Outcome::Accepted => 0,
-        Outcome::BadBucket => MALFORMED,
-        Outcome::BadDatagram => BAD_DATAGRAM,
+    match error {
+        ReadError::BadBucket => MALFORMED,
+        ReadError::BadDatagram => BAD_DATAGRAM,
     }
 }
 
-fn written_number(written: Written) -> u32
+// The number of what a writer answers.
+fn written_number(written: Result<(), WriteError>) -> u32
     ensures { result ≡ written_number written }
 {
     match written {
-        Written::Accepted => 0,
-        Written::BadBucket => MALFORMED,
-        Written::BadDatagram => BAD_DATAGRAM,
-        Written::Short => SHORT,
+        Ok(()) => 0,
+        Err(WriteError::BadBucket) => MALFORMED,
+        Err(WriteError::BadDatagram) => BAD_DATAGRAM,
+        Err(WriteError::Short) => SHORT,
     }
 }
 
@@ -39,25 +41,19 @@ fn written_number(written: Written) -> u32
 pub fn datagram_read(bytes: &[u8]) -> u32
     ensures { result ≡ parsed_number (read_datagram bytes.now) }
 {
-    let reading = read(bytes);
-    let outcome = reading.outcome;
-    outcome_number(outcome)
+    match read(bytes) {
+        Ok(_) => 0,
+        Err(error) => refusal_number(error),
+    }
 }
 
 // What is read is written to `out`: 0, else 13 or 14, else 15 where `out` is shorter than its 10 or 129 bytes.
 pub fn datagram_rewrite(bytes: &[u8], out: &mut [u8]) -> u32
     ensures { numbered result out.new ≡ rewritten (read_datagram bytes.now) out.old }
 {
-    let reading = read(bytes);
-    let datagram = reading.datagram;
-    let outcome = reading.outcome;
-    match outcome {
-        Outcome::Accepted => {
-            let written = write(datagram, out);
-            written_number(written)
-        }
-        Outcome::BadBucket => MALFORMED,
-        Outcome::BadDatagram => BAD_DATAGRAM,
+    match read(bytes) {
+        Ok(datagram) => written_number(write(datagram, out)),
+        Err(error) => refusal_number(error),
     }
 }
 
@@ -77,9 +73,8 @@ pub fn datagram_write(
     bytes: &[u8],
     out: &mut [u8],
 ) -> u32
-    ensures { numbered result out.new ≡ write_of (record { kind = kind; from = from; to = to; bucket = bucket; election = election; round = round; version_election = number; version_counter = counter; table = table_from count lengths.now bytes.now }) out.old }
+    ensures { numbered result out.new ≡ write_of (record { kind = kind; from = from; to = to; bucket = bucket; election = election; round = round; version = record { election = number; counter = counter }; table = table_from count lengths.now bytes.now }) out.old }
 {
-    let table = table_from(count, lengths, bytes);
     let datagram = Datagram {
         kind,
         from,
@@ -87,10 +82,11 @@ pub fn datagram_write(
         bucket,
         election,
         round,
-        version_election: number,
-        version_counter: counter,
-        table,
+        version: Version {
+            election: number,
+            counter,
+        },
+        table: table_from(count, lengths, bytes),
     };
-    let written = write(datagram, out);
-    written_number(written)
+    written_number(write(datagram, out))
 }

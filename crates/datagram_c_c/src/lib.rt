@@ -41,7 +41,7 @@ pub extern "C" fn datagram_write(
     bytes: &[u8],
     out: &mut [u8],
 ) -> u32
-    ensures { numbered result out.new ≡ write_of (record { kind = kind; from = from; to = to; bucket = bucket; election = election; round = round; version_election = number; version_counter = counter; table = table_from count lengths.now bytes.now }) out.old }
+    ensures { numbered result out.new ≡ write_of (record { kind = kind; from = from; to = to; bucket = bucket; election = election; round = round; version = record { election = number; counter = counter }; table = table_from count lengths.now bytes.now }) out.old }
 {
     datagram_c::datagram_write(
         kind, from, to, bucket, election, round, number, counter, count, lengths, bytes, out,

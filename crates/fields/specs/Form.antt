@@ -4,6 +4,7 @@ use Rattle.std.proofs.Math.Option.{none, some}
 use Rattle.entries.specs.Entries.{Entry}
 use Rattle.table.specs.Form.{within, fits, bucket_bytes, read_bucket}
 use Rattle.bucket.specs.Answers.{Numbered, numbered}
+use Rattle.fields.specs.declared.Version as code
 
 pub record Version : Type 0 where
   pub election : ℕ
@@ -11,6 +12,10 @@ pub record Version : Type 0 where
 
 abbrev pub version : ℕ → ℕ → Version
 version e c = record { election = e; counter = c }
+
+-- what a version of the code stands for
+abbrev pub version_of : code.Version → Version
+version_of v = version v.election v.counter
 
 pub record Datagram : Type 0 where
   pub kind : ℕ

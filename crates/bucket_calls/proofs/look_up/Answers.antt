@@ -1,25 +1,16 @@
 -- `look_up` meets its contract: a key that is too long is absent.
-use mathlib.Core.Path.{ap, ap₂, ◌∙◌}
-use native.Mathlib.Omega.{arith}
-use lib.Seq.{take_all}
-use Rattle.entries.specs.Entries.{value_of}
-use Rattle.entries.specs.Decoded.{item_in}
-use Rattle.entries.proofs.Views.{absent_none}
-use Rattle.bucket_calls.proofs.Answering.{look_found, look_long}
+use Rattle.std.proofs.lemmas.Result.{err_from_is_err_and}
+use Rattle.bucket_calls.proofs.Answering.{look_refused, look_long, look_found}
+use borrow.Author.Rules.{rules}
 use Rattle.bucket_calls.proofs.look_up.Goals as goal
 
+pub returns-in_err-table : goal.returns-in_err-table
+returns-in_err-table c =
+    let p = err_from_is_err_and c.from_residual.result c.from_residual.ensures.1 in
+    rw p.1 (look_refused _ c.in_err-table.ensures)
+
 pub returns-then-key-gt-KEY_ROOM : goal.returns-then-key-gt-KEY_ROOM
-returns-then-key-gt-KEY_ROOM c =
-    record {
-      is = look_long _ _ _ _ c.read-reading.ensures.number (ap item_in c.absent-item.ensures ∙ absent_none) c.if-key-gt-KEY_ROOM.true;
-      within = rw c.absent-item.ensures (omega arith);
-    }
+returns-then-key-gt-KEY_ROOM c = look_long _ c.in_ok-table.ensures c.if-key-gt-KEY_ROOM.true
 
 pub returns : goal.returns
-returns c =
-    record {
-      is =
-          look_found _ _ _ _ c.read-reading.ensures.number
-          (c.trimmed_item-item.ensures.is ∙ c.find.ensures ∙ ap₂ value_of (c.key_of.ensures ∙ take_all 8 _ c.if-key-gt-KEY_ROOM.false) c.read-reading.ensures.table);
-      within = c.trimmed_item-item.ensures.within;
-    }
+returns c = let h = c.map.ensures.cases in look_found _ c.in_ok-table.ensures _ c.find.result c.map.result c.if-key-gt-KEY_ROOM.false c.of.ensures.bytes c.find.ensures (search rules)

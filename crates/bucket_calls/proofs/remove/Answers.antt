@@ -1,28 +1,18 @@
--- `remove` meets its contract: the bucket is read, changed and written; a key that is too long is absent.
-use lib.Seq.{take_all}
-use native.Mathlib.Omega.{arith}
-use Rattle.entries.specs.Entries.{remove}
-use Rattle.bucket.specs.Answers.{outcome_number}
-use Rattle.entries.specs.Decoded.{table_in}
-use Rattle.bucket.proofs.Answering.{was_read, was_refused}
-use Rattle.bucket_calls.proofs.Answering.{length_read, remove_refused, remove_done, remove_long}
-use mathlib.Core.Path.{ap, ◌∙◌}
+-- `remove` meets its contract: a key that is too long is absent.
+use Rattle.std.proofs.lemmas.Result.{err_from_is_err_and}
+use Rattle.bucket_calls.proofs.Answering.{room_read, remove_refused, remove_done, remove_long}
 use Rattle.bucket_calls.proofs.remove.Goals as goal
 
+pub returns-in_err-before : goal.returns-in_err-before
+returns-in_err-before c =
+    let p = err_from_is_err_and c.from_residual.result c.from_residual.ensures.1 in
+    rw p.1 (remove_refused _ c.in_err-before.ensures)
+
 pub returns-then-key-gt-KEY_ROOM : goal.returns-then-key-gt-KEY_ROOM
-unfolding outcome_number
-returns-then-key-gt-KEY_ROOM c = remove_long _ _ _ (was_read c.read-reading.ensures c.in-Accepted.is) c.if-key-gt-KEY_ROOM.true
+returns-then-key-gt-KEY_ROOM c = remove_long _ c.in_ok-before.ensures c.if-key-gt-KEY_ROOM.true
 
 pub encode-requires : goal.encode-requires
-encode-requires c = omega (arith, length_read _ _ (was_read c.read-reading.ensures c.in-Accepted.is))
+encode-requires c = room_read c.in_ok-before.ensures
 
-pub returns-else-key-gt-KEY_ROOM : goal.returns-else-key-gt-KEY_ROOM
-unfolding outcome_number
-returns-else-key-gt-KEY_ROOM c =
-    remove_done _ _ _ _ _ (was_read c.read-reading.ensures c.in-Accepted.is)
-    (c.remove-changed.ensures ∙ ap (λ k. remove k (table_in c.read-reading.result.table)) (c.key_of.ensures ∙ take_all 8 _ c.if-key-gt-KEY_ROOM.false))
-    c.encode.ensures
-
-pub returns-in-Malformed : goal.returns-in-Malformed
-unfolding outcome_number
-returns-in-Malformed c = remove_refused _ _ (was_refused c.read-reading.ensures c.in-Malformed.is)
+pub returns : goal.returns
+returns c = remove_done _ c.in_ok-before.ensures _ _ _ c.if-key-gt-KEY_ROOM.false c.of.ensures.bytes c.remove.ensures c.encode.ensures
