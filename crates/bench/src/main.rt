@@ -4,9 +4,8 @@
 
 use feed::entry::{feed_value, finish_value};
 use memory::{
-    ANSWERS_LEN, AnswerWords, CONTENTS_LEN, COUNTS_LEN, CopyBytes, CountWords, HEADS_LEN,
-    HeadWords, PAYLOADS_LEN, PayloadBytes, QUEUE_LEN, QueueWords, SLOTS_LEN, SlotWords, TEXTS_LEN,
-    TextBytes, WorkingBytes,
+    ANSWERS_LEN, Arrays, CONTENTS_LEN, COUNTS_LEN, HEADS_LEN, PAYLOADS_LEN, QUEUE_LEN, SLOTS_LEN,
+    TEXTS_LEN,
 };
 use progress::{BYTES_WRITTEN, KEPT_LEN, KeptLine, READER_LEN, ReaderWords};
 use runs::Tally;
@@ -18,17 +17,10 @@ const BLOCK: usize = 65536;
 
 type Block = [u8; BLOCK];
 
-// The arrays that are lent to crate `feed`, but for the input and the output.
-struct Bench {
-    counts: CountWords,
-    heads: HeadWords,
-    slots: SlotWords,
-    copies: CopyBytes,
-    working: WorkingBytes,
-    texts: TextBytes,
-    queue: QueueWords,
-    payloads: PayloadBytes,
-    answers: AnswerWords,
+// What is lent to crate `feed`, but for the input and the output.
+#[derive(Drop)]
+struct Bench<'a> {
+    arrays: Arrays<'a>,
     reader: ReaderWords,
     line: KeptLine,
 }
@@ -37,7 +29,7 @@ struct Bench {
 // byte (`takes_some` in crate `feed`), so the parts end.
 fn feed_block<W: Write>(
     writing: &mut W,
-    bench: &mut Bench,
+    bench: &mut Bench<'_>,
     tally: &mut Tally,
     block: &[u8],
     out: &mut Block,
@@ -45,15 +37,7 @@ fn feed_block<W: Write>(
     let mut rest = block;
     while !rest.is_empty() {
         let fed = feed_value(
-            &mut bench.counts,
-            &mut bench.heads,
-            &mut bench.slots,
-            &mut bench.copies,
-            &mut bench.working,
-            &mut bench.texts,
-            &mut bench.queue,
-            &mut bench.payloads,
-            &mut bench.answers,
+            &mut bench.arrays,
             &mut bench.reader,
             &mut bench.line,
             *tally,
@@ -71,20 +55,12 @@ fn feed_block<W: Write>(
 // The end of the input: what the last line and the tally print is written out.
 fn finish<W: Write>(
     writing: &mut W,
-    bench: &mut Bench,
+    bench: &mut Bench<'_>,
     tally: Tally,
     out: &mut Block,
 ) -> io::Result<()> {
     let end = finish_value(
-        &mut bench.counts,
-        &mut bench.heads,
-        &mut bench.slots,
-        &mut bench.copies,
-        &mut bench.working,
-        &mut bench.texts,
-        &mut bench.queue,
-        &mut bench.payloads,
-        &mut bench.answers,
+        &mut bench.arrays,
         &mut bench.reader,
         &mut bench.line,
         tally,
@@ -98,7 +74,7 @@ fn finish<W: Write>(
 fn run<R: Read, W: Write>(
     reading: &mut R,
     writing: &mut W,
-    bench: &mut Bench,
+    bench: &mut Bench<'_>,
     input: &mut Block,
     out: &mut Block,
 ) -> io::Result<()> {
@@ -121,15 +97,17 @@ fn run<R: Read, W: Write>(
 
 fn main(rt: HostRuntime) {
     let mut bench = Bench {
-        counts: [0; COUNTS_LEN],
-        heads: [0; HEADS_LEN],
-        slots: [0; SLOTS_LEN],
-        copies: [0; CONTENTS_LEN],
-        working: [0; CONTENTS_LEN],
-        texts: [0; TEXTS_LEN],
-        queue: [0; QUEUE_LEN],
-        payloads: [0; PAYLOADS_LEN],
-        answers: [0; ANSWERS_LEN],
+        arrays: Arrays {
+            counts: &mut [0; COUNTS_LEN],
+            heads: &mut [0; HEADS_LEN],
+            slots: &mut [0; SLOTS_LEN],
+            copies: &mut [0; CONTENTS_LEN],
+            working: &mut [0; CONTENTS_LEN],
+            texts: &mut [0; TEXTS_LEN],
+            queue: &mut [0; QUEUE_LEN],
+            payloads: &mut [0; PAYLOADS_LEN],
+            answers: &mut [0; ANSWERS_LEN],
+        },
         reader: [0; READER_LEN],
         line: [0; KEPT_LEN],
     };

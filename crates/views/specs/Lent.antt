@@ -39,17 +39,25 @@ lent a = record {
   answers = record { entry = a.entry.now.answers; exit = a.exit.now.answers };
 }
 
--- the struct holds the same arrays when the function returns, whatever is written in them
-pub record SameArrays (a : LentArrays) : Type 0 where
-  pub counts : a.exit.now.counts.ghost_name ≡ a.entry.now.counts.ghost_name
-  pub heads : a.exit.now.heads.ghost_name ≡ a.entry.now.heads.ghost_name
-  pub slots : a.exit.now.slots.ghost_name ≡ a.entry.now.slots.ghost_name
-  pub copies : a.exit.now.copies.ghost_name ≡ a.entry.now.copies.ghost_name
-  pub working : a.exit.now.working.ghost_name ≡ a.entry.now.working.ghost_name
-  pub texts : a.exit.now.texts.ghost_name ≡ a.entry.now.texts.ghost_name
-  pub queue : a.exit.now.queue.ghost_name ≡ a.entry.now.queue.ghost_name
-  pub payloads : a.exit.now.payloads.ghost_name ≡ a.entry.now.payloads.ghost_name
-  pub answers : a.exit.now.answers.ghost_name ≡ a.entry.now.answers.ghost_name
+-- two structs hold the same arrays, whatever is written in them
+pub record SameNames (x y : Arrays) : Type 0 where
+  pub counts : y.counts.ghost_name ≡ x.counts.ghost_name
+  pub heads : y.heads.ghost_name ≡ x.heads.ghost_name
+  pub slots : y.slots.ghost_name ≡ x.slots.ghost_name
+  pub copies : y.copies.ghost_name ≡ x.copies.ghost_name
+  pub working : y.working.ghost_name ≡ x.working.ghost_name
+  pub texts : y.texts.ghost_name ≡ x.texts.ghost_name
+  pub queue : y.queue.ghost_name ≡ x.queue.ghost_name
+  pub payloads : y.payloads.ghost_name ≡ x.payloads.ghost_name
+  pub answers : y.answers.ghost_name ≡ x.answers.ghost_name
+
+-- the struct holds the arrays that it held when the function was called
+abbrev pub SameArrays : LentArrays → Type 0
+SameArrays a = SameNames a.entry.now a.exit.now
+
+-- the memory that they hold
+abbrev pub memory_in : Arrays → Memory
+memory_in a = memory a.counts.now a.heads.now a.slots.now a.copies.now a.working.now a.texts.now a.queue.now a.payloads.now
 
 -- the cluster's memory before and after
 abbrev pub old : Lents → Memory
