@@ -1,1 +1,3 @@
 -- Laws that the tests' proofs cite.
+mod Testing
+mod Sounding

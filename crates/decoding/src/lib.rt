@@ -44,4 +44,3 @@ pub fn decode(bucket: &[u8]) -> Decoded
     }
     Decoded { count, slots }
 }
-

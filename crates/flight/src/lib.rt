@@ -35,7 +35,7 @@ fn unless_vote(kind: u32, number: u32) -> u32
 }
 
 // What a step of server `me` sends to all others; the receiver is filled in for each.
-fn broadcast_of(me: u32, at: u32, next: Move) -> Message
+pub fn broadcast_of(me: u32, at: u32, next: Move) -> Message
     ensures { result ≡ broadcast_of me at next }
 {
     let local = next.local;
@@ -56,7 +56,7 @@ fn broadcast_of(me: u32, at: u32, next: Move) -> Message
 }
 
 // A reply carries bucket, election number and round of what it answers.
-fn reply_of(me: u32, asked: Message, next: Move) -> Message
+pub fn reply_of(me: u32, asked: Message, next: Move) -> Message
     ensures { result ≡ reply_of me asked next }
 {
     let version = next.written;
@@ -71,7 +71,8 @@ fn reply_of(me: u32, asked: Message, next: Move) -> Message
     }
 }
 
-fn message_to(message: Message, receiver: u32) -> Message
+// The message to this receiver.
+pub fn message_to(message: Message, receiver: u32) -> Message
     ensures { result ≡ message_to message receiver }
 {
     Message {

@@ -14,11 +14,11 @@ use Rattle.progress.specs.declared.Ending.{Ending}
 use Rattle.progress.specs.declared.Progress.{Progress}
 use Rattle.lines.specs.Sessions.{Held, session, ended_line, held_after}
 use Rattle.lines.specs.Lines.{LineRun, LineTold}
-use Rattle.output.proofs.Answered.{answers_at_most}
+use Rattle.output.proofs.Answered.{Few, answers_at_most}
 
 -- a line has at most eight answers
-pub few_answers : {m : Memory} {l : List ℕ} {t : Tally} {x : Line} {m' : Memory} {l' : List ℕ} {r : Stepped} → Performed m l t x m' l' r → r.report.answers ≤ most_answers
-few_answers {m} {l} {x = x} {r = r} k = subst (λ (n : ℕ). n ≤ most_answers) (sym (ap (λ y. y.count) k.leaves.is)) (answers_at_most m l x r.report.effect)
+pub few_answers : {m : Memory} {l : List ℕ} {t : Tally} {x : Line} {m' : Memory} {l' : List ℕ} {r : Stepped} → Performed m l t x m' l' r → Few r.report
+few_answers {m} {l} {x = x} k = subst Few (sym (ap (λ y. y.told) k.leaves.is)) (answers_at_most m l x k.leaves.effect)
 
 -- a line that was read from the bytes l, and what was held before them
 pub line_told : (m : Memory) (l : List ℕ) (h : Held) (bytes : List ℕ) (x : Line) (m' : Memory) (l' : List ℕ) (h' : Held) (out out' : List ℕ) (p : Progress) (r : Ending)

@@ -51,12 +51,7 @@ fn may_run(size: usize, progress: Progress) -> bool
 }
 
 // The next line, if it may be run.
-pub fn next_line(
-    line: &mut KeptLine,
-    input: &[u8],
-    size: usize,
-    progress: Progress,
-) -> Option<Read>
+pub fn next_line(line: &mut KeptLine, input: &[u8], size: usize, progress: Progress) -> Option<Read>
     requires { progress.taken ≤ length input.now }
     ensures { ReadsNext line (read_only input) size progress result }
 {

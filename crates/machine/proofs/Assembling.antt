@@ -13,10 +13,9 @@ use Rattle.views.specs.Changes.{filled_from, moved}
 use Rattle.views.specs.Queue.{flight, without_message}
 use Rattle.flight.specs.Flown.{Flown}
 use Rattle.plans.specs.declared.Step.{Step}
-use Rattle.runs.specs.Runs.{Ran, ran, carried_run}
+use Rattle.runs.specs.Runs.{ran, carried_run}
 use Rattle.runs.specs.declared.Told.{Told}
-use Rattle.runs.specs.declared.Report.{Report}
-use Rattle.runs.specs.Carrying.{carried_report, CarriedOut}
+use Rattle.runs.specs.Carrying.{carried_report}
 use Rattle.machine.specs.Steps.{CarriedOn}
 use borrow.Author.Tests.{lt-leb}
 use native.Mathlib.Decide.{dec_le}
@@ -68,7 +67,3 @@ carried_out counts heads slots copies working texts queue payloads l c x v f mad
       h,
       p,
     )
-
--- what is reported of a move that was carried out
-pub reported : {y : Effect → Ran} {x : Step} {m : Memory} {l : List ℕ} {t : Told} (f : Effect) {r : Report} → CarriedOut y x m l t → r ≡ carried_report t x f → ran m l (Ok r) ≡ y f
-reported {m = m} {l = l} f h e = ap (λ r. ran m l (Ok r)) e ∙ h.is f

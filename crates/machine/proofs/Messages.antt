@@ -123,7 +123,7 @@ module _ (counts heads slots copies working texts queue payloads l : List ℕ) (
         let q1 : Lost counts queue payloads c (message_step c i removes y) counts' queue' payloads' r = subst (λ x. Lost counts queue payloads c x counts' queue' payloads' r) ex q in
         let q2 : Lost counts queue payloads c (lost_step c i removes) counts' queue' payloads' r = record { rest = q1.rest; counted = q1.counted; report = q1.report } in
         listed no_effect
-        (loses q2 ∙ ap (λ x. lost_run before l c (lost_step c x.index x.removes)) (sym ex) ∙ lost_plan_lem g)
+        (loses _ _ _ _ _ _ _ _ _ _ _ q2 ∙ ap (λ x. lost_run before l c (lost_step c x.index x.removes)) (sym ex) ∙ lost_plan_lem g)
         (λ s _. absurd (true≢false (sym g ∙ s)))
 
 -- ---- the whole line

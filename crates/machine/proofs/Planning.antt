@@ -15,7 +15,7 @@ use Rattle.parse.specs.declared.Kind.{Kind}
 use Rattle.parse.specs.declared.Kind.TheVariants as K
 use Rattle.parse.specs.declared.Line.{Line}
 use Rattle.runs.specs.declared.Report.{Report}
-use Rattle.runs.specs.Runs.{Ran, ran, refused_run, accepted, executed, words_of, line_plan, planned_run, cluster_run, run_by, line_run, EffectOf}
+use Rattle.runs.specs.Runs.{Ran, ran, refused_run, bare_report, accepted, executed, words_of, line_plan, planned_run, cluster_run, run_by, line_run, EffectOf}
 use Rattle.machine.specs.Steps.{cluster_told, seen, is_planned, LinePlanned, HandRan, RanPlan, RanLine}
 
 module _ (heads slots copies queue : List ℕ) (c : Counts) (x : Line) (p : Result Plan Refusal) where
@@ -72,9 +72,9 @@ module _ (heads slots copies queue : List ℕ) (c : Counts) (x : Line) (p : Resu
   call_by K.Del e z a b d f g i h = simply h.effect K.Del e h.is (λ _. h.needed)
   call_by K.Keys e z a b d f g i h = simply h.effect K.Keys e h.is (λ _. h.needed)
 
-  pub call_planned : (w : Words) → is_planned x.kind ≡ true → (x.kind ≡ K.Elect → ⊥) → (x.kind ≡ K.Lose → ⊥) → (x.kind ≡ K.Timeout → ⊥) → (x.kind ≡ K.Stop → ⊥) → (x.kind ≡ K.Cut → ⊥) → (x.kind ≡ K.Start → ⊥)
+  pub planned_call : (w : Words) → is_planned x.kind ≡ true → (x.kind ≡ K.Elect → ⊥) → (x.kind ≡ K.Lose → ⊥) → (x.kind ≡ K.Timeout → ⊥) → (x.kind ≡ K.Stop → ⊥) → (x.kind ≡ K.Cut → ⊥) → (x.kind ≡ K.Start → ⊥)
       → w ≡ words_of x.kind x → CallPlanned heads slots copies c x.first w p → LinePlanned heads slots copies queue c x p
-  call_planned w z a b d f g i e h = call_by x.kind refl z a b d f g i (subst (λ v. CallPlanned heads slots copies c x.first v p) e h)
+  planned_call w z a b d f g i e h = call_by x.kind refl z a b d f g i (subst (λ v. CallPlanned heads slots copies c x.first v p) e h)
 
 -- ---- a plan looks at four of the arrays, and at a fifth only for a message that is handed over
 
@@ -154,6 +154,25 @@ module _ (m : Memory) (l : List ℕ) (x : Line) (c : Counts) (e : c ≡ counts_a
         is = sym (planned_by no_effect false s);
       }
 
+-- a kind that is none of the four others is planned
+pub planned_by_default : (k : Kind) → (k ≡ K.Malformed → ⊥) → (k ≡ K.Cluster → ⊥) → (k ≡ K.Deliver → ⊥) → (k ≡ K.Copy → ⊥) → is_planned k ≡ true
+unfolding is_planned
+planned_by_default K.Malformed a b c d = absurd (a refl)
+planned_by_default K.Cluster a b c d = absurd (b refl)
+planned_by_default K.Deliver a b c d = absurd (c refl)
+planned_by_default K.Copy a b c d = absurd (d refl)
+planned_by_default K.Elect a b c d = refl
+planned_by_default K.Get a b c d = refl
+planned_by_default K.Set a b c d = refl
+planned_by_default K.SetIf a b c d = refl
+planned_by_default K.Del a b c d = refl
+planned_by_default K.Keys a b c d = refl
+planned_by_default K.Lose a b c d = refl
+planned_by_default K.Timeout a b c d = refl
+planned_by_default K.Stop a b c d = refl
+planned_by_default K.Cut a b c d = refl
+planned_by_default K.Start a b c d = refl
+
 -- ---- lines by their kind
 
 abbrev EffectAsked : Memory → Line → Kind → Effect → Type 0
@@ -172,10 +191,20 @@ module _ (m : Memory) (l : List ℕ) (x : Line) where
   unfolding run_by
   malformed_run e = by_kind K.Malformed e no_effect (λ _. tt) refl
 
-  pub cluster_run_lem : (m' : Memory) (l' : List ℕ) (q : Result (Unit {0}) Refusal) (r : Result Report Refusal) → x.kind ≡ K.Cluster
+  cluster_run_lem : (m' : Memory) (l' : List ℕ) (q : Result (Unit {0}) Refusal) (r : Result Report Refusal) → x.kind ≡ K.Cluster
       → ran m' l' (cluster_told q) ≡ cluster_run m l x.first x.second → r ≡ cluster_told q → RanLine m l x m' l' r
   unfolding run_by
   cluster_run_lem m' l' q r e y h = by_kind K.Cluster e no_effect (λ _. tt) (ap (ran m' l') h ∙ y)
+
+  pub cluster_made : (m' : Memory) (l' : List ℕ) (q : Result (Unit {0}) Refusal) (u : Unit {0}) (r : Report) → x.kind ≡ K.Cluster
+      → ran m' l' (cluster_told q) ≡ cluster_run m l x.first x.second → q ≡ Ok u → r ≡ bare_report → RanLine m l x m' l' (Ok r)
+  unfolding cluster_told
+  cluster_made m' l' q u r e y z h = cluster_run_lem m' l' q (Ok r) e y (ap (λ (r : Report). Ok r) h ∙ ap cluster_told (sym z))
+
+  pub cluster_refused : (m' : Memory) (l' : List ℕ) (q : Result (Unit {0}) Refusal) (a : Refusal) → x.kind ≡ K.Cluster
+      → ran m' l' (cluster_told q) ≡ cluster_run m l x.first x.second → q ≡ Err a → RanLine m l x m' l' (Err a)
+  unfolding cluster_told
+  cluster_refused m' l' q a e y z = cluster_run_lem m' l' q (Err a) e y (ap cluster_told (sym z))
 
   other_run : (m' : Memory) (l' : List ℕ) (r : Result Report Refusal) (k : Kind) → x.kind ≡ k → is_planned k ≡ true → RanPlan m l x m' l' r → RanLine m l x m' l' r
   unfolding run_by is_planned
@@ -212,22 +241,3 @@ module _ (m : Memory) (l : List ℕ) (x : Line) where
   pub copy_run : (m' : Memory) (l' : List ℕ) (r : Result Report Refusal) → x.kind ≡ K.Copy → HandRan m l x.first false m' l' r → RanLine m l x m' l' r
   unfolding run_by planned_run line_plan
   copy_run m' l' r e h = by_kind K.Copy e h.effect h.asked (h.is ∙ ap (λ k. run_as k h.effect) (sym e))
-
-  -- a kind that is none of the four others is planned
-  pub other_planned : (k : Kind) → (k ≡ K.Malformed → ⊥) → (k ≡ K.Cluster → ⊥) → (k ≡ K.Deliver → ⊥) → (k ≡ K.Copy → ⊥) → is_planned k ≡ true
-  unfolding is_planned
-  other_planned K.Malformed a b c d = absurd (a refl)
-  other_planned K.Cluster a b c d = absurd (b refl)
-  other_planned K.Deliver a b c d = absurd (c refl)
-  other_planned K.Copy a b c d = absurd (d refl)
-  other_planned K.Elect a b c d = refl
-  other_planned K.Get a b c d = refl
-  other_planned K.Set a b c d = refl
-  other_planned K.SetIf a b c d = refl
-  other_planned K.Del a b c d = refl
-  other_planned K.Keys a b c d = refl
-  other_planned K.Lose a b c d = refl
-  other_planned K.Timeout a b c d = refl
-  other_planned K.Stop a b c d = refl
-  other_planned K.Cut a b c d = refl
-  other_planned K.Start a b c d = refl

@@ -87,12 +87,14 @@ fn cluster_line(arrays: &mut Arrays<'_>, servers: u32, buckets: u32) -> Result<(
     ensures same { SameArrays arrays }
     ensures clusters { Clusters (lent arrays) servers buckets result }
 {
-    let stands = standing(load_counts(arrays.counts));
-    if stands || !within(MAX_SERVERS, servers) || !within(MAX_BUCKETS, buckets) {
+    if standing(load_counts(arrays.counts)) {
         return Err(Refusal::ClusterWrong);
     }
-    create(arrays, servers, buckets);
-    Ok(())
+    if within(MAX_SERVERS, servers) && within(MAX_BUCKETS, buckets) {
+        create(arrays, servers, buckets);
+        return Ok(());
+    }
+    Err(Refusal::ClusterWrong)
 }
 
 // A line that needs a cluster and hands no message over.

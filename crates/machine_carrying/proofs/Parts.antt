@@ -4,12 +4,12 @@ use native.Mathlib.Decide.{dec_le}
 use borrow.Author.Tests.{lt-leb}
 use Rattle.entries.specs.Entries.{Entry}
 use Rattle.server.specs.Views.{chosen}
-use Rattle.server.specs.declared.Effect.{Effect}
 use Rattle.memory.specs.declared.Counts.{Counts}
 use Rattle.memory.specs.Layout.{message_room, slot_of, place_at}
 use Rattle.refusals.specs.Refusals.{send_count, places_left}
 use Rattle.moves.specs.declared.Move.{Move}
 use Rattle.plans.specs.declared.Step.{Step}
+use Rattle.plans.specs.Plans.{no_effect}
 use Rattle.views.specs.Memory.{Memory}
 use Rattle.views.specs.Changes.{moved}
 use Rattle.views.specs.Queue.{flight, without_message, sent}
@@ -17,8 +17,9 @@ use Rattle.machine_flight.specs.Flown.{Flown, sent_by}
 use Rattle.machine_flight.proofs.Sends.{flown_next}
 use Rattle.runs.specs.declared.Report.{Report}
 use Rattle.runs.specs.Runs.{next_counts, left_flight, carried_run, lost_run}
-use Rattle.machine_carrying.specs.declared.Told.{Told}
-use Rattle.machine_carrying.specs.Carried.{with_filled, with_counted, flown_by, flown_counted, ServerChanged, CarriedOn, CarriedOut, Lost}
+use Rattle.runs.specs.declared.Told.{Told}
+use Rattle.runs.specs.Carrying.{CarriedOut}
+use Rattle.machine_carrying.specs.Carried.{with_filled, with_counted, flown_by, flown_counted, ServerChanged, CarriedOn, Lost}
 
 leb_le : (a b : ℕ) → leb a b ≡ true → a ≤ b
 leb_le a b e = go (dec_le a b)
@@ -71,7 +72,7 @@ module _ (c : Counts) (x : Step) (v : Move) where
       record { is = λ f. rw (g.is, g.messages, g.sends, ap (λ a. a.answers) g.listed.is, ap (λ a. a.count) g.listed.is, e, p) }
 
 -- a message left, then the counts
-pub lost_out : (c : Counts) (x : Step) (m m1 m2 : Memory) (n : ℕ) (f : Effect) (r : Report) → Flown m (left_flight m c x) m1 n → m2 ≡ with_counted m1 (next_counts c n x.calls)
-    → r ≡ record { refusal = 0; answers = 0; sent = 0; copied = x.copied; delivered = 0; lost = 1; messages = n; effect = f } → Lost m c x f m2 r
+pub lost_out : (c : Counts) (x : Step) (m m1 m2 : Memory) (n : ℕ) (r : Report) → Flown m (left_flight m c x) m1 n → m2 ≡ with_counted m1 (next_counts c n x.calls)
+    → r ≡ record { effect = no_effect; answers = 0; sent = 0; copied = x.copied; delivered = 0; lost = 1; messages = n } → Lost m c x m2 r
 unfolding lost_run
-lost_out c x m m1 m2 n f r h e q = record { is = λ l. rw (q, e, h.is, h.count); effect = ap (λ y. y.effect) q }
+lost_out c x m m1 m2 n r h e q = record { is = λ l. rw (q, e, h.is, h.count) }

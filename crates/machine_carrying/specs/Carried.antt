@@ -1,13 +1,12 @@
--- What carrying a move out asks of it, and what each part leaves in the two arrays. The runs are those of crate `runs`.
-use Rattle.std.specs.Prelude.{◌≡◌, ℕ, ◌<◌, ◌≤◌, true, List}
+-- What each part of carrying a move out leaves in the two arrays. The runs, and what a move asks for, are those of crate `runs`.
+use Rattle.std.specs.Prelude.{◌≡◌, ℕ, List, Ok}
 use Rattle.entries.specs.Decoded.{table_in}
 use Rattle.entries.specs.Entries.{Entry}
 use Rattle.entries.specs.declared.Decoded.{Decoded}
-use Rattle.server.specs.declared.Effect.{Effect}
 use Rattle.memory.specs.declared.Counts.{Counts}
-use Rattle.memory.specs.Layout.{server_room, bucket_room, message_room, slot_of, put_counts}
+use Rattle.memory.specs.Layout.{slot_of, put_counts}
 use Rattle.memory.specs.Lent.{Lent, was, is}
-use Rattle.refusals.specs.Refusals.{send_count, places_left}
+use Rattle.refusals.specs.Refusals.{send_count}
 use Rattle.moves.specs.declared.Move.{Move}
 use Rattle.plans.specs.declared.Step.{Step}
 use Rattle.views.specs.Memory.{Memory, memory}
@@ -18,23 +17,9 @@ use Rattle.machine_steps.specs.Moved.{moved_filled}
 use Rattle.machine_answers.specs.Answers.{Listed}
 use Rattle.machine_flight.specs.Flown.{with_flight}
 use Rattle.runs.specs.declared.Report.{Report}
-use Rattle.runs.specs.Runs.{Ran, ran, next_counts, left_flight, carried_run, lost_run}
-use Rattle.machine_carrying.specs.declared.Told.{Told}
-
--- a message is there to be lost
-pub record Losable (c : Counts) (x : Step) : Type 0 where
-  pub messages : c.messages ≤ message_room
-  pub there : x.removes ≡ true → x.index < c.messages
-
--- a move has its server, bucket and message, and places for what it sends
-pub record Carriable (c : Counts) (x : Step) (v : Move) : Type 0 where
-  pub servers : c.servers ≤ server_room
-  pub buckets : c.buckets ≤ bucket_room
-  pub server : x.server < c.servers
-  pub bucket : x.bucket < bucket_room
-  pub index : x.index < message_room
-  pub losable : Losable c x
-  pub room : places_left c x.removes v.sends ≡ true
+use Rattle.runs.specs.declared.Told.{Told}
+use Rattle.runs.specs.Carrying.{CarriedOut}
+use Rattle.runs.specs.Runs.{ran, next_counts, left_flight, carried_run, lost_run}
 
 -- ---- parts of a memory that a move changes
 
@@ -69,18 +54,9 @@ pub record CarriedOn (m : Memory) (l : List ℕ) (c : Counts) (x : Step) (v : Mo
   pub messages : r.messages ≡ (flown_by c x v (moved_filled m c.buckets x.server x.bucket i v)).count
   pub sends : r.sent ≡ send_count c.servers v.sends
 
-abbrev pub carried_report : Told → Step → Effect → Report
-carried_report t x f =
-    record { refusal = 0; answers = t.answers; sent = t.sent; copied = x.copied; delivered = x.delivered; lost = x.lost; messages = t.messages; effect = f }
-
--- the run y, as memory, answers and what the move of step x told; its report may have any effect beside
-pub record CarriedOut (y : Ran) (x : Step) (m : Memory) (answers : List ℕ) (r : Told) : Type 0 where
-  pub is : (f : Effect) → ran m answers (carried_report r x f) ≡ y
-
 -- a message is lost, and the answers stay as they are
-pub record Lost (m : Memory) (c : Counts) (x : Step) (f : Effect) (m' : Memory) (r : Report) : Type 0 where
-  pub is : (l : List ℕ) → ran m' l r ≡ lost_run m l c x
-  pub effect : r.effect ≡ f
+pub record Lost (m : Memory) (c : Counts) (x : Step) (m' : Memory) (r : Report) : Type 0 where
+  pub is : (l : List ℕ) → ran m' l (Ok r) ≡ lost_run m l c x
 
 -- ---- the same of lent arrays
 
@@ -94,5 +70,5 @@ abbrev pub CarriesOut : (words bytes answers : Lent) → Counts → Step → Mov
 CarriesOut words bytes answers c x v table r =
     CarriedOut (carried_run (old_memory words bytes) (was answers) c x v (table_in table)) x (new_memory words bytes) (is answers) r
 
-abbrev pub Loses : (words bytes : Lent) → Counts → Step → Effect → Report → Type 0
-Loses words bytes c x f r = Lost (old_memory words bytes) c x f (new_memory words bytes) r
+abbrev pub Loses : (words bytes : Lent) → Counts → Step → Report → Type 0
+Loses words bytes c x r = Lost (old_memory words bytes) c x (new_memory words bytes) r

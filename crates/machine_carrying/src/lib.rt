@@ -7,8 +7,9 @@ ghost use Rattle.std.specs.Prelude.{◌≡◌, ◌<◌, ◌≤◌};
 ghost use Rattle.memory.specs.Layout.{server_room, bucket_room, message_room};
 ghost use Rattle.views.specs.Arrays.{old_memory, new_memory};
 ghost use Rattle.machine_flight.specs.Flown.{Flies};
-ghost use Rattle.runs.specs.Runs.{next_counts, left_flight, taken};
-ghost use Rattle.machine_carrying.specs.Carried.{Losable, Carriable, carried_report, ChangesServer, flown_by, CarriesOn, CarriesOut, Loses};
+ghost use Rattle.runs.specs.Runs.{left_flight, taken};
+ghost use Rattle.runs.specs.Carrying.{Losable, Carriable};
+ghost use Rattle.machine_carrying.specs.Carried.{ChangesServer, flown_by, CarriesOn, CarriesOut, Loses};
 
 use entries::Decoded;
 use machine_answers::answer;
@@ -21,34 +22,11 @@ use memory_records::counters::store_counts;
 use memory_records::words::store_words;
 use memory_regions::{Bytes, Words};
 use moves::Move;
-use plans::{Plan, Step};
-use refusals::codes::NONE;
+use plans::Step;
 use refusals::send_count;
-use runs::Report;
-use server::Effect;
+use runs::{Report, Told, bare_report, next_counts};
 
 pub mod fresh;
-
-// What a move that is carried out tells: how many answers were written, how many messages sent, and how many are in flight.
-#[derive(Clone, Copy)]
-pub struct Told {
-    pub answers: u32,
-    pub sent: u32,
-    pub messages: u32,
-}
-
-// One more accepted line.
-fn next_counts(cluster: Counts, messages: usize, calls: u32) -> Counts
-    requires { messages ≤ message_room }
-    ensures { result ≡ next_counts cluster messages calls }
-{
-    Counts {
-        messages: messages as u32,
-        lines: cluster.lines.wrapping_add(1),
-        calls,
-        ..cluster
-    }
-}
 
 // The message handed over leaves the list, where it is not a copy.
 fn leave(words: &mut Words, bytes: &Bytes, cluster: Counts, step: Step) -> usize
@@ -140,48 +118,26 @@ pub fn carry_out(
     carry_on(words, bytes, answers, cluster, step, next, place)
 }
 
-// What a move that is carried out came to.
-pub fn report_of(told: Told, step: Step, effect: Effect) -> Report
-    ensures { result ≡ carried_report told step effect }
-{
-    Report {
-        refusal: NONE,
-        answers: told.answers,
-        sent: told.sent,
-        copied: step.copied,
-        delivered: step.delivered,
-        lost: step.lost,
-        messages: told.messages,
-        effect,
-    }
-}
-
 // A message is lost.
-pub fn lose(words: &mut Words, bytes: &Bytes, cluster: Counts, step: Step, effect: Effect) -> Report
+pub fn lose(words: &mut Words, bytes: &Bytes, cluster: Counts, step: Step) -> Report
     requires { Losable cluster step }
-    ensures { Loses words (read_only bytes) cluster step effect result }
+    ensures { Loses words (read_only bytes) cluster step result }
 {
     let count = leave(words, bytes, cluster, step);
     store_counts(words, next_counts(cluster, count, step.calls));
     Report {
-        refusal: NONE,
-        answers: 0,
-        sent: 0,
         copied: step.copied,
-        delivered: 0,
         lost: 1,
         messages: count as u32,
-        effect,
+        ..bare_report()
     }
 }
 
 // The words of a call that is taken are stored.
-pub fn take(words: &mut Words, bytes: &mut Bytes, plan: Plan)
-    requires { (plan.step.server < server_room) × (plan.step.bucket < bucket_room) }
-    ensures { new_memory words bytes ≡ taken (old_memory words bytes) plan }
+pub fn take(words: &mut Words, bytes: &mut Bytes, call: server::Words, step: Step)
+    requires { (step.server < server_room) × (step.bucket < bucket_room) }
+    ensures { new_memory words bytes ≡ taken (old_memory words bytes) call step }
 {
-    if plan.takes {
-        let slot = slot_of(plan.step.server as usize, plan.step.bucket as usize);
-        store_words(words, bytes, slot, plan.words);
-    }
+    let slot = slot_of(step.server as usize, step.bucket as usize);
+    store_words(words, bytes, slot, call);
 }

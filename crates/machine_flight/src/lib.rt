@@ -2,21 +2,21 @@
 #![tactic(auto)]
 
 ghost use Rattle.memory.specs.Lent.{read_only};
-ghost use Rattle.std.specs.Prelude.{◌≡◌, true, ◌≢◌, ◌<◌, ◌≤◌, ◌+◌, ◌-◌, eqb};
-ghost use Rattle.server.specs.Views.{chosen};
+ghost use Rattle.std.specs.Prelude.{◌≡◌, true, ◌≢◌, ◌<◌, ◌≤◌, ◌+◌, ◌-◌};
 ghost use Rattle.memory.specs.Layout.{message_room};
 ghost use Rattle.memory_regions.specs.Contents.{first_payload, old_content};
 ghost use Rattle.views.specs.Arrays.{old_memory};
-ghost use Rattle.views.specs.Queue.{without_message, message_to, sent_to, spread, broadcast_of, reply_of};
+ghost use Rattle.views.specs.Queue.{without_message, sent_to, spread};
 ghost use Rattle.machine_flight.specs.Flown.{Flies, old_flight, Sendable, sent_by};
 
+use flight::{broadcast_of, message_to, reply_of};
 use memory::{Counts, slot_of};
 use memory_messages::{append_message, remove_message};
 use memory_regions::{Bytes, FIRST_COPY, FIRST_WORKING, Words};
 use moves::Move;
 use plans::Step;
 use server::Message;
-use server::codes::{NO_MESSAGE, PLEASE_VOTE};
+use server::codes::NO_MESSAGE;
 use server::kinds::is_broadcast;
 
 // The message with this index is removed.
@@ -26,59 +26,6 @@ pub fn remove(words: &mut Words, bytes: &Bytes, count: usize, index: usize) -> u
 {
     remove_message(words, count, index);
     count - 1
-}
-
-// PLEASEVOTE carries bucket 0 and round 0.
-fn unless_vote(kind: u32, number: u32) -> u32
-    ensures { result ≡ chosen (eqb kind 1) 0 number }
-{
-    if kind == PLEASE_VOTE { 0 } else { number }
-}
-
-// What a step of server `me` sends to all others; the receiver is filled in for each.
-fn broadcast_of(me: u32, at: u32, next: Move) -> Message
-    ensures { result ≡ broadcast_of me at next }
-{
-    let local = next.local;
-    let head = local.head;
-    let kind = next.sends;
-    let bucket = unless_vote(kind, at);
-    let round = unless_vote(kind, head.last);
-    let version = next.written;
-    Message {
-        kind,
-        sender: me,
-        receiver: me,
-        bucket,
-        election: head.number,
-        round,
-        version,
-    }
-}
-
-// A reply carries bucket, election number and round of what it answers.
-fn reply_of(me: u32, asked: Message, next: Move) -> Message
-    ensures { result ≡ reply_of me asked next }
-{
-    let version = next.written;
-    Message {
-        kind: next.sends,
-        sender: me,
-        receiver: asked.sender,
-        bucket: asked.bucket,
-        election: asked.election,
-        round: asked.round,
-        version,
-    }
-}
-
-fn message_to(message: Message, receiver: u32) -> Message
-    ensures { result ≡ message_to message receiver }
-{
-    Message {
-        receiver,
-        ..message
-    }
 }
 
 // A message goes to one server, with content `content` of the bytes, unless that server is its sender.

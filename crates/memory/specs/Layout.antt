@@ -1,7 +1,7 @@
 -- Where each field of the cluster's records lies in the lent arrays. Every reading is total: any numbers in the arrays stand for something.
 -- A record has its own words at a fixed offset of a block: `..Row` lists its fields in the order of these words, `..Of` reads them back,
 -- `..At` is the record of block k and `put..` the array with that record replaced. `..Fields` and `..Stores` are the same, written out.
-use Rattle.std.specs.Prelude.{◌≡◌, List, [], ◌∷◌, ◌++◌, Some, None, true, false, ℕ, zero, suc, ◌+◌, ◌-◌, ◌*◌, ltb, length, get_or, take, drop, set}
+use Rattle.std.specs.Prelude.{◌≡◌, List, [], ◌∷◌, ◌++◌, Some, None, true, false, ℕ, zero, suc, ◌+◌, ◌*◌, ltb, length, get_or, take, drop, set}
 use Rattle.std.proofs.Math.Seq.{paste}
 use Rattle.blocks.specs.Blocks.{blocks, block, refilled}
 use Rattle.blocks.specs.Order.{place, rotated, rising}

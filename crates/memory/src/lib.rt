@@ -51,7 +51,8 @@ pub const PAYLOADS_LEN: usize = MESSAGES * CONTENT_SIZE;
 pub const ANSWERS_LEN: usize = BUCKETS * ANSWER_SIZE;
 
 // The lent arrays: the cluster's counts, heads of servers, slots, contents of copies and working contents, keys and values of open
-// calls, headers of messages in flight with their order, their contents, answers of a line.
+// calls, headers of messages in flight with their order, their contents, answers of a line. Kinds, roles, marks and results lie in them
+// as words and are no enums there: the arrays may hold any numbers, and every reading of them stands for something.
 pub type CountWords = [u32; COUNTS_LEN];
 
 pub type HeadWords = [u32; HEADS_LEN];

@@ -117,12 +117,12 @@ module _ (n i : ℕ) (q : List ℕ) (size : length q ≡ queue_length) (few : n 
         ∙ listed_rotated n i (order_of q) among (omega arith) (sent_at q l)
 
 -- the order lent as a part, as it lies behind the headers
-pub order_lent : (q : List ℕ) (n i : ℕ) (part : List ℕ) → length q ≡ queue_length → i < n → part ≡ rotated n i (take (length q - order_place) (drop order_place q))
-    → take order_place q ++ (part ++ drop (length q - order_place) (drop order_place q)) ≡ without_place n i q
+pub order_lent : (q : List ℕ) (n i : ℕ) (part : List ℕ) → length q ≡ queue_length → i < n → part ≡ rotated n i (take message_room (drop order_place q))
+    → take order_place q ++ (part ++ drop message_room (drop order_place q)) ≡ without_place n i q
 unfolding without_place
 order_lent q n i part size among e =
-    let whole : take (length q - order_place) (drop order_place q) ≡ drop order_place q = take_all (length q - order_place) (drop order_place q) (rw length-drop (omega arith)) in
-    let past : drop (length q - order_place) (drop order_place q) ≡ [] = drop_of_length-le (drop order_place q) {i = length q - order_place} (rw length-drop (omega arith)) in
+    let whole : take message_room (drop order_place q) ≡ drop order_place q = take_all message_room (drop order_place q) (rw length-drop (omega arith)) in
+    let past : drop message_room (drop order_place q) ≡ [] = drop_of_length-le (drop order_place q) {i = message_room} (rw length-drop (omega arith)) in
     rw (without_place, lt-ltb i n among, e, whole, past, append-nil)
 
 -- ---- a new order

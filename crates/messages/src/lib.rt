@@ -4,7 +4,7 @@
 
 ghost use Rattle.std.specs.Prelude.{◌≡◌, ◌+◌, ◌*◌, ◌<◌, ◌≤◌, length};
 ghost use Rattle.blocks.specs.Blocks.{block};
-ghost use Rattle.memory.specs.Layout.{message_room, queue_length, content_size, place_field, place_at, without_place, message_fields, message_stores, header_at, message_at, put_header};
+ghost use Rattle.memory.specs.Layout.{message_room, content_size, place_field, place_at, without_place, message_fields, message_stores, header_at, message_at, put_header};
 ghost use Rattle.memory.specs.Lent.{was, is};
 ghost use Rattle.messages.specs.Messages.{Appended};
 
@@ -17,12 +17,6 @@ use memory::{CONTENT_SIZE, HEADER_SIZE, MESSAGES, ORDER_AT, PayloadBytes, QueueW
 use server::{Message, Version};
 
 pub mod contents;
-
-fn wide(number: u32) -> usize
-    ensures { result ≡ number }
-{
-    number as usize
-}
 
 // The place of the message with this index: every number in the order names one.
 pub fn place_of(queue: &QueueWords, index: usize) -> usize
@@ -37,7 +31,7 @@ fn place_field(queue: &QueueWords, index: usize) -> usize
     requires { index < message_room }
     ensures { result ≡ place_field queue.now index }
 {
-    wide(queue[ORDER_AT + index]) % MESSAGES
+    queue[ORDER_AT + index] as usize % MESSAGES
 }
 
 // The header of the message with this index.
@@ -122,14 +116,6 @@ pub fn append_message(
 // The message with this index is removed: its place is the first free one then.
 pub fn remove_message(queue: &mut QueueWords, count: usize, index: usize)
     requires { (index < count) × (count ≤ message_room) }
-    ensures { is queue ≡ without_place count index (was queue) }
-{
-    remove_place(queue, count, index);
-}
-
-// The same, with the array lent as a slice, so that its order alone can be lent on.
-fn remove_place(queue: &mut [u32], count: usize, index: usize)
-    requires { (length queue.old ≡ queue_length) × ((index < count) × (count ≤ message_room)) }
     ensures { is queue ≡ without_place count index (was queue) }
 {
     rotate_words(&mut queue[ORDER_AT..], count, index);

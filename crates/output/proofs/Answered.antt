@@ -1,4 +1,5 @@
 -- A line has at most `most_answers` answers: one, or one for each bucket.
+use Rattle.std.specs.Prelude.{Result, Ok, Err, IfOk}
 use mathlib.Core.Path.{◌≡◌, refl}
 use mathlib.Core.Bool.{Bool, true, false}
 use mathlib.Core.List.{List}
@@ -19,11 +20,14 @@ use Rattle.moves.specs.declared.Move.{Move}
 use Rattle.views.specs.Memory.{Memory, standing}
 use Rattle.views.specs.Changes.{put_answer, Written, ended_calls, answered}
 use Rattle.plans.specs.declared.Step.{Step}
+use Rattle.refusals.specs.declared.Refusal.{Refusal}
 use Rattle.plans.specs.declared.Plan.{Plan}
+use Rattle.plans.specs.declared.Plan.TheVariants.{Loses, Moves, Takes}
+use Rattle.runs.specs.declared.Report.{Report}
 use Rattle.parse.specs.declared.Kind.{Kind}
 use Rattle.parse.specs.declared.Kind.TheVariants as K
 use Rattle.parse.specs.declared.Line.{Line}
-use Rattle.runs.specs.Runs.{refused_run, lost_run, carried_run, taken, executed, fresh_memory, created_run, cluster_run, line_plan, planned_run, run_by, line_run}
+use Rattle.runs.specs.Runs.{lost_run, carried_run, taken, accepted, executed, created_run, cluster_run, line_plan, planned_run, run_by, line_run}
 use Rattle.runs.proofs.Standing.{standing_measured}
 
 -- one more answer where z is true
@@ -49,57 +53,55 @@ answered_most slots most s v l h = go v.ceases refl v.forgets refl (eqb v.answer
     go false e x g true f = rw (answered, e, f) (omega arith)
     go false e x g false f = rw (answered, e, f) (omega arith)
 
-module _ (m : Memory) (l : List ℕ) where
-  refused_none : (r : ℕ) → (refused_run m l r).count ≤ most_answers
-  unfolding refused_run
-  refused_none r = omega arith
+-- what a run tells has few answers
+abbrev pub Few : Result Report Refusal → Type 0
+Few r = IfOk r (λ x. x.answers ≤ most_answers)
 
-  lost_none : (c : Counts) (x : Step) → (lost_run m l c x).count ≤ most_answers
+module _ (m : Memory) (l : List ℕ) where
+  lost_none : (c : Counts) (x : Step) → Few (lost_run m l c x).told
   unfolding lost_run
   lost_none c x = omega arith
 
-  carried_most : (c : Counts) (x : Step) (v : Move) (made : List Entry) → c.buckets ≤ max_buckets → (carried_run m l c x v made).count ≤ most_answers
+  carried_most : (c : Counts) (x : Step) (v : Move) (made : List Entry) (f : Effect) → c.buckets ≤ max_buckets → Few (carried_run m l c x v made f).told
   unfolding carried_run
-  carried_most c x v made h = answered_most m.slots c.buckets x.server v l h
+  carried_most c x v made f h = answered_most m.slots c.buckets x.server v l h
+
+executed_most : (m : Memory) (l : List ℕ) (c : Counts) (p : Result Plan Refusal) → c.buckets ≤ max_buckets → Few (executed m l c p).told
+unfolding executed accepted
+executed_most m l c (Err r) h = tt
+executed_most m l c (Ok (Loses x)) h = lost_none m l c x
+executed_most m l c (Ok (Moves p)) h = carried_most m l c p.step p.next (table_in p.effect.table) p.effect h
+executed_most m l c (Ok (Takes w p)) h = carried_most (taken m w p.step) l c p.step p.next (table_in p.effect.table) p.effect h
 
 module _ (m : Memory) (l : List ℕ) where
-  executed_most : (c : Counts) (p : Plan) → c.buckets ≤ max_buckets → (executed m l c p).count ≤ most_answers
-  unfolding executed
-  executed_most c p h = go (eqb p.refusal 0) refl p.loses refl
-    where
-      go : (z : Bool) → eqb p.refusal 0 ≡ z → (y : Bool) → p.loses ≡ y → (executed m l c p).count ≤ most_answers
-      go false e y f = rw (executed, e) (refused_none m l p.refusal)
-      go true e true f = rw (executed, e, f) (lost_none m l c p.step)
-      go true e false f = rw (executed, e, f) (carried_most (taken m p) l c p.step p.next (table_in p.effect.table) h)
-
-  created_none : (n b : ℕ) → (created_run m l n b).count ≤ most_answers
+  created_none : (n b : ℕ) → Few (created_run m l n b).told
   unfolding created_run
   created_none n b = go (within max_servers n) refl (within max_buckets b) refl
     where
-      go : (z : Bool) → within max_servers n ≡ z → (y : Bool) → within max_buckets b ≡ y → (created_run m l n b).count ≤ most_answers
-      go false e y f = rw (created_run, e) (refused_none m l 2)
-      go true e false f = rw (created_run, e, f) (refused_none m l 2)
-      go true e true f = rw (created_run, e, f) (refused_none (fresh_memory m n b) l 0)
+      go : (z : Bool) → within max_servers n ≡ z → (y : Bool) → within max_buckets b ≡ y → Few (created_run m l n b).told
+      go false e y f = rw (created_run, e) tt
+      go true e false f = rw (created_run, e, f) tt
+      go true e true f = rw (created_run, e, f) (omega arith)
 
-  cluster_none : (n b : ℕ) → (cluster_run m l n b).count ≤ most_answers
+  cluster_none : (n b : ℕ) → Few (cluster_run m l n b).told
   unfolding cluster_run
   cluster_none n b = go (standing (counts_at m.counts)) refl
     where
-      go : (z : Bool) → standing (counts_at m.counts) ≡ z → (cluster_run m l n b).count ≤ most_answers
-      go true e = rw (cluster_run, e) (refused_none m l 2)
+      go : (z : Bool) → standing (counts_at m.counts) ≡ z → Few (cluster_run m l n b).told
+      go true e = rw (cluster_run, e) tt
       go false e = rw (cluster_run, e) (created_none n b)
 
-  planned_most : (x : Line) (f : Effect) → (planned_run m l x f).count ≤ most_answers
+  planned_most : (x : Line) (f : Effect) → Few (planned_run m l x f).told
   unfolding planned_run
   planned_most x f = go (standing (counts_at m.counts)) refl
     where
-      go : (z : Bool) → standing (counts_at m.counts) ≡ z → (planned_run m l x f).count ≤ most_answers
-      go true e = rw (planned_run, e) (executed_most (counts_at m.counts) (line_plan x.kind m (counts_at m.counts) x f) (standing_measured (counts_at m.counts) e).buckets)
-      go false e = rw (planned_run, e) (refused_none m l 2)
+      go : (z : Bool) → standing (counts_at m.counts) ≡ z → Few (planned_run m l x f).told
+      go true e = rw (planned_run, e) (executed_most m l (counts_at m.counts) (line_plan x.kind m (counts_at m.counts) x f) (standing_measured (counts_at m.counts) e).buckets)
+      go false e = rw (planned_run, e) tt
 
-  by_kind : (k : Kind) (x : Line) (f : Effect) → (run_by k m l x f).count ≤ most_answers
+  by_kind : (k : Kind) (x : Line) (f : Effect) → Few (run_by k m l x f).told
   unfolding run_by
-  by_kind K.Malformed x f = refused_none m l 1
+  by_kind K.Malformed x f = tt
   by_kind K.Cluster x f = cluster_none x.first x.second
   by_kind K.Elect x f = planned_most x f
   by_kind K.Get x f = planned_most x f
@@ -115,6 +117,6 @@ module _ (m : Memory) (l : List ℕ) where
   by_kind K.Cut x f = planned_most x f
   by_kind K.Start x f = planned_most x f
 
-pub answers_at_most : (m : Memory) (l : List ℕ) (x : Line) (f : Effect) → (line_run m l x f).count ≤ most_answers
+pub answers_at_most : (m : Memory) (l : List ℕ) (x : Line) (f : Effect) → Few (line_run m l x f).told
 unfolding line_run
 answers_at_most m l x f = by_kind m l x.kind x f

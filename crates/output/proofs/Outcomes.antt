@@ -1,20 +1,22 @@
 -- What a report's refusal or answers are in print.
+use Rattle.std.specs.Prelude.{Result, Ok, Err}
 use mathlib.Core.Path.{◌≡◌, ◌∙◌}
 use mathlib.Core.List.{List, []}
 use Prim.Native.Nat.{ℕ, ◌≤◌, ◌<◌, ◌^◌}
 use native.Mathlib.Omega.{arith}
-use borrow.Author.Tests.{ne_eqb}
 use lib.ListN.{length}
 use Rattle.entries.specs.Decoded.{table_in, value_bytes}
 use Rattle.model.specs.Lines.{refusal}
-use Rattle.model.specs.Print.{answer_texts, outcome_text}
-use Rattle.views.specs.Changes.{answers_at}
+use Rattle.model.specs.Print.{outcome_text}
+use Rattle.refusals.specs.declared.Refusal.{Refusal}
+use Rattle.refusals.specs.declared.Refusal.TheVariants.{Malformed, ClusterWrong, NotThere, BadLength, LinesSpent, ServerStopped, NoSuchMessage, NotLeading, BucketOccupied, NoRoundOpen, LastElection, NoPlaces, BadCutOrStart}
+use Rattle.refusals.specs.Refusals.{number}
 use Rattle.runs.specs.declared.Report.{Report}
 use Rattle.runs.specs.Meaning.{outcome_in}
 use Rattle.print.specs.Printed.{Printed}
 use Rattle.print.proofs.Room.{refusal_room}
 use Rattle.print.proofs.Printing.{printed_none}
-use Rattle.output.specs.Told.{Told}
+use Rattle.output.specs.Told.{Told, report_text}
 use Rattle.output.proofs.Answering.{no_texts}
 
 pub below : (n : ℕ) → n < 2 ^ 32 → n < 10 ^ 10
@@ -23,25 +25,37 @@ below n h = omega arith
 pub refusal_fits : (line r : ℕ) → line < 2 ^ 32 → r < 2 ^ 32 → length (outcome_text line (refusal r)) ≤ 35
 refusal_fits line r h g = omega (arith, refusal_room 10 10 line r (omega arith) (omega arith) (below line h) (below r g))
 
-module _ (line : ℕ) (r : Report) (l : List ℕ) where
-  abbrev text_of : List ℕ
-  text_of = answer_texts (answers_at r.answers l (value_bytes r.effect.value) (table_in r.effect.table))
+number_low : (e : Refusal) → number e < 2 ^ 32
+number_low Malformed = omega arith
+number_low ClusterWrong = omega arith
+number_low NotThere = omega arith
+number_low BadLength = omega arith
+number_low LinesSpent = omega arith
+number_low ServerStopped = omega arith
+number_low NoSuchMessage = omega arith
+number_low NotLeading = omega arith
+number_low BucketOccupied = omega arith
+number_low NoRoundOpen = omega arith
+number_low LastElection = omega arith
+number_low NoPlaces = omega arith
+number_low BadCutOrStart = omega arith
 
-  refused_text : (r.refusal ≡ 0 → ⊥) → outcome_text line (outcome_in r l) ≡ outcome_text line (refusal r.refusal)
+-- a refusal has room, and is what is told
+pub number_fits : (line : ℕ) (e : Refusal) (n : ℕ) → line < 2 ^ 32 → n ≡ number e → length (outcome_text line (refusal n)) ≤ 35
+number_fits line e n h g = rw g (refusal_fits line (number e) h (number_low e))
+
+module _ (line : ℕ) (l : List ℕ) where
+  pub refusal_told : {q : Result Report Refusal} {e : Refusal} {n : ℕ} {out after : List ℕ} {at p : ℕ} → q ≡ Err e → line < 2 ^ 32 → n ≡ number e
+      → Printed (outcome_text line (refusal n)) out at after p → Told (outcome_text line (outcome_in q l)) out at after p
   unfolding outcome_in
-  refused_text h = rw (outcome_in, ne_eqb _ _ h)
+  refusal_told {e = e} {n = n} {at = at} i h g d =
+      rw (i, ← g) (record { printed = d; within = omega (arith, number_fits line e n h g, d.ends) })
 
-  accepted_text : r.refusal ≡ 0 → outcome_text line (outcome_in r l) ≡ text_of
+  pub report_told : {q : Result Report Refusal} {r : Report} {out after : List ℕ} {at p : ℕ} → q ≡ Ok r → Told (report_text r l) out at after p → Told (outcome_text line (outcome_in q l)) out at after p
   unfolding outcome_in outcome_text
-  accepted_text h = rw (outcome_in, h)
+  report_told i d = rw i d
 
-  pub refusal_told : {out after : List ℕ} {at p : ℕ} → line < 2 ^ 32 → r.refusal < 2 ^ 32 → (r.refusal ≡ 0 → ⊥) → Printed (outcome_text line (refusal r.refusal)) out at after p → Told (outcome_text line (outcome_in r l)) out at after p
-  refusal_told h g not d = rw (refused_text not) (record { printed = d; within = omega (arith, refusal_fits line r.refusal h g, d.ends) })
-
-  pub none_told : (out : List ℕ) (at : ℕ) → r.refusal ≡ 0 → r.answers ≡ 0 → Told (outcome_text line (outcome_in r l)) out at out at
-  none_told out at h none =
-      let e : text_of ≡ [] = rw none (no_texts l (value_bytes r.effect.value) (table_in r.effect.table)) in
-      record { printed = printed_none out at (accepted_text h ∙ e); within = omega arith }
-
-  pub answers_told : {out after : List ℕ} {at p : ℕ} → r.refusal ≡ 0 → Told text_of out at after p → Told (outcome_text line (outcome_in r l)) out at after p
-  answers_told h d = rw (accepted_text h) d
+  pub none_told : (r : Report) (out : List ℕ) (at : ℕ) → r.answers ≡ 0 → Told (report_text r l) out at out at
+  none_told r out at none =
+      let e : report_text r l ≡ [] = rw none (no_texts l (value_bytes r.effect.value) (table_in r.effect.table)) in
+      record { printed = printed_none out at e; within = omega arith }

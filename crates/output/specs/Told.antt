@@ -1,11 +1,11 @@
 -- What is printed for a line, and how far it reaches.
 use Rattle.std.specs.Prelude.{◌≡◌, List, ℕ, ◌≤◌, ◌+◌, ◌*◌, length}
 use Rattle.entries.specs.Entries.{Entry, keys_of}
-use Rattle.entries.specs.Decoded.{key_bytes, table_in}
+use Rattle.entries.specs.Decoded.{key_bytes, value_bytes, table_in}
 use Rattle.entries.specs.Decoded.{Key}
 use Rattle.entries.specs.declared.Slot.{Slot}
 use Rattle.entries.specs.declared.Decoded.{Decoded}
-use Rattle.model.specs.Print.{keys_text}
+use Rattle.model.specs.Print.{keys_text, answer_texts}
 use Rattle.server.specs.declared.Answer.{Answer}
 use Rattle.server.specs.Views.{result_in}
 use Rattle.print.specs.declared.ResultWord.{ResultWord}
@@ -15,7 +15,8 @@ use Rattle.print.specs.Printed.{Printed}
 use Rattle.print.specs.Room.{line_room}
 use Rattle.memory.specs.Layout.{answer_size}
 use Rattle.memory.specs.Rows.{row}
-use Rattle.views.specs.Changes.{answer_of}
+use Rattle.views.specs.Changes.{answer_of, answers_at}
+use Rattle.runs.specs.declared.Report.{Report}
 
 -- a line's text, within the room that it may take
 pub record Told (text before : List ℕ) (at : ℕ) (after : List ℕ) (p : ℕ) : Type 0 where
@@ -39,3 +40,7 @@ pub record KeysOf (t : Decoded) (l : KeyList) : Type 0 where
 -- the fields of answer i, one by one
 abbrev pub answer_fields : List ℕ → ℕ → Answer
 answer_fields l i = answer_of (row (i * answer_size) 0 3 l)
+
+-- the text of the answers that a report counts
+abbrev pub report_text : Report → List ℕ → List ℕ
+report_text r l = answer_texts (answers_at r.answers l (value_bytes r.effect.value) (table_in r.effect.table))

@@ -1,18 +1,19 @@
 // What is printed for a line, from the machine's report of it (RULES, Output).
 #![tactic(auto)]
 
-ghost use Rattle.std.specs.Prelude.{◌≤◌, ◌+◌, length};
+ghost use Rattle.std.specs.Prelude.{◌≤◌, ◌+◌, length, IfOk};
 ghost use Rattle.model.specs.Measures.{most_answers};
 ghost use Rattle.model.specs.Print.{outcome_text, tally_text};
 ghost use Rattle.memory.specs.Lent.{was, is};
 ghost use Rattle.runs.specs.Meaning.{outcome_in, tally_in};
 ghost use Rattle.print.specs.Printed.{Printed};
 ghost use Rattle.print.specs.Room.{line_room, tally_room};
-ghost use Rattle.output.specs.Told.{Told};
+ghost use Rattle.output.specs.Told.{Told, report_text};
 
 use crate::answer_list::put_answers;
 use memory::AnswerWords;
 use print::other_lines::{put_refusal, put_tally};
+use refusals::Refusal;
 use runs::{Report, Tally};
 
 mod answer_list;
@@ -22,26 +23,33 @@ pub fn put_outcome(
     out: &mut [u8],
     at: usize,
     line: u32,
-    report: Report,
+    told: Result<Report, Refusal>,
     answers: &AnswerWords,
 ) -> usize
-    requires { (at + line_room ≤ length out.old) × (report.answers ≤ most_answers) }
-    ensures { Told (outcome_text line (outcome_in report answers.now)) (was out) at (is out) result }
+    requires { (at + line_room ≤ length out.old) × IfOk told (λ report. report.answers ≤ most_answers) }
+    ensures { Told (outcome_text line (outcome_in told answers.now)) (was out) at (is out) result }
 {
-    if report.refusal != 0 {
-        return put_refusal(out, at, line, report.refusal);
+    match told {
+        Err(refusal) => put_refusal(out, at, line, refusal.number()),
+        Ok(report) => put_report(out, at, report, answers),
     }
+}
+
+// The answers of a line that is accepted.
+fn put_report(out: &mut [u8], at: usize, report: Report, answers: &AnswerWords) -> usize
+    requires { (at + line_room ≤ length out.old) × (report.answers ≤ most_answers) }
+    ensures { Told (report_text report answers.now) (was out) at (is out) result }
+{
     if report.answers == 0 {
         return at;
     }
-    let effect = report.effect;
     put_answers(
         out,
         at,
         report.answers as usize,
         answers,
-        effect.value,
-        effect.table,
+        report.effect.value,
+        report.effect.table,
     )
 }
 

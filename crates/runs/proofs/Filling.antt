@@ -1,6 +1,6 @@
 -- A message has the new table of a call written only where it closes a checking round and the call's effect is to write.
 use Rattle.std.specs.Prelude.{if◌then◌else◌}
-use Rattle.std.proofs.Common.{◌≡◌, ⊥, ℕ, Bool, true, false, eqb, ltb, [], get_or, take, sym, refl, ap, ◌∙◌, arith, eqb-true}
+use Rattle.std.proofs.Common.{◌≡◌, ℕ, Bool, true, false, eqb, ltb, [], get_or, take, sym, refl, ap, ◌∙◌, arith, eqb-true}
 use Rattle.model.specs.Replica.{may_accept}
 use Rattle.model.specs.Leader.{acts, closes, fails}
 use Rattle.server.specs.declared.Version.{Version}

@@ -16,3 +16,4 @@ pub mod Calling
 pub mod LineMeans
 pub mod Reading
 pub mod Ordering
+pub mod Reporting

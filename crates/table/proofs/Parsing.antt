@@ -4,7 +4,7 @@ use mathlib.Core.List.{List, [], ◌∷◌, ◌++◌, map, map-append, append-ni
 use Prim.Native.Nat.{ℕ, suc, ◌≤◌, ◌<◌, ◌+◌, ◌-◌, ◌*◌, min}
 use native.Mathlib.Omega.{arith}
 use native.Mathlib.Numerals.{add-one}
-use lib.ListN.{length, take, drop, get_or, set, length-set, length-take, length-drop}
+use lib.ListN.{length, take, drop, get_or, set, length-set, length-take}
 use lib.Seq.{take-suc-set, get_or-drop, drop-drop, take_all, append_snoc}
 use Rattle.entries.specs.declared.Slot.{Slot}
 use Rattle.entries.specs.Entries.{entry}

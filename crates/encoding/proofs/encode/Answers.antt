@@ -1,7 +1,6 @@
 -- `encode` meets its contract: the count, the header, the body, the zeros.
 use native.Mathlib.Omega.{arith}
 use mathlib.Core.Path.{sym, ap, ◌∙◌}
-use mathlib.Core.List.{map}
 use Prim.Native.Nat.{◌-◌}
 use borrow.Rule.Slice.PartMut.{put_mid}
 use lib.ListN.{length, set, length-set, length-map}

@@ -15,5 +15,5 @@ slice_bounds-keep-end c = c.line_feed-feed.ensures.bytes.within
 pub returns-then-progress-lt-MAX_LINES : goal.returns-then-progress-lt-MAX_LINES
 returns-then-progress-lt-MAX_LINES c = waits _ _ c.if-progress-lt-MAX_LINES.true c.line_feed-feed.ensures c.keep-held.ensures c.waiting.ensures
 
-pub returns : goal.returns
-returns c = passes c.if-progress-lt-MAX_LINES.false refl c.passed.ensures
+pub returns-else-progress-lt-MAX_LINES : goal.returns-else-progress-lt-MAX_LINES
+returns-else-progress-lt-MAX_LINES c = passes c.if-progress-lt-MAX_LINES.false refl c.passed.ensures

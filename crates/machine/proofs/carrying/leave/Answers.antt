@@ -9,6 +9,6 @@ remove-requires c = (c.requires.1 c.if-removes.true, c.requires.0)
 pub returns-then-removes : goal.returns-then-removes
 returns-then-removes c = rw c.if-removes.true c.remove.ensures
 
-pub returns : goal.returns
+pub returns-else-removes : goal.returns-else-removes
 unfolding without_message
-returns c = rw c.if-removes.false (record { is = refl; few = c.requires.0 })
+returns-else-removes c = rw c.if-removes.false (record { is = refl; few = c.requires.0 })
