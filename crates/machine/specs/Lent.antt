@@ -1,13 +1,16 @@
 -- The contracts of `machine` over the lent arrays: what each function makes of what they were. The records are those of Steps.antt and
 -- Meaning.antt.
-use Rattle.std.specs.Prelude.{◌≡◌, ℕ, Bool, Result, Ok}
+use Rattle.std.specs.Prelude.{◌≡◌, ℕ, Bool, length, Result, Ok}
 use Rattle.entries.specs.declared.Decoded.{Decoded}
 use Rattle.entries.specs.Decoded.{table_in}
+use Rattle.memory.specs.declared.Arrays.{Arrays}
 use Rattle.memory.specs.declared.Counts.{Counts}
 use Rattle.memory.specs.Lent.{was, is}
 use Rattle.refusals.specs.declared.Refusal.{Refusal}
 use Rattle.moves.specs.declared.Move.{Move}
-use Rattle.views.specs.Lent.{Lents, old, new, old_answers, new_answers}
+use Rattle.views.specs.Memory.{Sized}
+use Rattle.views.specs.Lent.{Lents, old, new, old_answers, new_answers, memory_in}
+use Rattle.views.specs.Changes.{answers_room}
 use Rattle.plans.specs.declared.Step.{Step}
 use Rattle.plans.specs.declared.Carried.{Carried}
 use Rattle.plans.specs.declared.Plan.{Plan}
@@ -59,3 +62,8 @@ RunsLine a x r = RanLine (old a) (old_answers a) x (new a) (new_answers a) r
 
 abbrev pub Performs : Lents → Tally → Line → Stepped → Type 0
 Performs a t x r = Performed (old a) (old_answers a) t x (new a) (new_answers a) r
+
+-- ---- the lengths of the arrays
+
+abbrev pub SizedArrays : Arrays → Type 0
+SizedArrays a = Sized (memory_in a) × (length a.answers.now ≡ answers_room)

@@ -2,7 +2,7 @@
 use mathlib.Core.Path.{sym, ap, ◌∙◌}
 use native.Mathlib.Omega.{arith}
 use Rattle.blocks.specs.Blocks.{block}
-use Rattle.memory.specs.Layout.{content_size}
+use Rattle.memory.specs.Layout.{content_size, slot_of}
 use Rattle.views.specs.Queue.{flight, appended, spread}
 use Rattle.flight.proofs.Sends.{appended_is, sends_all, sends_reply, count_all, count_reply_lem}
 use Rattle.flight.proofs.send.Goals as goal
@@ -22,7 +22,7 @@ returns-then-is_broadcast c =
       is =
           c.send_all.ensures.is
           ∙ ap (λ k. spread (block content_size k c.args.working.now) c.broadcast_of-message.result c.args.servers x) c.slot_of-slot.ensures
-          ∙ ap (λ m. spread (block content_size _ c.args.working.now) m c.args.servers x) c.broadcast_of-message.ensures
+          ∙ ap (λ m. spread (block content_size (slot_of step.server step.bucket) c.args.working.now) m c.args.servers x) c.broadcast_of-message.ensures
           ∙ sym (sends_all c.args.servers step.server step.bucket _ step.asked c.args.next c.args.working.now c.args.copies.now x (λ e. omega arith) all);
       few = c.send_all.ensures.few;
     }
@@ -42,7 +42,7 @@ returns c =
       is =
           appended_is c.args.queue.now c.args.payloads.now c.args.count _ _ _ _ c.append_message.ensures
           ∙ ap (λ k. appended (block content_size k c.args.copies.now) c.reply_of-reply.result x) c.slot_of-slot.ensures
-          ∙ ap (λ m. appended (block content_size _ c.args.copies.now) m x) c.reply_of-reply.ensures
+          ∙ ap (λ m. appended (block content_size (slot_of step.server step.bucket) c.args.copies.now) m x) c.reply_of-reply.ensures
           ∙ sym (sends_reply c.args.servers step.server step.bucket _ step.asked c.args.next c.args.working.now c.args.copies.now x (λ e. omega arith) one);
       few = omega (arith, n, c.requires.1.1);
     }

@@ -4,4 +4,4 @@ use Rattle.machine.proofs.Performing.{steps}
 use Rattle.machine.proofs.entry.step.Goals as goal
 
 pub returns-clause-performs : goal.returns-clause-performs
-returns-clause-performs c = steps _ _ _ _ _ _ _ (search rules) (search rules) (search rules) c.run_line-report.ensures.runs c.tally_after-after.ensures
+returns-clause-performs c = steps _ _ _ _ _ _ _ c.sizes.ensures.0 c.sizes.ensures.1 (search rules) c.run_line-report.ensures.runs c.tally_after-after.ensures
