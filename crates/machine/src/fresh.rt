@@ -7,7 +7,7 @@ ghost use Rattle.views.specs.Lent.{lent, SameArrays};
 ghost use Rattle.runs.specs.Runs.{fresh_counts};
 ghost use Rattle.machine.specs.Lent.{Creates};
 
-use memory::{Arrays, Counts, ORDER_AT, QueueWords};
+use memory::{Arrays, CopyBytes, Counts, HeadWords, ORDER_AT, QueueWords, SlotWords};
 use records::counters::store_counts;
 
 fn fresh_counts(servers: u32, buckets: u32) -> Counts
@@ -39,14 +39,21 @@ fn free_places(queue: &mut QueueWords)
     number_words(&mut queue[ORDER_AT..]);
 }
 
+// No server, slot or copy holds anything.
+fn clear(heads: &mut HeadWords, slots: &mut SlotWords, copies: &mut CopyBytes)
+    ensures { (is heads ≡ replicate 112 0) × ((is slots ≡ replicate 1792 0) × (is copies ≡ replicate 7168 0)) }
+{
+    heads.fill(0);
+    slots.fill(0);
+    copies.fill(0);
+}
+
 // A cluster of so many servers and buckets.
 pub fn create(arrays: &mut Arrays<'_>, servers: u32, buckets: u32)
     ensures same { SameArrays arrays }
     ensures creates { Creates (lent arrays) servers buckets }
 {
-    arrays.heads.fill(0);
-    arrays.slots.fill(0);
-    arrays.copies.fill(0);
+    clear(arrays.heads, arrays.slots, arrays.copies);
     free_places(arrays.queue);
     store_counts(arrays.counts, fresh_counts(servers, buckets));
 }

@@ -1,5 +1,5 @@
 -- `carrying::carry_out` meets its contract: the working content, the answers, the server, the messages, then the counts.
-use Rattle.std.proofs.Common.{refl, arith}
+use Rattle.std.proofs.Common.{arith}
 use Rattle.machine.proofs.Assembling.{room_left, carried_out}
 use Rattle.machine.proofs.carrying.carry_out.Goals as goal
 
