@@ -1,5 +1,5 @@
 // One line: refused, or a cluster made, or its plan carried out.
-ghost use Rattle.std.specs.Prelude.{◌≡◌, true};
+ghost use Rattle.std.specs.Prelude.{◌≡◌, true, if◌then◌else◌, Some, None};
 ghost use Rattle.views.specs.Lent.{lent, SameArrays};
 ghost use Rattle.plans.specs.Arrays.{Measured};
 ghost use Rattle.runs.specs.Runs.{words_with, words_of};
@@ -38,18 +38,25 @@ fn words(kind: u32, bucket: u32, key: Key, expected: Option<Value>, value: Optio
     }
 }
 
+// A value that is there or not.
+fn item(there: bool, value: Value) -> Option<Value>
+    ensures { result ≡ (if there then Some value else None) }
+{
+    if there { Some(value) } else { None }
+}
+
 // The words of a call: what its kind does not use is none.
 #[tactic(auto, unfolding(runs::specs::Runs::words_of))]
 fn words_of(line: Line) -> Words
     ensures { result ≡ words_of line.kind line }
 {
     let key = line.key;
-    let value = line.has_value.then_some(line.value);
+    let value = item(line.has_value, line.value);
     match line.kind {
         Kind::Get => words(GET, 0, key, None, None),
         Kind::Set => words(SET, 0, key, None, value),
         Kind::SetIf => {
-            let expected = line.has_expected.then_some(line.expected);
+            let expected = item(line.has_expected, line.expected);
             words(SETIF, 0, key, expected, value)
         }
         Kind::Del => words(DEL, 0, key, None, None),

@@ -10,11 +10,11 @@ returns-in-Malformed-clause-runs c = malformed_run _ _ _ c.in-Malformed.is
 pub returns-in_err-cluster_line-in-Cluster-clause-runs : goal.returns-in_err-cluster_line-in-Cluster-clause-runs
 returns-in_err-cluster_line-in-Cluster-clause-runs c =
     let p = err_from_is_err_and c.from_residual.result c.from_residual.ensures.1 in
-    rw (p.1, p.2) (cluster_refused _ _ _ _ _ _ _ c.in-Cluster.is c.cluster_line.ensures.clusters c.in_err-cluster_line.was)
+    rw (p.1, p.2) (cluster_refused _ _ _ _ _ _ _ c.in-Cluster.is c.cluster_line.ensures.clusters c.in_err-cluster_line-in-Cluster.was)
 
 pub returns-in_ok-cluster_line-in-Cluster-clause-runs : goal.returns-in_ok-cluster_line-in-Cluster-clause-runs
 returns-in_ok-cluster_line-in-Cluster-clause-runs c =
-    cluster_made _ _ _ _ _ _ _ _ c.in-Cluster.is c.cluster_line.ensures.clusters c.in_ok-cluster_line.was c.bare_report.ensures
+    cluster_made _ _ _ _ _ _ _ _ c.in-Cluster.is c.cluster_line.ensures.clusters c.in_ok-cluster_line-in-Cluster.was c.bare_report.ensures
 
 pub returns-in-Deliver-clause-runs : goal.returns-in-Deliver-clause-runs
 returns-in-Deliver-clause-runs c = deliver_run _ _ _ _ _ _ c.in-Deliver.is c.hand_line.ensures.hands
