@@ -55,7 +55,7 @@ module _ (line : ℕ) (l : List ℕ) where
   unfolding outcome_in outcome_text
   report_told i d = rw i d
 
-  pub none_told : (r : Report) (out : List ℕ) (at : ℕ) → r.answers ≡ 0 → Told (report_text r l) out at out at
-  none_told r out at none =
-      let e : report_text r l ≡ [] = rw none (no_texts l (value_bytes r.effect.value) (table_in r.effect.table)) in
-      record { printed = printed_none out at e; within = omega arith }
+pub none_told : (r : Report) (l out : List ℕ) (at : ℕ) → r.answers ≡ 0 → Told (report_text r l) out at out at
+none_told r l out at none =
+    let e : report_text r l ≡ [] = rw none (no_texts l (value_bytes r.effect.value) (table_in r.effect.table)) in
+    record { printed = printed_none out at e; within = omega arith }

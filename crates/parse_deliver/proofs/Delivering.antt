@@ -15,7 +15,7 @@ use Rattle.std.proofs.lemmas.Bool.Decides.{Decides-eqb}
 use Rattle.std.specs.List.{position_or_len}
 use Rattle.std.proofs.lemmas.Option.{cond_some}
 use lib.ListN.{length, take, drop, get_or, length-append, length-drop}
-use lib.Seq.{take_all, get_or-drop}
+use lib.Seq.{take_all, take-add, drop-drop, get_or-drop, length-take-le}
 use borrow.Author.Tests.{ne_eqb, eqb-true, ltb-false, lt-ltb}
 use Rattle.entries.specs.Entries.{order}
 use Rattle.table.specs.Form.{same_bytes}
@@ -27,7 +27,7 @@ use Rattle.input.proofs.Parts.{no_feed_append}
 use Rattle.parse.specs.Digits.{optional}
 use Rattle.parse.proofs.Numbers.{was_some, number_digits}
 use Rattle.parse.proofs.Splitting.{word_end, no_end, end_later, words_last, parse_short}
-use Rattle.parse_deliver.specs.Deliver.{between, DeliverAt, DeliverRead}
+use Rattle.parse_deliver.specs.Deliver.{between, Begun, NumberAt, DeliverAt, DeliverRead}
 
 no_number : {A : Type 0} {n : ℕ} {o : Option ℕ} → o ≡ none → o ≡ some n → A
 no_number {n = n} e f =
@@ -67,6 +67,10 @@ all_digits n m (b ∷ l) e = go (digit b) refl (λ k. all_digits k m l)
 no_space : (l : List ℕ) → AllDigits l → word_end l ≡ length l
 no_space [] a = no_end
 no_space (b ∷ l) a = end_later b l (ne_eqb b 32 (λ z. omega (arith, a.0))) ∙ ap suc (no_space l a.1)
+
+no_feed : (l : List ℕ) → AllDigits l → NoFeed l
+no_feed [] a = tt
+no_feed (b ∷ l) a = (ne_eqb b 10 (λ z. omega (arith, a.0)), no_feed l a.1)
 
 -- ---- the line of `deliver`, a space and a number
 
@@ -137,43 +141,60 @@ no_feed_there l h = go (ltb (first_feed l) (length l)) refl
 
 -- ---- where it lies in the input
 
-eight : (e : ℕ) (l : List ℕ) → take (8 + e) (bytes "deliver " ++ l) ≡ bytes "deliver " ++ take e l
-unfolding bytes
-eight e l =
-    let k : 8 + e ≡ suc (suc (suc (suc (suc (suc (suc (suc e))))))) = omega arith in
-    rw k
+-- the bytes up to `to`: the first word and its space, then the number
+parts : (input : List ℕ) (from to : ℕ) → Begun input from → from + 8 ≤ to → between input from to ≡ bytes "deliver " ++ between input (from + 8) to
+parts input from to b h =
+    let e : 8 + (to - (from + 8)) ≡ to - from = omega arith in
+    ap (λ (n : ℕ). take n (drop from input)) (sym e)
+    ∙ take-add 8 (to - (from + 8)) (drop from input)
+    ∙ rw (b.word, drop-drop 8 from input)
 
-ninth : (e : ℕ) (l : List ℕ) → get_or (bytes "deliver " ++ l) (8 + e) 0 ≡ get_or l e 0
-unfolding bytes
-ninth e l =
-    let k : 8 + e ≡ suc (suc (suc (suc (suc (suc (suc (suc e))))))) = omega arith in
-    rw k
+pub deliver_at : (input : List ℕ) (from n to : ℕ) → Begun input from → NumberAt input (from + 8) n to → DeliverAt input from n to
+deliver_at input from n to b k =
+    let l = between input (from + 8) to in
+    let e = parts input from to b k.onward in
+    record {
+      onward = omega (arith, k.onward);
+      within = k.within;
+      plain = subst NoFeed (sym e) (no_feed_append (bytes "deliver ") l word_plain (no_feed l (all_digits 0 n l k.digits)));
+      feed = k.feed;
+      reads = ap parse e ∙ deliver_reads l n k.reads;
+    }
 
 -- what follows the word that was compared
 pub stripped : (s p : List ℕ) (r : Maybe (Bor (List ℕ))) → MatchOption r (pointwise eqb (take (length p) s) p ≡ false) (λ x. (pointwise eqb (take (length p) s) p ≡ true) × (x.now ≡ drop (length p) s) × (length x.now + length p ≡ length s)) → IfSome r (λ x. s ≡ p ++ x.now)
 stripped s p None h = tt
 stripped s p (Some x) h = strip_prefix_is Decides-eqb s p (Some x) h
 
+word_first : (l : List ℕ) → take 8 (bytes "deliver " ++ l) ≡ bytes "deliver "
+unfolding bytes
+word_first l = refl
+
+word_past : (l : List ℕ) → drop 8 (bytes "deliver " ++ l) ≡ l
+unfolding bytes
+word_past l = refl
+
 pub deliver_read : (input : List ℕ) (from : ℕ) (rest : List ℕ) {e n next : ℕ} → from ≤ length input → take (length input - from) (drop from input) ≡ bytes "deliver " ++ rest → Some e ≡ position (λ b. eqb b 10) rest → e < length rest → Some n ≡ optional (number (take e rest)) → next ≡ from + 8 + e + 1 → DeliverRead input from (record { number = n; next = next })
-unfolding first_feed
 deliver_read input from rest {e} {n} {next} h v p q r s =
     let w : drop from input ≡ bytes "deliver " ++ rest = sym (take_all (length input - from) (drop from input) (rw length-drop (omega arith))) ∙ v in
-    let f : first_feed rest ≡ e = feed_place rest p in
-    let to = from + 8 + e in
-    let k : to - from ≡ 8 + e = omega arith in
+    let past : drop (from + 8) input ≡ rest = sym (drop-drop 8 from input) ∙ ap (drop 8) w ∙ word_past rest in
     let size : length (drop from input) ≡ 8 + length rest = rw w (omega (arith, length-append (bytes "deliver ") rest, word_length)) in
-    let j : from + (8 + e) ≡ to = omega arith in
-    let d : get_or rest e 0 ≡ 10 = rw f at (there rest (rw f q)) in
-    let l : between input from to ≡ bytes "deliver " ++ take e rest = rw (k, w) (eight e rest) in
+    let k : from + 8 + e - (from + 8) ≡ e = omega arith in
+    let l : between input (from + 8) (from + 8 + e) ≡ take e rest = rw (k, past) in
+    let f : first_feed rest ≡ e = feed_place rest p in
+    let m : number (take e rest) ≡ some n = was_some (number (take e rest)) r in
+    let d : (length (take e rest) ≤ 9) × (decimal_from 0 (take e rest) ≡ some n) = number_digits (take e rest) m in
+    let number_there : NumberAt input (from + 8) n (from + 8 + e) =
+        record {
+          onward = omega arith;
+          short = omega (arith, d.0, length-take-le e rest (omega arith));
+          within = omega (arith, size, length-drop from input);
+          feed = sym (get_or-drop (from + 8) input e 0) ∙ rw past (rw f at (there rest (rw f q)));
+          digits = rw l d.1;
+          reads = rw l m;
+        } in
     record {
-      to = to;
+      to = from + 8 + e;
       next = s;
-      at =
-          record {
-            onward = omega arith;
-            within = omega (arith, size, length-drop from input);
-            plain = subst NoFeed (sym l) (no_feed_append (bytes "deliver ") (take e rest) word_plain (rw f at (none_before rest)));
-            feed = rw (← j, ← get_or-drop from input (8 + e) 0, w) (ninth e rest ∙ d);
-            reads = ap parse l ∙ deliver_reads (take e rest) n (was_some (number (take e rest)) r);
-          };
+      at = deliver_at input from n (from + 8 + e) (record { inside = omega (arith, size, length-drop from input); word = rw w (word_first rest) }) number_there;
     }

@@ -2,13 +2,28 @@
 use Rattle.std.specs.Prelude.{◌≡◌, List, ℕ, ◌+◌, ◌-◌, ◌≤◌, ◌<◌, length, take, drop, get_or}
 use Rattle.std.proofs.Math.Option.{some}
 use Rattle.model.specs.Lines.{deliver}
-use Rattle.model.specs.Parse.{parse}
+use Rattle.model.specs.Parse.{decimal_from, number, parse}
+use Rattle.model.specs.Text.{bytes}
 use Rattle.input.specs.Reading.{NoFeed}
 use Rattle.parse_deliver.specs.declared.Quick.{Quick}
 
 -- the bytes from `from` to `to`
 abbrev pub between : List ℕ → (from to : ℕ) → List ℕ
 between l from to = take (to - from) (drop from l)
+
+-- `deliver` and a space stand at `from`
+pub record Begun (input : List ℕ) (from : ℕ) : Type 0 where
+  pub inside : from + 8 ≤ length input
+  pub word : take 8 (drop from input) ≡ bytes "deliver "
+
+-- the number n stands from `start` to `end`, and a line feed behind it
+pub record NumberAt (input : List ℕ) (start n end : ℕ) : Type 0 where
+  pub onward : start ≤ end
+  pub short : end ≤ start + 9
+  pub within : end < length input
+  pub feed : get_or input end 0 ≡ 10
+  pub digits : decimal_from 0 (between input start end) ≡ some n
+  pub reads : number (between input start end) ≡ some n
 
 -- a line from `from` to the line feed at `to` that the general reader reads as `deliver n`
 pub record DeliverAt (input : List ℕ) (from n to : ℕ) : Type 0 where

@@ -21,9 +21,6 @@ stores {text} {before} {after} {at} h c = c.is ∙ sym (sets-eq text before at h
 pub printed_stores : {text before after : List ℕ} {at r : ℕ} → at + length text ≤ length before → after ≡ sets before at text → r ≡ at + length text → Printed text before at after r
 printed_stores {text} {before} {after} {at} h e f = record { is = e ∙ sets-eq text before at h; ends = f }
 
-pub printed_byte : (out : List ℕ) (p x : ℕ) → p < length out → Printed (x ∷ []) out p (set out p x) (p + 1)
-printed_byte out p x h = printed_stores (omega arith) refl refl
-
 pub printed_none : {text : List ℕ} (out : List ℕ) (at : ℕ) → text ≡ [] → Printed text out at out at
 printed_none out at e =
     let z : at + 0 ≡ at = omega arith in
@@ -98,10 +95,7 @@ module _ {A : Type 0} {T : List A → List ℕ} {l : List A} {out₀ : List ℕ}
   pub each_size : length out ≡ length out₀
   each_size = c.going.size
 
--- ---- bytes, and pairs of digits
-
-pub next_byte : (l : List ℕ) (i : ℕ) → i < length l → Next (λ x. x) l i (get_or l i 0 ∷ [])
-next_byte l i h = record { is = rw (drop-cons l i 0 h, add-one i) }
+-- ---- pairs of digits
 
 pub next_pair : (l : List ℕ) (i : ℕ) → i < length l → Next hex_pairs l i (hex_digit (get_or l i 0 / 16) ∷ (hex_digit (get_or l i 0 % 16) ∷ []))
 unfolding hex_pairs

@@ -3,4 +3,4 @@ use Rattle.output.proofs.Outcomes.{none_told}
 use Rattle.output.proofs.put_report.Goals as goal
 
 pub returns-then-report-eq0 : goal.returns-then-report-eq0
-returns-then-report-eq0 c = none_told _ c.args.report _ _ c.if-report-eq0.true
+returns-then-report-eq0 c = none_told c.args.report _ _ _ c.if-report-eq0.true
