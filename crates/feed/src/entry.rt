@@ -59,7 +59,15 @@ pub fn finish_value(
     let lines = reader[LINES_READ];
     let count = reader[BYTES_KEPT];
     let feed = last_feed(count);
-    let progress = feed_part(arrays, line, &mut out[..LINE_ROOM], feed, tally, lines, count);
+    let progress = feed_part(
+        arrays,
+        line,
+        &mut out[..LINE_ROOM],
+        feed,
+        tally,
+        lines,
+        count,
+    );
     let written = put_end(out, progress.written, progress.tally);
     put_reader(reader, progress, written);
     FedEnd {

@@ -12,19 +12,20 @@ use parse::Line;
 use progress::{Ending, Progress};
 
 // A line that was read is run and told.
-pub fn end_line(
-    arrays: &mut Arrays<'_>,
-    out: &mut [u8],
-    line: Line,
-    progress: Progress,
-) -> Ending
+pub fn end_line(arrays: &mut Arrays<'_>, out: &mut [u8], line: Line, progress: Progress) -> Ending
     requires { (progress.lines < max_lines) × (progress.written + line_room ≤ length out.old) }
     ensures same { SameArrays arrays }
     ensures ends { EndsLine (lent arrays) out line progress result }
 {
     let stepped = step(arrays, progress.tally, line);
     let number = (progress.lines + 1) as u32;
-    let written = put_outcome(out, progress.written, number, stepped.report, arrays.answers);
+    let written = put_outcome(
+        out,
+        progress.written,
+        number,
+        stepped.report,
+        arrays.answers,
+    );
     Ending {
         tally: stepped.tally,
         written,

@@ -12,9 +12,7 @@ ghost use Rattle.machine.specs.Lent.{CarriesOut, CarriesPlan, Executes};
 use answers::answer;
 use entries::Decoded;
 use flight::{remove, send};
-use memory::{
-    Arrays, CountWords, Counts, PayloadBytes, QueueWords, SlotWords, TextBytes, slot_of,
-};
+use memory::{Arrays, CountWords, Counts, PayloadBytes, QueueWords, SlotWords, TextBytes, slot_of};
 use messages::place_of;
 use moves::Move;
 use plans::{Carried, Plan, Step};
@@ -62,9 +60,24 @@ pub fn carry_out(
     let index = step.index as usize;
     let slot = slot_of(server, step.bucket as usize);
     let place = place_of(arrays.queue, index);
-    fill_work(arrays.working, arrays.copies, arrays.payloads, slot, place, next.fills, table);
+    fill_work(
+        arrays.working,
+        arrays.copies,
+        arrays.payloads,
+        slot,
+        place,
+        next.fills,
+        table,
+    );
     let written = answer(arrays.answers, arrays.slots, server, buckets, next);
-    keep_copy(arrays.copies, arrays.working, arrays.payloads, slot, place, next.keeps);
+    keep_copy(
+        arrays.copies,
+        arrays.working,
+        arrays.payloads,
+        slot,
+        place,
+        next.keeps,
+    );
     settle(arrays.heads, arrays.slots, buckets, server, slot, next);
     let left = leave(arrays.queue, arrays.payloads, messages, index, step.removes);
     let count = send(

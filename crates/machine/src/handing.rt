@@ -32,7 +32,15 @@ fn hand_listed(
         return Ok(lose(arrays.counts, arrays.queue, arrays.payloads, cluster, step));
     }
     let servers = cluster.servers;
-    let effect = asked_effect(arrays.slots, arrays.copies, arrays.texts, servers, message, local, step);
+    let effect = asked_effect(
+        arrays.slots,
+        arrays.copies,
+        arrays.texts,
+        servers,
+        message,
+        local,
+        step,
+    );
     let next = handled_move(servers, step.server, effect.result, message, local);
     places_refusal(cluster, step.removes, next.sends)?;
     let told = carry_out(arrays, cluster, step, next, effect.table);

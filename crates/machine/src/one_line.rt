@@ -114,7 +114,14 @@ fn planned_line(arrays: &mut Arrays<'_>, line: Line) -> Result<Report, Refusal>
     if !standing(cluster) {
         return Err(Refusal::ClusterWrong);
     }
-    let plan = plan_line(arrays.heads, arrays.slots, arrays.copies, arrays.queue, cluster, line)?;
+    let plan = plan_line(
+        arrays.heads,
+        arrays.slots,
+        arrays.copies,
+        arrays.queue,
+        cluster,
+        line,
+    )?;
     Ok(execute(arrays, cluster, plan))
 }
 
