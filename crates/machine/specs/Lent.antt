@@ -21,10 +21,36 @@ use Rattle.runs.specs.declared.Told.{Told}
 use Rattle.runs.specs.Carrying.{CarriedOut}
 use Rattle.runs.specs.Runs.{ran, carried_run, planned_carried, accepted, cluster_run}
 use Rattle.machine.specs.declared.Stepped.{Stepped}
-use Rattle.machine.specs.Steps.{HandedListed, HandRan, Created, cluster_told, RanPlan, RanLine}
+use Rattle.machine.specs.Steps.{CarriedOn, HandedListed, HandRan, Created, cluster_told, RanPlan, RanLine}
 use Rattle.machine.specs.Meaning.{Performed}
 
 -- ---- a plan is carried out
+
+-- the working contents, filled before, and the texts stay
+abbrev pub CarriesOn : Lents → Counts → Step → Move → (place : ℕ) → Told → Type 0
+CarriesOn a c x v place r =
+    CarriedOn
+    (was a.counts)
+    (was a.heads)
+    (was a.slots)
+    (was a.copies)
+    (was a.working)
+    (was a.queue)
+    (was a.payloads)
+    (was a.answers)
+    c
+    x
+    v
+    place
+    (is a.counts)
+    (is a.heads)
+    (is a.slots)
+    (is a.copies)
+    (is a.queue)
+    (is a.payloads)
+    (is a.answers)
+    r
+    × ((is a.working ≡ was a.working) × (is a.texts ≡ was a.texts))
 
 abbrev pub CarriesOut : Lents → Counts → Step → Move → Decoded → Told → Type 0
 CarriesOut a c x v table r = CarriedOut (carried_run (old a) (old_answers a) c x v (table_in table)) x (new a) (new_answers a) r

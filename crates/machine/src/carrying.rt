@@ -7,7 +7,7 @@ ghost use Rattle.views.specs.Lent.{lent, SameArrays};
 ghost use Rattle.flight.specs.Flown.{Flown, old_flight};
 ghost use Rattle.runs.specs.Carrying.{Carriable, Losable};
 ghost use Rattle.machine.specs.Steps.{Lost, Took, Executable};
-ghost use Rattle.machine.specs.Lent.{CarriesOut, CarriesPlan, Executes};
+ghost use Rattle.machine.specs.Lent.{CarriesOn, CarriesOut, CarriesPlan, Executes};
 
 use answers::answer;
 use entries::Decoded;
@@ -42,33 +42,17 @@ fn leave(
     }
 }
 
-// A move is carried out; `table` is the new one, where the move writes one. The answers are those of the slots before the move.
-pub fn carry_out(
-    arrays: &mut Arrays<'_>,
-    cluster: Counts,
-    step: Step,
-    next: Move,
-    table: Decoded,
-) -> Told
-    requires { Carriable cluster step next }
+// A move is carried out, once the working content of its slot is filled. `place` is that of the message handed over; the answers are
+// those of the slots before the move.
+fn carry_on(arrays: &mut Arrays<'_>, cluster: Counts, step: Step, next: Move, place: usize) -> Told
+    requires { Carriable cluster step next × (place < message_room) }
     ensures same { SameArrays arrays }
-    ensures carries { CarriesOut (lent arrays) cluster step next table result }
+    ensures carries { CarriesOn (lent arrays) cluster step next place result }
 {
     let server = step.server as usize;
     let buckets = cluster.buckets as usize;
     let messages = cluster.messages as usize;
-    let index = step.index as usize;
     let slot = slot_of(server, step.bucket as usize);
-    let place = place_of(arrays.queue, index);
-    fill_work(
-        arrays.working,
-        arrays.copies,
-        arrays.payloads,
-        slot,
-        place,
-        next.fills,
-        table,
-    );
     let written = answer(arrays.answers, arrays.slots, server, buckets, next);
     keep_copy(
         arrays.copies,
@@ -79,6 +63,7 @@ pub fn carry_out(
         next.keeps,
     );
     settle(arrays.heads, arrays.slots, buckets, server, slot, next);
+    let index = step.index as usize;
     let left = leave(arrays.queue, arrays.payloads, messages, index, step.removes);
     let count = send(
         arrays.queue,
@@ -96,6 +81,32 @@ pub fn carry_out(
         sent: send_count(cluster.servers, next.sends),
         messages: count as u32,
     }
+}
+
+// A move is carried out; `table` is the new one, where the move writes one.
+pub fn carry_out(
+    arrays: &mut Arrays<'_>,
+    cluster: Counts,
+    step: Step,
+    next: Move,
+    table: Decoded,
+) -> Told
+    requires { Carriable cluster step next }
+    ensures same { SameArrays arrays }
+    ensures carries { CarriesOut (lent arrays) cluster step next table result }
+{
+    let slot = slot_of(step.server as usize, step.bucket as usize);
+    let place = place_of(arrays.queue, step.index as usize);
+    fill_work(
+        arrays.working,
+        arrays.copies,
+        arrays.payloads,
+        slot,
+        place,
+        next.fills,
+        table,
+    );
+    carry_on(arrays, cluster, step, next, place)
 }
 
 // A message is lost.
