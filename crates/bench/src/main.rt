@@ -8,9 +8,8 @@ ghost use Rattle.tally.specs.Sums.{tally_sum};
 use feed::FedPart;
 use feed::entry::{feed_value, finish_value};
 use memory::{
-    ANSWERS_LEN, AnswerWords, CONTENTS_LEN, COUNTS_LEN, CopyBytes, CountWords, HEADS_LEN,
-    HeadWords, PAYLOADS_LEN, PayloadBytes, QUEUE_LEN, QueueWords, SLOTS_LEN, SlotWords, TEXTS_LEN,
-    TextBytes, WorkingBytes,
+    ANSWERS_LEN, Arrays, CONTENTS_LEN, COUNTS_LEN, HEADS_LEN, PAYLOADS_LEN, QUEUE_LEN, SLOTS_LEN,
+    TEXTS_LEN,
 };
 use progress::{BYTES_WRITTEN, KEPT_LEN, KeptLine, READER_LEN, ReaderWords};
 use runs::Tally;
@@ -129,15 +128,7 @@ fn next_part<R: Read, W: Write>(
 fn turn<R: Read, W: Write>(
     reading: &mut R,
     writing: &mut W,
-    counts: &mut CountWords,
-    heads: &mut HeadWords,
-    slots: &mut SlotWords,
-    copies: &mut CopyBytes,
-    working: &mut WorkingBytes,
-    texts: &mut TextBytes,
-    queue: &mut QueueWords,
-    payloads: &mut PayloadBytes,
-    answers: &mut AnswerWords,
+    arrays: &mut Arrays<'_>,
     reader: &mut ReaderWords,
     line: &mut KeptLine,
     run: Place,
@@ -148,44 +139,29 @@ fn turn<R: Read, W: Write>(
     ensures { result.turns < run.turns }
 {
     if run.ended {
-        let end = finish_value(
-            counts, heads, slots, copies, working, texts, queue, payloads, answers, reader, line,
-            run.tally, out,
-        );
+        let end = finish_value(arrays, reader, line, run.tally, out);
         write_out(writing, out, end.written);
         return stop(run.tally);
     }
-    let fed = feed_value(
-        counts,
-        heads,
-        slots,
-        copies,
-        working,
-        texts,
-        queue,
-        payloads,
-        answers,
-        reader,
-        line,
-        run.tally,
-        rest(input, run.end, run.left),
-        out,
-    );
+    let part = rest(input, run.end, run.left);
+    let fed = feed_value(arrays, reader, line, run.tally, part, out);
     next_part(reading, writing, run, fed, input, out, reader)
 }
 
 fn main(rt: HostRuntime) {
     let mut reading = rt.stdin();
     let mut writing = rt.stdout();
-    let mut counts = [0u32; COUNTS_LEN];
-    let mut heads = [0u32; HEADS_LEN];
-    let mut slots = [0u32; SLOTS_LEN];
-    let mut copies = [0u8; CONTENTS_LEN];
-    let mut working = [0u8; CONTENTS_LEN];
-    let mut texts = [0u8; TEXTS_LEN];
-    let mut queue = [0u32; QUEUE_LEN];
-    let mut payloads = [0u8; PAYLOADS_LEN];
-    let mut answers = [0u32; ANSWERS_LEN];
+    let mut arrays = Arrays {
+        counts: &mut [0; COUNTS_LEN],
+        heads: &mut [0; HEADS_LEN],
+        slots: &mut [0; SLOTS_LEN],
+        copies: &mut [0; CONTENTS_LEN],
+        working: &mut [0; CONTENTS_LEN],
+        texts: &mut [0; TEXTS_LEN],
+        queue: &mut [0; QUEUE_LEN],
+        payloads: &mut [0; PAYLOADS_LEN],
+        answers: &mut [0; ANSWERS_LEN],
+    };
     let mut reader = [0usize; READER_LEN];
     let mut line = [0u8; KEPT_LEN];
     let mut input = [0u8; BLOCK];
@@ -195,15 +171,7 @@ fn main(rt: HostRuntime) {
         run = turn(
             &mut reading,
             &mut writing,
-            &mut counts,
-            &mut heads,
-            &mut slots,
-            &mut copies,
-            &mut working,
-            &mut texts,
-            &mut queue,
-            &mut payloads,
-            &mut answers,
+            &mut arrays,
             &mut reader,
             &mut line,
             run,

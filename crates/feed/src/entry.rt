@@ -1,15 +1,12 @@
 // The public calls: a part of the input, and its end, on lent arrays. They are given the tally by value, and answer what is to be added
 // to it.
 ghost use Rattle.memory.specs.Lent.{was, read_only};
-ghost use Rattle.views.specs.Lent.{lent};
+ghost use Rattle.views.specs.Lent.{lent, SameArrays};
 ghost use Rattle.feed.specs.Lent.{FeedsValue, FinishesValue};
 
 use crate::{FedEnd, FedPart};
 use lines::feeding::feed_part;
-use memory::{
-    AnswerWords, CopyBytes, CountWords, HeadWords, PayloadBytes, QueueWords, SlotWords, TextBytes,
-    WorkingBytes,
-};
+use memory::Arrays;
 use output::put_end;
 use print::{LINE_ROOM, TALLY_ROOM};
 use progress::{BYTES_KEPT, KeptLine, LINES_READ, ReaderWords, last_feed, put_reader};
@@ -21,29 +18,19 @@ const FINISH_ROOM: usize = LINE_ROOM + TALLY_ROOM;
 
 // A part of the input.
 pub fn feed_value(
-    counts: &mut CountWords,
-    heads: &mut HeadWords,
-    slots: &mut SlotWords,
-    copies: &mut CopyBytes,
-    working: &mut WorkingBytes,
-    texts: &mut TextBytes,
-    queue: &mut QueueWords,
-    payloads: &mut PayloadBytes,
-    answers: &mut AnswerWords,
+    arrays: &mut Arrays<'_>,
     reader: &mut ReaderWords,
     line: &mut KeptLine,
     tally: Tally,
     input: &[u8],
     out: &mut [u8],
 ) -> FedPart
-    ensures { FeedsValue (lent counts heads slots copies working texts queue payloads answers) reader line tally (read_only input) out result }
+    ensures same { SameArrays arrays }
+    ensures feeds { FeedsValue (lent arrays) reader line tally (read_only input) out result }
 {
     let lines = reader[LINES_READ];
     let count = reader[BYTES_KEPT];
-    let progress = feed_part(
-        counts, heads, slots, copies, working, texts, queue, payloads, answers, line, out, input,
-        tally, lines, count,
-    );
+    let progress = feed_part(arrays, line, out, input, tally, lines, count);
     put_reader(reader, progress, progress.written);
     FedPart {
         change: change(tally, progress.tally),
@@ -54,21 +41,14 @@ pub fn feed_value(
 // The end of the input: a line feed ends a last line that lacks it, then the tally follows. It answers how many bytes it wrote; where
 // the output has no room it writes and adds nothing, and answers 0.
 pub fn finish_value(
-    counts: &mut CountWords,
-    heads: &mut HeadWords,
-    slots: &mut SlotWords,
-    copies: &mut CopyBytes,
-    working: &mut WorkingBytes,
-    texts: &mut TextBytes,
-    queue: &mut QueueWords,
-    payloads: &mut PayloadBytes,
-    answers: &mut AnswerWords,
+    arrays: &mut Arrays<'_>,
     reader: &mut ReaderWords,
     line: &mut KeptLine,
     tally: Tally,
     out: &mut [u8],
 ) -> FedEnd
-    ensures { FinishesValue (lent counts heads slots copies working texts queue payloads answers) reader line tally out result }
+    ensures same { SameArrays arrays }
+    ensures finishes { FinishesValue (lent arrays) reader line tally out result }
 {
     if out.len() < FINISH_ROOM {
         return FedEnd {
@@ -78,19 +58,12 @@ pub fn finish_value(
     }
     let lines = reader[LINES_READ];
     let count = reader[BYTES_KEPT];
+    let feed = last_feed(count);
     let progress = feed_part(
-        counts,
-        heads,
-        slots,
-        copies,
-        working,
-        texts,
-        queue,
-        payloads,
-        answers,
+        arrays,
         line,
         &mut out[..LINE_ROOM],
-        last_feed(count),
+        feed,
         tally,
         lines,
         count,

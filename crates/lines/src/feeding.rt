@@ -1,6 +1,6 @@
 // A part of the input: lines are run where they end, as long as the output has room; the bytes after them are kept.
 ghost use Rattle.std.specs.Prelude.{◌≤◌, length};
-ghost use Rattle.views.specs.Lent.{lent};
+ghost use Rattle.views.specs.Lent.{lent, SameArrays};
 ghost use Rattle.memory.specs.Lent.{was, is, read_only};
 ghost use Rattle.lines.specs.Feeding.{RestKept};
 ghost use Rattle.lines.specs.Lent.{Advances, FeedsPart};
@@ -8,37 +8,24 @@ ghost use Rattle.lines.specs.Lent.{Advances, FeedsPart};
 use crate::keeping::{keep, line_feed};
 use crate::reading::next_line;
 use crate::running::end_line;
-use memory::{
-    AnswerWords, CopyBytes, CountWords, HeadWords, PayloadBytes, QueueWords, SlotWords, TextBytes,
-    WorkingBytes,
-};
+use memory::Arrays;
 use progress::{KeptLine, MAX_LINES, Progress};
 use runs::Tally;
 
 // The next line that ends in the part is run, if there is one and room for what it prints; else nothing is done.
 fn advance(
-    counts: &mut CountWords,
-    heads: &mut HeadWords,
-    slots: &mut SlotWords,
-    copies: &mut CopyBytes,
-    working: &mut WorkingBytes,
-    texts: &mut TextBytes,
-    queue: &mut QueueWords,
-    payloads: &mut PayloadBytes,
-    answers: &mut AnswerWords,
+    arrays: &mut Arrays<'_>,
     line: &mut KeptLine,
     out: &mut [u8],
     input: &[u8],
     progress: Progress,
 ) -> Option<Progress>
     requires { (progress.taken ≤ length input.now) × (progress.written ≤ length out.old) }
-    ensures { Advances (lent counts heads slots copies working texts queue payloads answers) line out (read_only input) progress result }
+    ensures same { SameArrays arrays }
+    ensures advances { Advances (lent arrays) line out (read_only input) progress result }
 {
     let read = next_line(line, input, out.len(), progress)?;
-    let ending = end_line(
-        counts, heads, slots, copies, working, texts, queue, payloads, answers, out, read.line,
-        progress,
-    );
+    let ending = end_line(arrays, out, read.line, progress);
     Some(progress.ended(ending, read.next))
 }
 
@@ -59,15 +46,7 @@ fn keep_rest(line: &mut KeptLine, input: &[u8], progress: Progress) -> Progress
 
 // A part of the input.
 pub fn feed_part(
-    counts: &mut CountWords,
-    heads: &mut HeadWords,
-    slots: &mut SlotWords,
-    copies: &mut CopyBytes,
-    working: &mut WorkingBytes,
-    texts: &mut TextBytes,
-    queue: &mut QueueWords,
-    payloads: &mut PayloadBytes,
-    answers: &mut AnswerWords,
+    arrays: &mut Arrays<'_>,
     line: &mut KeptLine,
     out: &mut [u8],
     input: &[u8],
@@ -75,13 +54,11 @@ pub fn feed_part(
     lines: usize,
     count: usize,
 ) -> Progress
-    ensures { FeedsPart (lent counts heads slots copies working texts queue payloads answers) line out (read_only input) tally lines count result }
+    ensures same { SameArrays arrays }
+    ensures feeds { FeedsPart (lent arrays) line out (read_only input) tally lines count result }
 {
     let mut progress = Progress::begun(tally, lines, count);
-    while let Some(after) = advance(
-        counts, heads, slots, copies, working, texts, queue, payloads, answers, line, out, input,
-        progress,
-    ) {
+    while let Some(after) = advance(arrays, line, out, input, progress) {
         progress = after;
     }
     keep_rest(line, input, progress)

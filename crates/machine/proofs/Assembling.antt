@@ -42,26 +42,30 @@ room_left c false i kind q l q' l' r f e =
 
 -- what the parts of a step leave
 pub carried_out : (counts heads slots copies working texts queue payloads l : List ℕ) (c : Counts) (x : Step) (v : Move) (f : Effect) (made : List Entry)
-    (counts' heads' slots' copies' working' queue' payloads' l' : List ℕ) (k place : ℕ) (t : Told) → k ≡ slot_of x.server x.bucket → place ≡ place_at queue x.index
+    (counts' heads' slots' copies' working' queue' payloads' l' working'' texts' : List ℕ) (k place : ℕ) (t : Told) → k ≡ slot_of x.server x.bucket → place ≡ place_at queue x.index
     → working' ≡ filled_from working copies payloads k place made v.fills
     → CarriedOn counts heads slots copies working' queue payloads l c x v place counts' heads' slots' copies' queue' payloads' l' t
-    → ran (memory counts' heads' slots' copies' working' texts queue' payloads') l' (Ok (carried_report t x f))
+    × ((working'' ≡ working') × (texts' ≡ texts))
+    → ran (memory counts' heads' slots' copies' working'' texts' queue' payloads') l' (Ok (carried_report t x f))
     ≡ carried_run (memory counts heads slots copies working texts queue payloads) l c x v made f
 unfolding carried_run moved
-carried_out counts heads slots copies working texts queue payloads l c x v f made counts' heads' slots' copies' working' queue' payloads' l' k place t h p w g =
+carried_out counts heads slots copies working texts queue payloads l c x v effect made counts' heads' slots' copies' working' queue' payloads' l' working'' texts' k place t h p w y =
+    let g = y.0 in
     let s = g.server in
     let m = s.moves in
-    let y = g.flown in
+    let f = g.flown in
     rw (
+      y.1.0,
+      y.1.1,
       g.counted,
       g.sends,
       m.head,
       m.slot,
       ap (λ a. a.answers) s.listed.is,
       ap (λ a. a.count) s.listed.is,
-      ap (λ a. a.queue) y.is,
-      ap (λ a. a.payloads) y.is,
-      ap (λ a. a.count) y.is,
+      ap (λ a. a.queue) f.is,
+      ap (λ a. a.payloads) f.is,
+      ap (λ a. a.count) f.is,
       m.copy,
       w,
       h,

@@ -5,7 +5,7 @@ use Rattle.server.specs.declared.Words.{Words}
 use Rattle.server.specs.declared.Effect.{Effect}
 use Rattle.memory.specs.declared.Counts.{Counts}
 use Rattle.memory.specs.Layout.{counts_at}
-use Rattle.views.specs.Memory.{Memory, memory, standing}
+use Rattle.views.specs.Memory.{Memory, standing}
 use Rattle.refusals.specs.declared.Refusal.{Refusal}
 use Rattle.refusals.specs.declared.Refusal.TheVariants.{Malformed, ClusterWrong}
 use Rattle.plans.specs.declared.Plan.{Plan}
@@ -15,8 +15,8 @@ use Rattle.parse.specs.declared.Kind.{Kind}
 use Rattle.parse.specs.declared.Kind.TheVariants as K
 use Rattle.parse.specs.declared.Line.{Line}
 use Rattle.runs.specs.declared.Report.{Report}
-use Rattle.runs.specs.Runs.{Ran, ran, refused_run, bare_report, accepted, executed, words_of, line_plan, planned_run, run_by, line_run, EffectOf}
-use Rattle.machine.specs.Steps.{cluster_told, seen, is_planned, LinePlanned, Clustered, HandRan, RanPlan, RanLine}
+use Rattle.runs.specs.Runs.{Ran, ran, refused_run, bare_report, accepted, executed, words_of, line_plan, planned_run, cluster_run, run_by, line_run, EffectOf}
+use Rattle.machine.specs.Steps.{cluster_told, seen, is_planned, LinePlanned, HandRan, RanPlan, RanLine}
 
 module _ (heads slots copies queue : List ℕ) (c : Counts) (x : Line) (p : Result Plan Refusal) where
   -- the plan of a line, by its kind
@@ -191,25 +191,20 @@ module _ (m : Memory) (l : List ℕ) (x : Line) where
   unfolding run_by
   malformed_run e = by_kind K.Malformed e no_effect (λ _. tt) refl
 
-  cluster_run_lem : (counts heads slots copies queue : List ℕ) (q : Result (Unit {0}) Refusal) (r : Result Report Refusal) → x.kind ≡ K.Cluster
-      → Clustered m.counts m.heads m.slots m.copies m.queue x.first x.second counts heads slots copies queue q → r ≡ cluster_told q
-      → RanLine m l x (memory counts heads slots copies m.working m.texts queue m.payloads) l r
+  cluster_run_lem : (m' : Memory) (l' : List ℕ) (q : Result (Unit {0}) Refusal) (r : Result Report Refusal) → x.kind ≡ K.Cluster
+      → ran m' l' (cluster_told q) ≡ cluster_run m l x.first x.second → r ≡ cluster_told q → RanLine m l x m' l' r
   unfolding run_by
-  cluster_run_lem counts heads slots copies queue q r e y h =
-      by_kind K.Cluster e no_effect (λ _. tt) (ap (ran (memory counts heads slots copies m.working m.texts queue m.payloads) l) h ∙ y.is m.working m.texts m.payloads l)
+  cluster_run_lem m' l' q r e y h = by_kind K.Cluster e no_effect (λ _. tt) (ap (ran m' l') h ∙ y)
 
-  pub cluster_made : (counts heads slots copies queue : List ℕ) (q : Result (Unit {0}) Refusal) (u : Unit {0}) (r : Report) → x.kind ≡ K.Cluster
-      → Clustered m.counts m.heads m.slots m.copies m.queue x.first x.second counts heads slots copies queue q → q ≡ Ok u → r ≡ bare_report
-      → RanLine m l x (memory counts heads slots copies m.working m.texts queue m.payloads) l (Ok r)
+  pub cluster_made : (m' : Memory) (l' : List ℕ) (q : Result (Unit {0}) Refusal) (u : Unit {0}) (r : Report) → x.kind ≡ K.Cluster
+      → ran m' l' (cluster_told q) ≡ cluster_run m l x.first x.second → q ≡ Ok u → r ≡ bare_report → RanLine m l x m' l' (Ok r)
   unfolding cluster_told
-  cluster_made counts heads slots copies queue q u r e y z h =
-      cluster_run_lem counts heads slots copies queue q (Ok r) e y (ap (λ (r : Report). Ok r) h ∙ ap cluster_told (sym z))
+  cluster_made m' l' q u r e y z h = cluster_run_lem m' l' q (Ok r) e y (ap (λ (r : Report). Ok r) h ∙ ap cluster_told (sym z))
 
-  pub cluster_refused : (counts heads slots copies queue : List ℕ) (q : Result (Unit {0}) Refusal) (a : Refusal) → x.kind ≡ K.Cluster
-      → Clustered m.counts m.heads m.slots m.copies m.queue x.first x.second counts heads slots copies queue q → q ≡ Err a
-      → RanLine m l x (memory counts heads slots copies m.working m.texts queue m.payloads) l (Err a)
+  pub cluster_refused : (m' : Memory) (l' : List ℕ) (q : Result (Unit {0}) Refusal) (a : Refusal) → x.kind ≡ K.Cluster
+      → ran m' l' (cluster_told q) ≡ cluster_run m l x.first x.second → q ≡ Err a → RanLine m l x m' l' (Err a)
   unfolding cluster_told
-  cluster_refused counts heads slots copies queue q a e y z = cluster_run_lem counts heads slots copies queue q (Err a) e y (ap cluster_told (sym z))
+  cluster_refused m' l' q a e y z = cluster_run_lem m' l' q (Err a) e y (ap cluster_told (sym z))
 
   other_run : (m' : Memory) (l' : List ℕ) (r : Result Report Refusal) (k : Kind) → x.kind ≡ k → is_planned k ≡ true → RanPlan m l x m' l' r → RanLine m l x m' l' r
   unfolding run_by is_planned

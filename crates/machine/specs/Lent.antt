@@ -1,19 +1,16 @@
 -- The contracts of `machine` over the lent arrays: what each function makes of what they were. The records are those of Steps.antt and
 -- Meaning.antt.
-use Rattle.std.specs.Prelude.{◌≡◌, ℕ, Bool, List, length, Result, Ok}
-use Rattle.std.specs.Borrow.{Bor}
+use Rattle.std.specs.Prelude.{◌≡◌, ℕ, Bool, length, Result, Ok}
 use Rattle.entries.specs.declared.Decoded.{Decoded}
 use Rattle.entries.specs.Decoded.{table_in}
+use Rattle.memory.specs.declared.Arrays.{Arrays}
 use Rattle.memory.specs.declared.Counts.{Counts}
-use Rattle.memory.specs.Layout.{slot_of}
-use Rattle.memory.specs.Lent.{Lent, was, is}
+use Rattle.memory.specs.Lent.{was, is}
 use Rattle.refusals.specs.declared.Refusal.{Refusal}
 use Rattle.moves.specs.declared.Move.{Move}
-use Rattle.views.specs.Memory.{memory, Sized}
-use Rattle.views.specs.Lent.{Lents, old, new, old_answers, new_answers}
+use Rattle.views.specs.Memory.{Sized}
+use Rattle.views.specs.Lent.{Lents, old, new, old_answers, new_answers, memory_in}
 use Rattle.views.specs.Changes.{answers_room}
-use Rattle.views.specs.Queue.{without_message, sent}
-use Rattle.flight.specs.Flown.{Flown, old_flight}
 use Rattle.plans.specs.declared.Step.{Step}
 use Rattle.plans.specs.declared.Carried.{Carried}
 use Rattle.plans.specs.declared.Plan.{Plan}
@@ -22,49 +19,38 @@ use Rattle.runs.specs.declared.Report.{Report}
 use Rattle.runs.specs.declared.Tally.{Tally}
 use Rattle.runs.specs.declared.Told.{Told}
 use Rattle.runs.specs.Carrying.{CarriedOut}
-use Rattle.runs.specs.Runs.{ran, carried_run, planned_carried, accepted}
+use Rattle.runs.specs.Runs.{ran, carried_run, planned_carried, accepted, cluster_run}
 use Rattle.machine.specs.declared.Stepped.{Stepped}
-use Rattle.machine.specs.Steps.{ServerChanged, CarriedOn, HandedListed, HandRan, Clustered, RanPlan, RanLine}
+use Rattle.machine.specs.Steps.{CarriedOn, HandedListed, HandRan, Created, cluster_told, RanPlan, RanLine}
 use Rattle.machine.specs.Meaning.{Performed}
 
 -- ---- a plan is carried out
 
-abbrev pub ChangesServer : (heads slots copies working payloads answers : Lent) → Counts → Step → Move → (place r : ℕ) → Type 0
-ChangesServer heads slots copies working payloads answers c x v place r =
-    ServerChanged (was heads) (was slots) (was copies) (was working) (was payloads) (was answers) c x v place (is heads) (is slots) (is copies) (is answers) r
-
-abbrev pub ChangesFlight : (queue payloads working copies : Lent) → Counts → Step → Move → ℕ → Type 0
-ChangesFlight queue payloads working copies c x v r =
-    let rest = without_message x.removes x.index (old_flight queue payloads c.messages) in
-    Flown
-    (sent c.servers x.server x.bucket (slot_of x.server x.bucket) x.asked v (was working) (was copies) rest)
-    (is queue)
-    (is payloads)
-    r
-
-abbrev pub CarriesOn : (counts heads slots copies working queue payloads answers : Lent) → Counts → Step → Move → (place : ℕ) → Told → Type 0
-CarriesOn counts heads slots copies working queue payloads answers c x v place r =
+-- the working contents, filled before, and the texts stay
+abbrev pub CarriesOn : Lents → Counts → Step → Move → (place : ℕ) → Told → Type 0
+CarriesOn a c x v place r =
     CarriedOn
-    (was counts)
-    (was heads)
-    (was slots)
-    (was copies)
-    (was working)
-    (was queue)
-    (was payloads)
-    (was answers)
+    (was a.counts)
+    (was a.heads)
+    (was a.slots)
+    (was a.copies)
+    (was a.working)
+    (was a.queue)
+    (was a.payloads)
+    (was a.answers)
     c
     x
     v
     place
-    (is counts)
-    (is heads)
-    (is slots)
-    (is copies)
-    (is queue)
-    (is payloads)
-    (is answers)
+    (is a.counts)
+    (is a.heads)
+    (is a.slots)
+    (is a.copies)
+    (is a.queue)
+    (is a.payloads)
+    (is a.answers)
     r
+    × ((is a.working ≡ was a.working) × (is a.texts ≡ was a.texts))
 
 abbrev pub CarriesOut : Lents → Counts → Step → Move → Decoded → Told → Type 0
 CarriesOut a c x v table r = CarriedOut (carried_run (old a) (old_answers a) c x v (table_in table)) x (new a) (new_answers a) r
@@ -85,9 +71,14 @@ Hands a i removes r = HandRan (old a) (old_answers a) i removes (new a) (new_ans
 
 -- ---- the cluster line, a line that needs a cluster, any line, and a line with the tally
 
-abbrev pub Clusters : (counts heads slots copies queue : Lent) → (n b : ℕ) → Result (Unit {0}) Refusal → Type 0
-Clusters counts heads slots copies queue n b r =
-    Clustered (was counts) (was heads) (was slots) (was copies) (was queue) n b (is counts) (is heads) (is slots) (is copies) (is queue) r
+-- a new cluster: the working contents, the texts, the payloads and the answers stay
+abbrev pub Creates : Lents → (n b : ℕ) → Type 0
+Creates a n b =
+    Created (was a.counts) (was a.queue) n b (is a.counts) (is a.heads) (is a.slots) (is a.copies) (is a.queue)
+    × ((is a.working ≡ was a.working) × ((is a.texts ≡ was a.texts) × ((is a.payloads ≡ was a.payloads) × (is a.answers ≡ was a.answers))))
+
+abbrev pub Clusters : Lents → (n b : ℕ) → Result (Unit {0}) Refusal → Type 0
+Clusters a n b r = ran (new a) (new_answers a) (cluster_told r) ≡ cluster_run (old a) (old_answers a) n b
 
 abbrev pub RunsPlan : Lents → Line → Result Report Refusal → Type 0
 RunsPlan a x r = RanPlan (old a) (old_answers a) x (new a) (new_answers a) r
@@ -100,10 +91,5 @@ Performs a t x r = Performed (old a) (old_answers a) t x (new a) (new_answers a)
 
 -- ---- the lengths of the arrays
 
-abbrev pub LentSizes : (counts heads slots copies working texts queue payloads answers : Bor (List ℕ)) → Type 0
-LentSizes counts heads slots copies working texts queue payloads answers =
-    Sized (memory counts.now heads.now slots.now copies.now working.now texts.now queue.now payloads.now)
-    × (length answers.now ≡ answers_room)
-
-abbrev pub OldSizes : Lents → Type 0
-OldSizes a = Sized (old a) × (length (old_answers a) ≡ answers_room)
+abbrev pub SizedArrays : Arrays → Type 0
+SizedArrays a = Sized (memory_in a) × (length a.answers.now ≡ answers_room)

@@ -26,7 +26,7 @@ use Rattle.plans.specs.Arrays.{Measured, asked_at}
 use Rattle.runs.specs.declared.Report.{Report}
 use Rattle.runs.specs.declared.Told.{Told}
 use Rattle.runs.specs.Carrying.{Losable, Carriable}
-use Rattle.runs.specs.Runs.{Ran, ran, bare_report, next_counts, fresh_counts, refused_run, executed, cluster_run, line_plan, planned_run, line_run, HandEffect, EffectOf}
+use Rattle.runs.specs.Runs.{Ran, ran, bare_report, next_counts, fresh_counts, refused_run, executed, line_plan, planned_run, line_run, HandEffect, EffectOf}
 use Rattle.parse.specs.declared.Kind.{Kind}
 use Rattle.parse.specs.declared.Kind.TheVariants as K
 use Rattle.parse.specs.declared.Line.{Line}
@@ -119,11 +119,6 @@ is_planned _ = true
 unfoldable pub cluster_told : Result (Unit {0}) Refusal → Result Report Refusal
 cluster_told (Ok u) = Ok bare_report
 cluster_told (Err e) = Err e
-
--- the arrays after a cluster line
-pub record Clustered (counts heads slots copies queue : List ℕ) (n b : ℕ) (counts' heads' slots' copies' queue' : List ℕ) (r : Result (Unit {0}) Refusal) : Type 0 where
-  pub is : (working texts payloads l : List ℕ) →
-      ran (memory counts' heads' slots' copies' working texts queue' payloads) l (cluster_told r) ≡ cluster_run (memory counts heads slots copies working texts queue payloads) l n b
 
 -- the run of a line that needs a cluster, and of any line, with the effect that it asked for
 pub record RanPlan (m : Memory) (l : List ℕ) (x : Line) (m' : Memory) (l' : List ℕ) (r : Result Report Refusal) : Type 0 where

@@ -1,62 +1,35 @@
 // One line with the tally, by value: what it leaves, and what that stands for.
-ghost use Rattle.memory.specs.Lent.{read_only};
-ghost use Rattle.views.specs.Lent.{lent};
-ghost use Rattle.runs.specs.Meaning.{WholeLine};
-ghost use Rattle.machine.specs.Lent.{Performs, LentSizes, OldSizes};
+ghost use Rattle.views.specs.Lent.{lent, SameArrays};
+ghost use Rattle.machine.specs.Lent.{Performs, SizedArrays};
 
 use crate::Stepped;
 use crate::one_line::run_line;
-use memory::{
-    AnswerWords, CopyBytes, CountWords, HeadWords, PayloadBytes, QueueWords, SlotWords, TextBytes,
-    WorkingBytes,
-};
+use memory::Arrays;
 use parse::Line;
 use runs::{Tally, tally_after};
 
 // The lengths of the arrays, for the caller's proof: it does nothing.
-fn sizes(
-    counts: &[u32],
-    heads: &[u32],
-    slots: &[u32],
-    copies: &[u8],
-    working: &[u8],
-    texts: &[u8],
-    queue: &[u32],
-    payloads: &[u8],
-    answers: &[u32],
-)
-    requires { LentSizes counts heads slots copies working texts queue payloads answers }
-    ensures { OldSizes (lent (read_only counts) (read_only heads) (read_only slots) (read_only copies) (read_only working) (read_only texts) (read_only queue) (read_only payloads) (read_only answers)) }
-{}
-
-// The lengths of a line's arrays, for the caller's proof: it does nothing.
-fn whole(line: Line)
-    ensures { WholeLine line }
-{}
+fn sizes(arrays: &Arrays<'_>)
+    ensures { SizedArrays arrays.now }
+{
+    let _counts: &[u32] = arrays.counts;
+    let _heads: &[u32] = arrays.heads;
+    let _slots: &[u32] = arrays.slots;
+    let _copies: &[u8] = arrays.copies;
+    let _working: &[u8] = arrays.working;
+    let _texts: &[u8] = arrays.texts;
+    let _queue: &[u32] = arrays.queue;
+    let _payloads: &[u8] = arrays.payloads;
+    let _answers: &[u32] = arrays.answers;
+}
 
 // One line of a script.
-pub fn step(
-    counts: &mut CountWords,
-    heads: &mut HeadWords,
-    slots: &mut SlotWords,
-    copies: &mut CopyBytes,
-    working: &mut WorkingBytes,
-    texts: &mut TextBytes,
-    queue: &mut QueueWords,
-    payloads: &mut PayloadBytes,
-    answers: &mut AnswerWords,
-    tally: Tally,
-    line: Line,
-) -> Stepped
-    ensures { Performs (lent counts heads slots copies working texts queue payloads answers) tally line result }
+pub fn step(arrays: &mut Arrays<'_>, tally: Tally, line: Line) -> Stepped
+    ensures same { SameArrays arrays }
+    ensures performs { Performs (lent arrays) tally line result }
 {
-    sizes(
-        counts, heads, slots, copies, working, texts, queue, payloads, answers,
-    );
-    whole(line);
-    let report = run_line(
-        counts, heads, slots, copies, working, texts, queue, payloads, answers, line,
-    );
+    sizes(arrays);
+    let report = run_line(arrays, line);
     let after = tally_after(tally, report);
     Stepped {
         report,

@@ -1,16 +1,12 @@
 // Messages that are handed over: judged, and carried out at once. Most lines are such, so no plan is made of them.
-ghost use Rattle.memory.specs.Lent.{read_only};
 ghost use Rattle.std.specs.Prelude.{◌<◌};
-ghost use Rattle.views.specs.Lent.{lent};
+ghost use Rattle.views.specs.Lent.{lent, SameArrays};
 ghost use Rattle.plans.specs.Arrays.{Measured};
 ghost use Rattle.machine.specs.Lent.{HandsListed, Hands};
 
 use crate::carrying::{carry_out, lose};
 use crate::numbers::standing;
-use memory::{
-    AnswerWords, CopyBytes, CountWords, Counts, HeadWords, PayloadBytes, QueueWords, SlotWords,
-    TextBytes, WorkingBytes,
-};
+use memory::{Arrays, Counts};
 use messages::load_message;
 use moves::handling::handled_move;
 use plans::deliveries::{asked_effect, is_gone, message_step, receiver};
@@ -20,72 +16,46 @@ use runs::{Report, report_of};
 
 // A message that is in the list; to a server that is not there, or that is stopped, it is lost.
 fn hand_listed(
-    counts: &mut CountWords,
-    heads: &mut HeadWords,
-    slots: &mut SlotWords,
-    copies: &mut CopyBytes,
-    working: &mut WorkingBytes,
-    texts: &TextBytes,
-    queue: &mut QueueWords,
-    payloads: &mut PayloadBytes,
-    answers: &mut AnswerWords,
+    arrays: &mut Arrays<'_>,
     cluster: Counts,
     index: u32,
     removes: bool,
 ) -> Result<Report, Refusal>
     requires { Measured cluster × (index < cluster.messages) }
-    ensures { HandsListed (lent counts heads slots copies working (read_only texts) queue payloads answers) cluster index removes result }
+    ensures same { SameArrays arrays }
+    ensures hands { HandsListed (lent arrays) cluster index removes result }
 {
-    let message = load_message(queue, index as usize);
+    let message = load_message(arrays.queue, index as usize);
     let step = message_step(cluster, index, removes, message);
-    let local = receiver(heads, slots, step);
+    let local = receiver(arrays.heads, arrays.slots, step);
     if is_gone(cluster, step, local) {
-        return Ok(lose(counts, queue, payloads, cluster, step));
+        return Ok(lose(arrays.counts, arrays.queue, arrays.payloads, cluster, step));
     }
-    let effect = asked_effect(slots, copies, texts, cluster.servers, message, local, step);
-    let next = handled_move(cluster.servers, step.server, effect.result, message, local);
-    places_refusal(cluster, step.removes, next.sends)?;
-    let told = carry_out(
-        counts,
-        heads,
-        slots,
-        copies,
-        working,
-        texts,
-        queue,
-        payloads,
-        answers,
-        cluster,
+    let servers = cluster.servers;
+    let effect = asked_effect(
+        arrays.slots,
+        arrays.copies,
+        arrays.texts,
+        servers,
+        message,
+        local,
         step,
-        next,
-        effect.table,
     );
+    let next = handled_move(servers, step.server, effect.result, message, local);
+    places_refusal(cluster, step.removes, next.sends)?;
+    let told = carry_out(arrays, cluster, step, next, effect.table);
     Ok(report_of(told, step, effect))
 }
 
 // The message with this index is handed over; `copy` leaves it in the list.
-pub fn hand_line(
-    counts: &mut CountWords,
-    heads: &mut HeadWords,
-    slots: &mut SlotWords,
-    copies: &mut CopyBytes,
-    working: &mut WorkingBytes,
-    texts: &TextBytes,
-    queue: &mut QueueWords,
-    payloads: &mut PayloadBytes,
-    answers: &mut AnswerWords,
-    index: u32,
-    removes: bool,
-) -> Result<Report, Refusal>
-    ensures { Hands (lent counts heads slots copies working (read_only texts) queue payloads answers) index removes result }
+pub fn hand_line(arrays: &mut Arrays<'_>, index: u32, removes: bool) -> Result<Report, Refusal>
+    ensures same { SameArrays arrays }
+    ensures hands { Hands (lent arrays) index removes result }
 {
-    let cluster = load_counts(counts);
+    let cluster = load_counts(arrays.counts);
     if !standing(cluster) {
         return Err(Refusal::ClusterWrong);
     }
     message_refusal(cluster, index)?;
-    hand_listed(
-        counts, heads, slots, copies, working, texts, queue, payloads, answers, cluster, index,
-        removes,
-    )
+    hand_listed(arrays, cluster, index, removes)
 }

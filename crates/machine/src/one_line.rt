@@ -1,7 +1,6 @@
 // One line: refused, or a cluster made, or its plan carried out.
 ghost use Rattle.std.specs.Prelude.{◌≡◌, true, if◌then◌else◌, Some, None};
-ghost use Rattle.memory.specs.Lent.{was};
-ghost use Rattle.views.specs.Lent.{lent};
+ghost use Rattle.views.specs.Lent.{lent, SameArrays};
 ghost use Rattle.plans.specs.Arrays.{Measured};
 ghost use Rattle.runs.specs.Runs.{words_with, words_of};
 ghost use Rattle.machine.specs.Steps.{LinePlanned, is_planned};
@@ -13,10 +12,7 @@ use crate::fresh::create;
 use crate::handing::hand_line;
 use crate::numbers::{standing, within};
 use entries::{Key, Value};
-use memory::{
-    AnswerWords, CopyBytes, CountWords, Counts, HeadWords, PayloadBytes, QueueWords, SlotWords,
-    TextBytes, WorkingBytes,
-};
+use memory::{Arrays, CopyBytes, Counts, HeadWords, QueueWords, SlotWords};
 use parse::{Kind, Line};
 use plans::Plan;
 use plans::calls::plan_call;
@@ -94,84 +90,54 @@ fn plan_line(
 }
 
 // The cluster line: 2 where its numbers are out of range or a cluster stands.
-fn cluster_line(
-    counts: &mut CountWords,
-    heads: &mut HeadWords,
-    slots: &mut SlotWords,
-    copies: &mut CopyBytes,
-    queue: &mut QueueWords,
-    servers: u32,
-    buckets: u32,
-) -> Result<(), Refusal>
-    ensures { Clusters counts heads slots copies queue servers buckets result }
+fn cluster_line(arrays: &mut Arrays<'_>, servers: u32, buckets: u32) -> Result<(), Refusal>
+    ensures same { SameArrays arrays }
+    ensures clusters { Clusters (lent arrays) servers buckets result }
 {
-    if standing(load_counts(counts)) {
+    if standing(load_counts(arrays.counts)) {
         return Err(Refusal::ClusterWrong);
     }
     if within(MAX_SERVERS, servers) && within(MAX_BUCKETS, buckets) {
-        create(counts, heads, slots, copies, queue, servers, buckets);
+        create(arrays, servers, buckets);
         return Ok(());
     }
     Err(Refusal::ClusterWrong)
 }
 
 // A line that needs a cluster and hands no message over.
-fn planned_line(
-    counts: &mut CountWords,
-    heads: &mut HeadWords,
-    slots: &mut SlotWords,
-    copies: &mut CopyBytes,
-    working: &mut WorkingBytes,
-    texts: &mut TextBytes,
-    queue: &mut QueueWords,
-    payloads: &mut PayloadBytes,
-    answers: &mut AnswerWords,
-    line: Line,
-) -> Result<Report, Refusal>
+fn planned_line(arrays: &mut Arrays<'_>, line: Line) -> Result<Report, Refusal>
     requires { is_planned line.kind ≡ true }
-    ensures { RunsPlan (lent counts heads slots copies working texts queue payloads answers) line result }
+    ensures same { SameArrays arrays }
+    ensures runs { RunsPlan (lent arrays) line result }
 {
-    let cluster = load_counts(counts);
+    let cluster = load_counts(arrays.counts);
     if !standing(cluster) {
         return Err(Refusal::ClusterWrong);
     }
-    let plan = plan_line(heads, slots, copies, queue, cluster, line)?;
-    Ok(execute(
-        counts, heads, slots, copies, working, texts, queue, payloads, answers, cluster, plan,
-    ))
+    let plan = plan_line(
+        arrays.heads,
+        arrays.slots,
+        arrays.copies,
+        arrays.queue,
+        cluster,
+        line,
+    )?;
+    Ok(execute(arrays, cluster, plan))
 }
 
 // One line of a script.
-pub fn run_line(
-    counts: &mut CountWords,
-    heads: &mut HeadWords,
-    slots: &mut SlotWords,
-    copies: &mut CopyBytes,
-    working: &mut WorkingBytes,
-    texts: &mut TextBytes,
-    queue: &mut QueueWords,
-    payloads: &mut PayloadBytes,
-    answers: &mut AnswerWords,
-    line: Line,
-) -> Result<Report, Refusal>
-    ensures { RunsLine (lent counts heads slots copies working texts queue payloads answers) line result }
+pub fn run_line(arrays: &mut Arrays<'_>, line: Line) -> Result<Report, Refusal>
+    ensures same { SameArrays arrays }
+    ensures runs { RunsLine (lent arrays) line result }
 {
     match line.kind {
         Kind::Malformed => Err(Refusal::Malformed),
         Kind::Cluster => {
-            cluster_line(counts, heads, slots, copies, queue, line.first, line.second)?;
+            cluster_line(arrays, line.first, line.second)?;
             Ok(bare_report())
         }
-        Kind::Deliver => hand_line(
-            counts, heads, slots, copies, working, texts, queue, payloads, answers, line.first,
-            true,
-        ),
-        Kind::Copy => hand_line(
-            counts, heads, slots, copies, working, texts, queue, payloads, answers, line.first,
-            false,
-        ),
-        _ => planned_line(
-            counts, heads, slots, copies, working, texts, queue, payloads, answers, line,
-        ),
+        Kind::Deliver => hand_line(arrays, line.first, true),
+        Kind::Copy => hand_line(arrays, line.first, false),
+        _ => planned_line(arrays, line),
     }
 }

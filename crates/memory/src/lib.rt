@@ -71,6 +71,20 @@ pub type PayloadBytes = [u8; PAYLOADS_LEN];
 
 pub type AnswerWords = [u32; ANSWERS_LEN];
 
+// All of them, lent together.
+#[derive(Drop)]
+pub struct Arrays<'a> {
+    pub counts: &'a mut CountWords,
+    pub heads: &'a mut HeadWords,
+    pub slots: &'a mut SlotWords,
+    pub copies: &'a mut CopyBytes,
+    pub working: &'a mut WorkingBytes,
+    pub texts: &'a mut TextBytes,
+    pub queue: &'a mut QueueWords,
+    pub payloads: &'a mut PayloadBytes,
+    pub answers: &'a mut AnswerWords,
+}
+
 // The words of a call without their bytes: kind, bucket, how long the key is, and for the expected value and the new value
 // 0 where there is none, else one above its length.
 #[derive(Clone, Copy)]

@@ -1,15 +1,16 @@
 // The public calls for callers in other languages, who lend arrays of these sizes, no two of them overlapping, and the tally: a part of a
-// script, and its end. What a call counts is added to the lent tally.
+// script, and its end. What a call counts is added to the lent tally. The arrays are lent one by one: this is the C interface that crate
+// `script_c` exports.
 #![tactic(auto)]
 
 ghost use Rattle.memory.specs.Lent.{read_only};
-ghost use Rattle.views.specs.Lent.{lent};
+ghost use Rattle.views.specs.Lent.{lent_each};
 ghost use Rattle.feed.specs.Lent.{FeedsScript, FinishesScript};
 
 use feed::entry::{feed_value, finish_value};
 use memory::{
-    AnswerWords, CopyBytes, CountWords, HeadWords, PayloadBytes, QueueWords, SlotWords, TextBytes,
-    WorkingBytes,
+    AnswerWords, Arrays, CopyBytes, CountWords, HeadWords, PayloadBytes, QueueWords, SlotWords,
+    TextBytes, WorkingBytes,
 };
 use progress::{KeptLine, ReaderWords};
 use runs::Tally;
@@ -33,12 +34,20 @@ pub fn script_feed(
     input: &[u8],
     out: &mut [u8],
 ) -> usize
-    ensures { FeedsScript (lent counts heads slots copies working texts queue payloads answers) reader line tally (read_only input) out result }
+    ensures { FeedsScript (lent_each counts heads slots copies working texts queue payloads answers) reader line tally (read_only input) out result }
 {
-    let fed = feed_value(
-        counts, heads, slots, copies, working, texts, queue, payloads, answers, reader, line,
-        *tally, input, out,
-    );
+    let mut arrays = Arrays {
+        counts,
+        heads,
+        slots,
+        copies,
+        working,
+        texts,
+        queue,
+        payloads,
+        answers,
+    };
+    let fed = feed_value(&mut arrays, reader, line, *tally, input, out);
     let change = fed.change;
     add(tally, change);
     fed.taken
@@ -61,12 +70,20 @@ pub fn script_finish(
     tally: &mut Tally,
     out: &mut [u8],
 ) -> usize
-    ensures { FinishesScript (lent counts heads slots copies working texts queue payloads answers) reader line tally out result }
+    ensures { FinishesScript (lent_each counts heads slots copies working texts queue payloads answers) reader line tally out result }
 {
-    let fed = finish_value(
-        counts, heads, slots, copies, working, texts, queue, payloads, answers, reader, line,
-        *tally, out,
-    );
+    let mut arrays = Arrays {
+        counts,
+        heads,
+        slots,
+        copies,
+        working,
+        texts,
+        queue,
+        payloads,
+        answers,
+    };
+    let fed = finish_value(&mut arrays, reader, line, *tally, out);
     let change = fed.change;
     add(tally, change);
     fed.written

@@ -1,8 +1,9 @@
-// The calls of crate `script`, exported for programs in other languages, who lend arrays of these sizes, no two of them overlapping.
+// The calls of crate `script`, exported for programs in other languages, who lend arrays of these sizes, no two of them overlapping. The
+// arrays are lent one by one: this is the C interface.
 #![tactic(auto)]
 
 ghost use Rattle.memory.specs.Lent.{read_only};
-ghost use Rattle.views.specs.Lent.{lent};
+ghost use Rattle.views.specs.Lent.{lent_each};
 ghost use Rattle.feed.specs.Lent.{FeedsScript, FinishesScript};
 
 use memory::{
@@ -31,7 +32,7 @@ pub extern "C" fn script_feed(
     input: &[u8],
     out: &mut [u8],
 ) -> usize
-    ensures { FeedsScript (lent counts heads slots copies working texts queue payloads answers) reader line tally (read_only input) out result }
+    ensures { FeedsScript (lent_each counts heads slots copies working texts queue payloads answers) reader line tally (read_only input) out result }
 {
     script::script_feed(
         counts, heads, slots, copies, working, texts, queue, payloads, answers, reader, line,
@@ -57,7 +58,7 @@ pub extern "C" fn script_finish(
     tally: &mut Tally,
     out: &mut [u8],
 ) -> usize
-    ensures { FinishesScript (lent counts heads slots copies working texts queue payloads answers) reader line tally out result }
+    ensures { FinishesScript (lent_each counts heads slots copies working texts queue payloads answers) reader line tally out result }
 {
     script::script_finish(
         counts, heads, slots, copies, working, texts, queue, payloads, answers, reader, line,

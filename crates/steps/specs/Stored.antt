@@ -4,7 +4,6 @@ use Rattle.server.specs.declared.Version.{Version}
 use Rattle.server.specs.declared.Round.{Round}
 use Rattle.server.specs.declared.Call.{Call}
 use Rattle.memory.specs.Layout.{slot_of, put_head, put_version, put_round, put_call}
-use Rattle.memory.specs.Lent.{Lent, was, is}
 use Rattle.moves.specs.declared.Local.{Local}
 use Rattle.moves.specs.declared.Move.{Move}
 use Rattle.views.specs.Changes.{put_local, slots_after, kept_from}
@@ -21,10 +20,6 @@ pub record MovedServer (heads slots copies working payloads : List ℕ) (buckets
   pub head : heads' ≡ put_head heads s v.local.head
   pub slot : slots' ≡ slots_after slots buckets s (slot_of s b) v
   pub copy : copies' ≡ kept_from copies working payloads (slot_of s b) i v.keeps
-
-abbrev pub MovesServer : (heads slots copies working payloads : Lent) → (buckets s b i : ℕ) → Move → Type 0
-MovesServer heads slots copies working payloads buckets s b i v =
-    MovedServer (was heads) (was slots) (was copies) (was working) (was payloads) buckets s b i v (is heads) (is slots) (is copies)
 
 -- a server's head and slots after a move
 pub record Settled (heads slots : List ℕ) (buckets s k : ℕ) (v : Move) (heads' slots' : List ℕ) : Type 0 where

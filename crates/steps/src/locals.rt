@@ -1,12 +1,11 @@
 // A server's head and one of its slots: stored together, and cleared when leading ends.
 ghost use Rattle.std.specs.Prelude.{◌≡◌, ◌<◌, ◌≤◌};
-ghost use Rattle.memory.specs.Layout.{server_room, bucket_room, slot_room, message_room};
-ghost use Rattle.memory.specs.Lent.{was, is, read_only};
+ghost use Rattle.memory.specs.Layout.{server_room, bucket_room, slot_room};
+ghost use Rattle.memory.specs.Lent.{was, is};
 ghost use Rattle.views.specs.Changes.{is_idle, cleared_slot, cleared_slots};
-ghost use Rattle.steps.specs.Stored.{Stored, put_slot, Settled, MovesServer};
+ghost use Rattle.steps.specs.Stored.{Stored, put_slot, Settled};
 
-use crate::contents::keep_copy;
-use memory::{CopyBytes, HeadWords, PayloadBytes, SlotWords, WorkingBytes, slot_of};
+use memory::{HeadWords, SlotWords, slot_of};
 use moves::nothing::{no_call, no_round};
 use moves::{Local, Move};
 use records::heads::store_head;
@@ -73,7 +72,7 @@ pub fn clear_slots(slots: &mut SlotWords, server: usize, buckets: usize)
 
 // A server's head and slots after a move.
 #[tactic(auto, unfolding(views::specs::Changes::slots_after))]
-fn settle(
+pub fn settle(
     heads: &mut HeadWords,
     slots: &mut SlotWords,
     buckets: usize,
@@ -88,25 +87,4 @@ fn settle(
     if next.ceases {
         clear_slots(slots, server, buckets);
     }
-}
-
-// A move at this server and bucket, whose working content is filled; `place` is that of the message handed over.
-pub fn move_server(
-    heads: &mut HeadWords,
-    slots: &mut SlotWords,
-    copies: &mut CopyBytes,
-    working: &WorkingBytes,
-    payloads: &PayloadBytes,
-    buckets: usize,
-    server: usize,
-    bucket: usize,
-    place: usize,
-    next: Move,
-)
-    requires { (server < server_room) × ((bucket < bucket_room) × ((buckets ≤ bucket_room) × (place < message_room))) }
-    ensures { MovesServer heads slots copies (read_only working) (read_only payloads) buckets server bucket place next }
-{
-    let slot = slot_of(server, bucket);
-    keep_copy(copies, working, payloads, slot, place, next.keeps);
-    settle(heads, slots, buckets, server, slot, next);
 }

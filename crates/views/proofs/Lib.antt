@@ -9,3 +9,4 @@ pub mod Words
 pub mod Queue
 pub mod Sends
 pub mod Answers
+pub mod Lent

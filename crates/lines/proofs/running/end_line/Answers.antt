@@ -11,13 +11,13 @@ pub overflow_cast-number : goal.overflow_cast-number
 overflow_cast-number c = omega (arith, c.requires.0)
 
 pub put_outcome-written-requires : goal.put_outcome-written-requires
-put_outcome-written-requires c = (c.requires.1, few_answers c.step-stepped.ensures)
+put_outcome-written-requires c = (c.requires.1, few_answers c.step-stepped.ensures.performs)
 
-pub returns : goal.returns
-returns c =
+pub returns-clause-ends : goal.returns-clause-ends
+returns-clause-ends c =
     record {
       step = c.step-stepped.result;
-      performs = c.step-stepped.ensures;
+      performs = c.step-stepped.ensures.performs;
       counted = refl;
       told = c.put_outcome-written.ensures;
     }

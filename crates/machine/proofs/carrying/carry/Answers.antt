@@ -2,5 +2,5 @@
 use Rattle.runs.proofs.Reporting.{reported}
 use Rattle.machine.proofs.carrying.carry.Goals as goal
 
-pub returns : goal.returns
-returns c = reported c.args.carried.effect c.carry_out-told.ensures c.report_of.ensures
+pub returns-clause-carries : goal.returns-clause-carries
+returns-clause-carries c = reported c.args.carried.effect c.carry_out-told.ensures.carries c.report_of.ensures

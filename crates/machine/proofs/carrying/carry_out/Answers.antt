@@ -2,6 +2,8 @@
 use Rattle.machine.proofs.Assembling.{carried_out}
 use Rattle.machine.proofs.carrying.carry_out.Goals as goal
 
-pub returns : goal.returns
-returns c =
-    record { is = λ f. carried_out _ _ _ _ _ _ _ _ _ _ _ _ f _ _ _ _ _ _ _ _ _ _ _ _ c.slot_of-slot.ensures c.place_of-place.ensures.0 c.fill_work.ensures c.carry_on.ensures }
+pub returns-clause-carries : goal.returns-clause-carries
+returns-clause-carries c =
+    record {
+      is = λ f. carried_out _ _ _ _ _ _ _ _ _ _ _ _ f _ _ _ _ _ _ _ _ _ _ _ _ _ _ c.slot_of-slot.ensures c.place_of-place.ensures.0 c.fill_work.ensures c.carry_on.ensures.carries;
+    }

@@ -12,8 +12,8 @@ receiver-local-requires c = step_slot c.args.cluster c.args.index c.args.removes
 pub lose-requires : goal.lose-requires
 lose-requires c = losable c.args.cluster c.args.index c.args.removes _ _ c.message_step-step.ensures c.requires.0 c.requires.1
 
-pub returns-then-is_gone : goal.returns-then-is_gone
-returns-then-is_gone c =
+pub returns-then-is_gone-clause-hands : goal.returns-then-is_gone-clause-hands
+returns-then-is_gone-clause-hands c =
     listed_lost _ _ _ _ _ _ _ _ _ c.args.cluster c.args.index c.args.removes _ _ _ c.load_message-message.ensures c.message_step-step.ensures c.receiver-local.ensures (sym c.is_gone.ensures ∙ c.if-is_gone.true) c.lose.ensures
 
 pub asked_effect-effect-requires : goal.asked_effect-effect-requires
@@ -22,8 +22,8 @@ asked_effect-effect-requires c = step_slot c.args.cluster c.args.index c.args.re
 pub places_refusal-requires : goal.places_refusal-requires
 places_refusal-requires c = (c.requires.0.servers, c.requires.0.messages)
 
-pub returns-in_err-places_refusal : goal.returns-in_err-places_refusal
-returns-in_err-places_refusal c =
+pub returns-in_err-places_refusal-clause-hands : goal.returns-in_err-places_refusal-clause-hands
+returns-in_err-places_refusal-clause-hands c =
     let p = err_from_is_err_and c.from_residual.result c.from_residual.ensures.1 in
     rw (p.1, p.2)
     (listed_handed _ _ _ _ _ _ _ _ _ c.args.cluster c.args.index c.args.removes _ _ _ c.load_message-message.ensures c.message_step-step.ensures c.receiver-local.ensures c.asked_effect-effect.result (sym c.is_gone.ensures ∙ c.if-is_gone.false) c.asked_effect-effect.ensures
@@ -33,7 +33,7 @@ pub carry_out-told-requires : goal.carry_out-told-requires
 carry_out-told-requires c =
     carries _ _ (handable c.args.cluster c.args.index c.args.removes _ _ c.message_step-step.ensures c.requires.0 c.requires.1 _ (sym c.is_gone.ensures ∙ c.if-is_gone.false)) c.places_refusal.ensures c.in_ok-places_refusal.was
 
-pub returns : goal.returns
-returns c =
+pub returns-clause-hands : goal.returns-clause-hands
+returns-clause-hands c =
     listed_handed _ _ _ _ _ _ _ _ _ c.args.cluster c.args.index c.args.removes _ _ _ c.load_message-message.ensures c.message_step-step.ensures c.receiver-local.ensures c.asked_effect-effect.result (sym c.is_gone.ensures ∙ c.if-is_gone.false) c.asked_effect-effect.ensures
-    (handled _ _ _ _ _ _ c.asked_effect-effect.result _ _ _ _ c.handled_move-next.ensures c.places_refusal.ensures c.in_ok-places_refusal.was (reported c.asked_effect-effect.result c.carry_out-told.ensures c.report_of.ensures))
+    (handled _ _ _ _ _ _ c.asked_effect-effect.result _ _ _ _ c.handled_move-next.ensures c.places_refusal.ensures c.in_ok-places_refusal.was (reported c.asked_effect-effect.result c.carry_out-told.ensures.carries c.report_of.ensures))
