@@ -17,7 +17,7 @@ use Rattle.print.specs.Answers.{result_for, word_for}
 use Rattle.print.specs.Room.{answer_room}
 use Rattle.print.proofs.Printing.{Next}
 use Rattle.print.proofs.Room.{answer_room_lem}
-use Rattle.print.proofs.Texts.{word_of_lem, key_text}
+use Rattle.print.proofs.Texts.{word_of_lem, word_none, key_text}
 use Rattle.output_found.specs.Answers.{item_of, result_of, answer_of}
 
 -- ---- pieces
@@ -113,15 +113,8 @@ unfolding result_of result_for data_of
 data_keys o l e = rw e
 
 pub data_none : (o : ResultWord) (l : List (List ℕ)) → (o ≡ O.Value → ⊥) → (o ≡ O.Keys → ⊥) → (o ≡ O.Absent → ⊥) → data_of (result_of o l) ≡ []
-unfolding result_of result_for data_of
-data_none O.Value l h k e = absurd (h refl)
-data_none O.Keys l h k e = absurd (k refl)
-data_none O.Absent l h k e = absurd (e refl)
-data_none O.Done l h k e = refl
-data_none O.Mismatch l h k e = refl
-data_none O.Full l h k e = refl
-data_none O.NotDone l h k e = refl
-data_none O.Unknown l h k e = refl
+unfolding result_of
+data_none o l = word_none o (item_of l 0) l
 
 -- ---- the same answer as with its data by value: where the word asks for them, the first item is the value, and the items are the keys
 

@@ -185,14 +185,14 @@ deliver_read input from rest {e} {n} {next} h v p q r s =
     let m : number (take e rest) ≡ some n = was_some (number (take e rest)) r in
     let d : (length (take e rest) ≤ 9) × (decimal_from 0 (take e rest) ≡ some n) = number_digits (take e rest) m in
     let number_there : NumberAt input (from + 8) n (from + 8 + e) =
-        record {
-          onward = omega arith;
-          short = omega (arith, d.0, length-take-le e rest (omega arith));
-          within = omega (arith, size, length-drop from input);
-          feed = sym (get_or-drop (from + 8) input e 0) ∙ rw past (rw f at (there rest (rw f q)));
-          digits = rw l d.1;
-          reads = rw l m;
-        } in
+    record {
+      onward = omega arith;
+      short = omega (arith, d.0, length-take-le e rest (omega arith));
+      within = omega (arith, size, length-drop from input);
+      feed = sym (get_or-drop (from + 8) input e 0) ∙ rw past (rw f at (there rest (rw f q)));
+      digits = rw l d.1;
+      reads = rw l m;
+    } in
     record {
       to = from + 8 + e;
       next = s;

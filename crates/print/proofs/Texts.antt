@@ -2,7 +2,7 @@
 use mathlib.Core.Path.{◌≡◌, refl, sym, ap, ◌∙◌}
 use mathlib.Core.List.{List, [], ◌∷◌, ◌++◌, map, append_assoc}
 use mathlib.Core.Option.{some}
-use Prim.Native.Nat.{ℕ, ◌≤◌, ◌<◌, ◌+◌, min}
+use Prim.Native.Nat.{ℕ, ◌<◌, ◌+◌, min}
 use native.Mathlib.Omega.{arith}
 use native.Mathlib.Numerals.{add-one}
 use mathlib.Core.Bool.{true, false}
@@ -89,7 +89,7 @@ used_keys l n h e =
 
 -- ---- the data of an answer
 
-word_none : (o : ResultWord) (v : List ℕ) (l : List (List ℕ)) → (o ≡ O.Value → ⊥) → (o ≡ O.Keys → ⊥) → (o ≡ O.Absent → ⊥) → data_of (result_for o v l) ≡ []
+pub word_none : (o : ResultWord) (v : List ℕ) (l : List (List ℕ)) → (o ≡ O.Value → ⊥) → (o ≡ O.Keys → ⊥) → (o ≡ O.Absent → ⊥) → data_of (result_for o v l) ≡ []
 unfolding result_for data_of
 word_none O.Value v l h k m = absurd (h refl)
 word_none O.Keys v l h k m = absurd (k refl)

@@ -1,5 +1,4 @@
 -- `digits::number` meets its contract: by the number of digits, and the first of them.
-use borrow.Author.Rules.{rules}
 use mathlib.Core.Path.{ap, ◌∙◌}
 use native.Mathlib.Omega.{arith}
 use Rattle.parse.specs.Digits.{optional}

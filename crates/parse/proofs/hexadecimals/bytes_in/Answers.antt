@@ -1,7 +1,7 @@
 -- `hexadecimals::bytes_in` meets its contract: byte by byte.
 use mathlib.Core.Path.{◌∙◌}
 use native.Mathlib.Omega.{arith}
-use Rattle.std.proofs.Common.{◌≡◌, ◌<◌, ◌≢◌, length, get_or, get_or-set_other, get_or-set_same, length-set, below_more}
+use Rattle.std.proofs.Common.{◌<◌, ◌≢◌, length, get_or, get_or-set_other, get_or-set_same, length-set, below_more}
 use Rattle.std.proofs.lemmas.List.FromFn.{fill_by_all}
 use Rattle.parse.specs.Digits.{pair_bytes}
 use Rattle.parse.proofs.hexadecimals.bytes_in.Goals as goal

@@ -1,7 +1,5 @@
 -- `shapes::with_two` meets its contract: where the next word ends.
-use borrow.Author.Rules.{rules}
-use mathlib.Core.Path.{sym, ◌∙◌}
-use lib.Seq.{length-take-le}
+use mathlib.Core.Path.{◌∙◌}
 use Rattle.model.specs.Parse.{line_of}
 use Rattle.parse.proofs.Splitting.{words_cut, words_whole}
 use Rattle.parse.proofs.shapes.with_two.Goals as goal

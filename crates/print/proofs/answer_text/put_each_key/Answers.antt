@@ -1,8 +1,5 @@
 -- `answer_text::put_each_key` meets its contract: key by key.
-use mathlib.Core.List.{map}
-use native.Mathlib.Omega.{arith}
 use lib.ListN.{length-map}
-use Rattle.entries.specs.Decoded.{key_bytes}
 use Rattle.model.specs.Print.{key_list}
 use Rattle.print.proofs.Printing.{each_starts, each_fits, each_goes_on, each_ends, each_size}
 use Rattle.print.proofs.Texts.{next_key, keys_end}
