@@ -19,6 +19,10 @@ take_between l from to h =
     let e : from + (to - from) ≡ to = omega arith in
     subst (λ (n : ℕ). take n l ≡ take from l ++ between l from to) e (take-add from (to - from) l)
 
+-- the slice from `from` on is all that lies there
+pub rest_whole : (input : List ℕ) (from : ℕ) → take (length input - from) (drop from input) ≡ drop from input
+rest_whole input from = take_all (length input - from) (drop from input) (omega (arith, length-drop from input))
+
 -- what the search from `from` on found
 pub feed_found : (input : List ℕ) (from : ℕ) {i : ℕ} → from ≤ length input → Some i ≡ position (λ b. eqb b 10) (drop from input) → i < length (drop from input) → FeedAt input from (from + i)
 feed_found input from {i} h e w =

@@ -55,15 +55,15 @@ put_cut l n b {k} {mid} s h e m =
     either (no f) = inr (omega arith)
 
 -- a count above the room counts as all of it
-pub present_cut : (l : List ℕ) (count : ℕ) → take (min (length l) count) l ≡ present_line (held l count)
+pub present_cut : (l : List ℕ) (count : ℕ) → take (min count (length l)) l ≡ present_line (held l count)
 unfolding present_line
 present_cut l count = go (dec_le (length l) count)
   where
-    go : Dec (length l ≤ count) → take (min (length l) count) l ≡ present_line (held l count)
-    go (yes h) = rw (min-eq_left h, take_all (length l) l (le_refl (length l)), take_all count l h)
+    go : Dec (length l ≤ count) → take (min count (length l)) l ≡ present_line (held l count)
+    go (yes h) = rw (min-eq_right h, take_all (length l) l (le_refl (length l)), take_all count l h)
     go (no h) =
         let w : count ≤ length l = omega arith in
-        rw (min-eq_right w)
+        rw (min-eq_left w)
 
 -- ---- what is held stands for what is kept
 

@@ -9,4 +9,4 @@ pub returns-then-count-ge-KEPT_LEN : goal.returns-then-count-ge-KEPT_LEN
 returns-then-count-ge-KEPT_LEN c = sym (put_none _ _ (omega arith))
 
 pub returns : goal.returns
-returns c = put_cut _ c.args.count _ (search rules) (omega arith) c.min-kept.ensures ?
+returns c = put_cut _ c.args.count _ (search rules) (omega arith) c.min-kept.ensures c.copy_from_slice.ensures.after
