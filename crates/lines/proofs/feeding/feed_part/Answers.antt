@@ -2,7 +2,7 @@
 use mathlib.Core.Path.{refl, ap}
 use native.Mathlib.Omega.{arith}
 use Rattle.views.proofs.Lent.{same_on}
-use Rattle.lines.proofs.Advancing.{going_starts, going_on, going_ends}
+use Rattle.lines.proofs.Advancing.{going_starts, going_on, is_none, going_ends}
 use Rattle.lines.proofs.feeding.feed_part.Goals as goal
 
 pub loop-after-init : goal.loop-after-init
@@ -23,7 +23,4 @@ keep_rest-requires c = c.loop-after.invariant.going.within
 
 pub returns-clause-feeds : goal.returns-clause-feeds
 returns-clause-feeds c =
-    going_ends _ _ _ _ _ _ _ _ _ _ _ _ _ _ _ _ _ _ (ap (λ x. x.tally) c.begun-progress.ensures) c.loop-after.invariant.going refl c.in-None.ensures.advances c.keep_rest.ensures
-
-pub returns-clause-same : goal.returns-clause-same
-returns-clause-same c = same_on c.loop-after.invariant.same c.in-None.ensures.same
+    going_ends _ _ _ _ _ _ _ _ _ _ _ _ _ _ _ _ _ _ (ap (λ x. x.tally) c.begun-progress.ensures) c.loop-after.invariant.going (is_none _ c.in_default.not-Some) c.advance.ensures.advances c.keep_rest.ensures
