@@ -203,6 +203,11 @@ module _ (w : Session) (input out : List ℕ) (m : Memory) (l buffer out' : List
   rest_ends buffer' p' (waits n feed h k e d) = rw d (rest_kept buffer' n feed h k e)
   rest_ends buffer' p' (passes h e d) = rw (d, e) (rest_passed h)
 
+-- what is not some progress is none
+pub is_none : (r : Option Progress) → ((x : Progress) → r ≡ Some x → ⊥) → r ≡ None
+is_none (Some x) h = absurd (h x refl)
+is_none None h = refl
+
 -- the last step does nothing
 pub going_ends : (m : Memory) (l : List ℕ) (u t : Tally) (n : ℕ) (h : Held) (input out : List ℕ) (v : Session) (mid : List ℕ) (p : Progress) (m' : Memory) (l' buffer out' : List ℕ) (r : Option Progress) (buffer' : List ℕ) (p' : Progress)
     → u ≡ t → Going (session m l u n h) input out v mid p → r ≡ None

@@ -19,14 +19,13 @@ take_between l from to h =
     let e : from + (to - from) ≡ to = omega arith in
     subst (λ (n : ℕ). take n l ≡ take from l ++ between l from to) e (take-add from (to - from) l)
 
-cut_whole : (input : List ℕ) (from : ℕ) → take (length input - from) (drop from input) ≡ drop from input
-cut_whole input from = take_all (length input - from) (drop from input) (rw length-drop (omega arith))
+-- the slice from `from` on is all that lies there
+pub rest_whole : (input : List ℕ) (from : ℕ) → take (length input - from) (drop from input) ≡ drop from input
+rest_whole input from = take_all (length input - from) (drop from input) (omega (arith, length-drop from input))
 
 -- what the search from `from` on found
-pub feed_found : (input : List ℕ) (from : ℕ) {i : ℕ} → from ≤ length input → Some i ≡ position (λ b. eqb b 10) (take (length input - from) (drop from input)) → i < length (take (length input - from) (drop from input)) → FeedAt input from (from + i)
-feed_found input from {i} h d v =
-    let e : Some i ≡ position (λ b. eqb b 10) (drop from input) = rw (cut_whole input from) at d in
-    let w : i < length (drop from input) = rw (cut_whole input from) at v in
+pub feed_found : (input : List ℕ) (from : ℕ) {i : ℕ} → from ≤ length input → Some i ≡ position (λ b. eqb b 10) (drop from input) → i < length (drop from input) → FeedAt input from (from + i)
+feed_found input from {i} h e w =
     let f : first_feed (drop from input) ≡ i = feed_place (drop from input) e in
     let k : from + i - from ≡ i = omega arith in
     record {
@@ -34,9 +33,8 @@ feed_found input from {i} h d v =
       stops = λ z. sym (get_or-drop from input i 0) ∙ (rw f at (there (drop from input) (rw f w)));
     }
 
-pub feed_missing : (input : List ℕ) (from : ℕ) → from ≤ length input → None ≡ position (λ b. eqb b 10) (take (length input - from) (drop from input)) → FeedAt input from (length input)
-feed_missing input from h d =
-    let e : None ≡ position (λ b. eqb b 10) (drop from input) = rw (cut_whole input from) at d in
+pub feed_missing : (input : List ℕ) (from : ℕ) → from ≤ length input → None ≡ position (λ b. eqb b 10) (drop from input) → FeedAt input from (length input)
+feed_missing input from h e =
     let n : length input - from ≡ length (drop from input) = sym (length-drop from input) in
     record {
       bytes = record { onward = h; within = omega arith; plain = rw (n, take_all (length (drop from input)) (drop from input) (omega arith)) (no_feed_there (drop from input) e) };

@@ -7,7 +7,7 @@ use Prim.Native.Nat.{ℕ, suc, ◌+◌, ◌-◌, ◌≤◌, ◌<◌, min}
 use native.Mathlib.Omega.{arith}
 use native.Mathlib.Numerals.{add-one}
 use native.Mathlib.Decide.{dec_le}
-use native.Mathlib.Nat.{add-zero}
+use native.Mathlib.Nat.{min-eq_left, min-eq_right, le_refl, add-zero}
 use lib.Dec.{ltb}
 use lib.ListN.{length, take, drop, set, length-set, take-append-drop, drop_of_length-le}
 use lib.Seq.{take_all, take-suc-set, length-take-le, sets, sets-eq, drop-drop}
@@ -55,15 +55,15 @@ put_cut l n b {k} {mid} s h e m =
     either (no f) = inr (omega arith)
 
 -- a count above the room counts as all of it
-pub present_cut : (l : List ℕ) (count : ℕ) {n : ℕ} → n ≡ min count (length l) → take n l ≡ present_line (held l count)
+pub present_cut : (l : List ℕ) (count : ℕ) → take (min count (length l)) l ≡ present_line (held l count)
 unfolding present_line
-present_cut l count {n} e = go (dec_le (length l) count)
+present_cut l count = go (dec_le (length l) count)
   where
-    go : Dec (length l ≤ count) → take n l ≡ present_line (held l count)
-    go (yes h) = take_all n l (omega arith) ∙ sym (take_all count l h)
+    go : Dec (length l ≤ count) → take (min count (length l)) l ≡ present_line (held l count)
+    go (yes h) = rw (min-eq_right h, take_all (length l) l (le_refl (length l)), take_all count l h)
     go (no h) =
-        let m : n ≡ count = omega arith in
-        rw m
+        let w : count ≤ length l = omega arith in
+        rw (min-eq_left w)
 
 -- ---- what is held stands for what is kept
 

@@ -3,4 +3,4 @@ use Rattle.lines.proofs.Holding.{present_cut}
 use Rattle.lines.proofs.keeping.kept_bytes.Goals as goal
 
 pub returns : goal.returns
-returns c = present_cut _ _ c.min.ensures
+returns c = rw c.min.ensures (present_cut _ _)
