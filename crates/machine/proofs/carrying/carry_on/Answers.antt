@@ -9,14 +9,15 @@ send-count-requires c =
 
 pub returns-clause-carries : goal.returns-clause-carries
 returns-clause-carries c =
-    let slot = c.slot_of-slot.ensures in
-    (record {
-      server = record {
-        listed = c.answer-written.ensures;
-        moves = record { head = c.settle.ensures.head; slot = rw (← slot) c.settle.ensures.slot; copy = rw (← slot) c.keep_copy.ensures };
-      };
-      flown = rw (← c.leave-left.ensures.is) c.send-count.ensures;
-      counted = rw (c.store_counts.ensures, c.next_counts.ensures);
-      sends = c.send_count.ensures;
-    },
-    (refl, refl))
+    let slot = c.slot_of-slot.ensures in (
+      record {
+        server = record {
+          listed = c.answer-written.ensures;
+          moves = record { head = c.settle.ensures.head; slot = rw (← slot) c.settle.ensures.slot; copy = rw (← slot) c.keep_copy.ensures };
+        };
+        flown = rw (← c.leave-left.ensures.is) c.send-count.ensures;
+        counted = rw (c.store_counts.ensures, c.next_counts.ensures);
+        sends = c.send_count.ensures;
+      },
+      (refl, refl),
+    )
