@@ -1,5 +1,6 @@
 -- The handling by kind number is the handling of the messages of crates/model.
-use Rattle.std.proofs.Common.{◌≡◌, ℕ, refl, sym, ap, ◌∙◌}
+use Rattle.std.proofs.Common.{◌≡◌, ℕ, ◌<◌, ◌≤◌, false, refl, sym, ap, ◌∙◌, le-leb}
+use borrow.Author.Tests.{lt-leb}
 use Rattle.model.specs.Cluster as cluster
 use Rattle.server.specs.Views.{among}
 use Rattle.rounds.specs.Kinds.{handling_in, handling_of}
@@ -18,3 +19,8 @@ handling_means cluster.nack_read = refl
 
 pub handling_told : (kind : ℕ) (body : cluster.Body) → cluster.kind_number body ≡ kind → handling_of body ≡ handling_in kind
 handling_told kind body e = sym (handling_means body) ∙ ap handling_in e
+
+-- a kind past the votes
+pub past_votes : (k : ℕ) → 3 < k → 1 ≤ k → among 3 k ≡ false
+unfolding among
+past_votes k hi lo = rw (among, le-leb _ _ lo, lt-leb _ _ hi)
