@@ -10,8 +10,8 @@ use Rattle.feed.proofs.entry.finish_value.Goals as goal
 pub returns-then-out-lt-FINISH_ROOM-clause-finishes : goal.returns-then-out-lt-FINISH_ROOM-clause-finishes
 returns-then-out-lt-FINISH_ROOM-clause-finishes c = rw c.change.ensures (end_waits _ _ _ _ _ _ _ _ _ _ _ _ _ c.if-out-lt-FINISH_ROOM.true)
 
-pub slice_bounds-feed_part-end : goal.slice_bounds-feed_part-end
-slice_bounds-feed_part-end c = sym (length-take-le line_room c.args.out.now (omega (arith, c.if-out-lt-FINISH_ROOM.false)))
+pub slice_bounds-feed_part-end-2 : goal.slice_bounds-feed_part-end-2
+slice_bounds-feed_part-end-2 c = sym (length-take-le line_room c.args.out.now (omega (arith, c.if-out-lt-FINISH_ROOM.false)))
 
 pub put_end-written-requires : goal.put_end-written-requires
 put_end-written-requires c = tally_fits _ _ c.args.out.now _ _ _ _ c.if-out-lt-FINISH_ROOM.false c.feed_part-progress.ensures.feeds c.out-1.given.0
