@@ -4,16 +4,15 @@
 ghost use Rattle.std.specs.Prelude.{◌≡◌, true, ◌≢◌, ◌<◌, ◌≤◌, ◌+◌, ◌-◌, eqb};
 ghost use Rattle.server.specs.Views.{chosen};
 ghost use Rattle.blocks.specs.Blocks.{block};
-ghost use Rattle.memory.specs.Layout.{server_room, bucket_room, slot_room, message_room, content_size, slot_of};
+ghost use Rattle.memory.specs.Layout.{slot_room, message_room, content_size};
 ghost use Rattle.memory.specs.Lent.{was, is, read_only};
 ghost use Rattle.refusals.specs.Refusals.{send_count};
 ghost use Rattle.views.specs.Queue.{without_message, message_to, sent_to, spread, broadcast_of, reply_of, sent};
 ghost use Rattle.flight.specs.Flown.{Flown, old_flight};
 
-use memory::{CopyBytes, PayloadBytes, QueueWords, WorkingBytes, slot_of};
+use memory::{CopyBytes, PayloadBytes, QueueWords, WorkingBytes};
 use messages::{append_message, remove_message};
 use moves::Move;
-use plans::Step;
 use server::Message;
 use server::codes::{NO_MESSAGE, PLEASE_VOTE};
 use server::kinds::is_broadcast;
@@ -128,7 +127,7 @@ fn send_all(
     sent
 }
 
-// What a step sends: a broadcast with the working content of its slot, or a reply with the content of the slot's copy.
+// What a step sends: a broadcast with the working content of the slot, or a reply with the content of its copy.
 #[tactic(auto, using(crate::proofs::Sends::sends_nothing))]
 pub fn send(
     queue: &mut QueueWords,
@@ -137,21 +136,36 @@ pub fn send(
     copies: &CopyBytes,
     count: usize,
     servers: u32,
-    step: Step,
+    me: u32,
+    bucket: u32,
+    slot: usize,
+    asked: Message,
     next: Move,
 ) -> usize
-    requires { ((step.server < server_room) × (step.bucket < bucket_room)) × ((step.server < servers) × (count + send_count servers next.sends ≤ message_room)) }
-    ensures { Flown (sent servers step.server step.bucket (slot_of step.server step.bucket) step.asked next working.now copies.now (old_flight queue payloads count)) (is queue) (is payloads) result }
+    requires { (slot < slot_room) × ((me < servers) × (count + send_count servers next.sends ≤ message_room)) }
+    ensures { Flown (sent servers me bucket slot asked next working.now copies.now (old_flight queue payloads count)) (is queue) (is payloads) result }
 {
     if next.sends == NO_MESSAGE {
         return count;
     }
-    let slot = slot_of(step.server as usize, step.bucket as usize);
     if is_broadcast(next.sends) {
-        let message = broadcast_of(step.server, step.bucket, next);
-        return send_all(queue, payloads, working, count, message, servers, slot);
+        return send_all(
+            queue,
+            payloads,
+            working,
+            count,
+            broadcast_of(me, bucket, next),
+            servers,
+            slot,
+        );
     }
-    let reply = reply_of(step.server, step.asked, next);
-    append_message(queue, payloads, count, reply, copies, slot);
+    append_message(
+        queue,
+        payloads,
+        count,
+        reply_of(me, asked, next),
+        copies,
+        slot,
+    );
     count + 1
 }

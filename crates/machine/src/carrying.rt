@@ -72,7 +72,10 @@ fn carry_on(arrays: &mut Arrays<'_>, cluster: Counts, step: Step, next: Move, pl
         arrays.copies,
         left,
         cluster.servers,
-        step,
+        step.server,
+        step.bucket,
+        slot,
+        step.asked,
         next,
     );
     store_counts(arrays.counts, next_counts(cluster, count, step.calls));

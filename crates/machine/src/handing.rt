@@ -47,7 +47,9 @@ fn hand_listed(
     Ok(report_of(told, step, effect))
 }
 
-// The message with this index is handed over; `copy` leaves it in the list.
+// The message with this index is handed over; `copy` leaves it in the list. Most lines are such: where it is a call of its own, each of
+// their reports is copied twice more.
+#[inline(always)]
 pub fn hand_line(arrays: &mut Arrays<'_>, index: u32, removes: bool) -> Result<Report, Refusal>
     ensures same { SameArrays arrays }
     ensures hands { Hands (lent arrays) index removes result }

@@ -1,8 +1,6 @@
 -- What a report's refusal or answers are in print.
-use Rattle.std.specs.Prelude.{Result, Ok, Err, IfOk}
-use Rattle.std.proofs.lemmas.Result.{IfOk-at_ok}
-use Rattle.model.specs.Measures.{most_answers}
-use mathlib.Core.Path.{◌≡◌, ◌∙◌}
+use Rattle.std.specs.Prelude.{Result, Ok, Err}
+use mathlib.Core.Path.{◌≡◌}
 use mathlib.Core.List.{List, []}
 use Prim.Native.Nat.{ℕ, ◌≤◌, ◌<◌, ◌^◌}
 use native.Mathlib.Omega.{arith}
@@ -57,11 +55,7 @@ module _ (line : ℕ) (l : List ℕ) where
   unfolding outcome_in outcome_text
   report_told i d = rw i d
 
-pub none_told : (l : List ℕ) (r : Report) (out : List ℕ) (at : ℕ) → r.answers ≡ 0 → Told (report_text r l) out at out at
-none_told l r out at none =
+pub none_told : (r : Report) (l out : List ℕ) (at : ℕ) → r.answers ≡ 0 → Told (report_text r l) out at out at
+none_told r l out at none =
     let e : report_text r l ≡ [] = rw none (no_texts l (value_bytes r.effect.value) (table_in r.effect.table)) in
     record { printed = printed_none out at e; within = omega arith }
-
--- the report of a line that is accepted counts few answers
-pub few_there : {q : Result Report Refusal} {r : Report} → q ≡ Ok r → IfOk q (λ x. x.answers ≤ most_answers) → r.answers ≤ most_answers
-few_there e h = IfOk-at_ok (λ x. x.answers ≤ most_answers) e h

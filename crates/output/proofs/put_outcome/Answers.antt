@@ -1,6 +1,6 @@
 -- `put_outcome` meets its contract: the refusal, or the answers.
 use native.Mathlib.Omega.{arith}
-use Rattle.output.proofs.Outcomes.{number_fits, refusal_told, report_told, few_there}
+use Rattle.output.proofs.Outcomes.{number_fits, refusal_told, report_told}
 use borrow.Author.Rules.{rules}
 use Rattle.output.proofs.put_outcome.Goals as goal
 
@@ -11,7 +11,7 @@ pub returns-in-Err : goal.returns-in-Err
 returns-in-Err c = refusal_told c.args.line _ c.in-Err.is (search rules) c.number.ensures c.put_refusal.ensures
 
 pub put_report-requires : goal.put_report-requires
-put_report-requires c = (c.requires.0, few_there c.in-Ok.is c.requires.1)
+put_report-requires c = (c.requires.0, rw c.in-Ok.is at c.requires.1)
 
 pub returns-in-Ok : goal.returns-in-Ok
 returns-in-Ok c = report_told c.args.line _ c.in-Ok.is c.put_report.ensures

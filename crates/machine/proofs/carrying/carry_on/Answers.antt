@@ -5,7 +5,7 @@ use Rattle.machine.proofs.carrying.carry_on.Goals as goal
 
 pub send-count-requires : goal.send-count-requires
 send-count-requires c =
-    ((omega arith, c.requires.0.bucket), (c.requires.0.server, room_left c.args.cluster c.args.step.removes c.args.step.index c.args.next.sends _ _ _ _ _ c.leave-left.ensures c.requires.0.room))
+    (omega arith, (c.requires.0.server, room_left c.args.cluster c.args.step.removes c.args.step.index c.args.next.sends _ _ _ _ _ c.leave-left.ensures c.requires.0.room))
 
 pub returns-clause-carries : goal.returns-clause-carries
 returns-clause-carries c =
@@ -15,7 +15,7 @@ returns-clause-carries c =
           listed = c.answer-written.ensures;
           moves = record { head = c.settle.ensures.head; slot = rw (← slot) c.settle.ensures.slot; copy = rw (← slot) c.keep_copy.ensures };
         };
-        flown = rw (← c.leave-left.ensures.is) c.send-count.ensures;
+        flown = rw (← slot, ← c.leave-left.ensures.is) c.send-count.ensures;
         counted = rw (c.store_counts.ensures, c.next_counts.ensures);
         sends = c.send_count.ensures;
       },
