@@ -4,8 +4,9 @@
 #![tactic(auto)]
 
 ghost use Rattle.memory.specs.Lent.{read_only};
-ghost use Rattle.views.specs.Lent.{lent_each};
+ghost use Rattle.views.specs.Lent.{lent, lent_each, SameArrays};
 ghost use Rattle.feed.specs.Lent.{FeedsScript, FinishesScript};
+ghost use Rattle.script.specs.Each.{FeedsEach};
 
 use feed::entry::{feed_value, finish_value};
 use memory::{
@@ -36,6 +37,31 @@ pub fn script_feed(
 ) -> usize
     ensures { FeedsScript (lent_each counts heads slots copies working texts queue payloads answers) reader line tally (read_only input) out result }
 {
+    feed_each(
+        counts, heads, slots, copies, working, texts, queue, payloads, answers, reader, line,
+        tally, input, out,
+    )
+}
+
+// The same, with what it leaves said array by array.
+fn feed_each(
+    counts: &mut CountWords,
+    heads: &mut HeadWords,
+    slots: &mut SlotWords,
+    copies: &mut CopyBytes,
+    working: &mut WorkingBytes,
+    texts: &mut TextBytes,
+    queue: &mut QueueWords,
+    payloads: &mut PayloadBytes,
+    answers: &mut AnswerWords,
+    reader: &mut ReaderWords,
+    line: &mut KeptLine,
+    tally: &mut Tally,
+    input: &[u8],
+    out: &mut [u8],
+) -> usize
+    ensures { FeedsEach (lent_each counts heads slots copies working texts queue payloads answers) reader line tally (read_only input) out result }
+{
     let mut arrays = Arrays {
         counts,
         heads,
@@ -47,7 +73,22 @@ pub fn script_feed(
         payloads,
         answers,
     };
-    let fed = feed_value(&mut arrays, reader, line, *tally, input, out);
+    feed_lent(&mut arrays, reader, line, tally, input, out)
+}
+
+// The same, on the arrays together.
+fn feed_lent(
+    arrays: &mut Arrays<'_>,
+    reader: &mut ReaderWords,
+    line: &mut KeptLine,
+    tally: &mut Tally,
+    input: &[u8],
+    out: &mut [u8],
+) -> usize
+    ensures same { SameArrays arrays }
+    ensures feeds { FeedsEach (lent arrays) reader line tally (read_only input) out result }
+{
+    let fed = feed_value(arrays, reader, line, *tally, input, out);
     let change = fed.change;
     add(tally, change);
     fed.taken
