@@ -19,7 +19,7 @@ use Rattle.bucket.specs.Answers.{numbered, Read, write_of}
 
 -- ---- reading
 
-reading_refused : (b : List ℕ) (e : Malformed) → read_bucket 4 16 b ≡ none → Read b (Err e)
+pub reading_refused : (b : List ℕ) (e : Malformed) → read_bucket 4 16 b ≡ none → Read b (Err e)
 unfolding read_number
 reading_refused b e h = record { is = sym h; number = rw (read_number, h); sound = tt }
 

@@ -34,7 +34,7 @@ pub record Trimmed {room : ℕ} (t r : Text room) : Type 0 where
 -- ---- bytes that are taken
 
 -- they have the form's length
-length_read : (b : List ℕ) (t : List Entry) → read_bucket 4 16 b ≡ some t → length b ≡ 113
+pub length_read : (b : List ℕ) (t : List Entry) → read_bucket 4 16 b ≡ some t → length b ≡ 113
 unfolding bucket_size
 length_read b t e = let (same, f) = one_form 4 16 b t e in ap length same ∙ length_bucket 4 16 t f
 
@@ -42,7 +42,7 @@ pub room_read : {b : List ℕ} {t : Decoded} → Read b (Ok t) → 113 ≤ lengt
 room_read {b} {t} r = omega (arith, length_read b (table_in t) (sym r.is))
 
 -- a form written over taken bytes takes all of them
-over_all : (b w : List ℕ) (t : List Entry) → read_bucket 4 16 b ≡ some t → w ++ drop 113 b ≡ w
+pub over_all : (b w : List ℕ) (t : List Entry) → read_bucket 4 16 b ≡ some t → w ++ drop 113 b ≡ w
 over_all b w t e = rw (drop_of_length-le b {i = 113} (omega (arith, length_read b t e))) (append-nil w)
 
 -- ---- a key of more than eight bytes stands in no bucket
@@ -56,7 +56,7 @@ long_absent k (e ∷ t) h c =
     (λ o. let s : length k ≡ length e.key = ap length (order_same k e.key o) in absurd (omega (arith, c.0)))
     (λ o. rw (holds, o) ih)
 
-long_not_held : (b k : List ℕ) (t : List Entry) → read_bucket 4 16 b ≡ some t → 8 < length k → holds k t ≡ false
+pub long_not_held : (b k : List ℕ) (t : List Entry) → read_bucket 4 16 b ≡ some t → 8 < length k → holds k t ≡ false
 long_not_held b k t e h =
     let (same, f) = one_form 4 16 b t e in
     long_absent k t h (sized_capped 16 t (fits_parts 4 16 t f).sizes)
@@ -88,7 +88,7 @@ module _ {b : List ℕ} (k : List ℕ) where
 
 -- ---- changing
 
-storable_parts : (k v : List ℕ) → storable k v ≡ true → (length k ≤ 8) × (length v ≤ 16)
+pub storable_parts : (k v : List ℕ) → storable k v ≡ true → (length k ≤ 8) × (length v ≤ 16)
 unfolding storable
 storable_parts k v h = go (within max_key (length k)) refl
   where
@@ -148,7 +148,7 @@ unfolding list_of
 list_refused r = record { is = rw (list_of, ← r.is); count = tt; lengths = tt }
 
 -- the keys of a table are those of its slots in use
-keys_in_use : (t : Decoded) (n : ℕ) → Counted t n → take n (map (λ s. key_bytes s.key) t.slots) ≡ keys_of (table_in t)
+pub keys_in_use : (t : Decoded) (n : ℕ) → Counted t n → take n (map (λ s. key_bytes s.key) t.slots) ≡ keys_of (table_in t)
 unfolding entry_in
 keys_in_use t n c =
     ap (take n) (each t.slots)
@@ -160,7 +160,7 @@ keys_in_use t n c =
     each (s ∷ l) = ap (λ r. key_bytes s.key ∷ r) (each l)
 
 -- each of some keys is that of a slot, its length within its array
-keys_taken : (l : List Slot) (r : List Key) → length l ≡ length r → ((i : ℕ) → i < length l → Trimmed (get_or l i blank).key (get_or r i blank.key)) → (map key_bytes r ≡ map (λ s. key_bytes s.key) l) × Short r
+pub keys_taken : (l : List Slot) (r : List Key) → length l ≡ length r → ((i : ℕ) → i < length l → Trimmed (get_or l i blank).key (get_or r i blank.key)) → (map key_bytes r ≡ map (λ s. key_bytes s.key) l) × Short r
 keys_taken [] [] n h = (refl, tt)
 keys_taken [] (k ∷ r) n h = absurd (omega arith)
 keys_taken (s ∷ l) [] n h = absurd (omega arith)

@@ -10,6 +10,7 @@ use memory::Arrays;
 use output::put_outcome;
 use parse::Line;
 use progress::{Ending, Progress};
+use runs::numbered;
 
 // A line that was read is run and told.
 pub fn end_line(arrays: &mut Arrays<'_>, out: &mut [u8], line: Line, progress: Progress) -> Ending
@@ -23,7 +24,7 @@ pub fn end_line(arrays: &mut Arrays<'_>, out: &mut [u8], line: Line, progress: P
         out,
         progress.written,
         number,
-        stepped.report,
+        numbered(stepped.report),
         arrays.answers,
     );
     Ending {

@@ -19,7 +19,7 @@ use Rattle.views.specs.Memory.{Memory}
 use Rattle.plans.specs.declared.Step.{Step}
 use Rattle.plans.specs.declared.Plan.{Plan}
 use Rattle.plans.specs.declared.Plan.TheVariants.{Loses}
-use Rattle.plans.specs.Plans.{no_effect, if_places_left, move_plan, take_plan, lost_step, line_step, unless, elect_plan, timeout_plan, stop_plan, start_plan, elect_at, timeout_at, stop_at, start_at, cut_plan, cut_at, bad_lengths, call_bucket, call_step, call_plan, call_at, gone, hand_plan, hand_at, lose_at}
+use Rattle.plans.specs.Plans.{no_effect, if_places_left, move_if_places_left, take_plan, lost_step, line_step, unless, elect_plan, timeout_plan, stop_plan, start_plan, elect_at, timeout_at, stop_at, start_at, cut_plan, cut_at, bad_lengths, call_bucket, call_step, call_plan, call_at, gone, hand_plan, hand_at, lose_at}
 use Rattle.plans.specs.Arrays.{Measured}
 use Rattle.plans.proofs.Judging.{inside_there, in_list}
 use Rattle.parse.specs.declared.Kind.{Kind}
@@ -77,7 +77,7 @@ module _ (c : Counts) where
   room_for : (x : Step) (v : Move) (p : Plan) → (places_left c x.removes v.sends ≡ true → Executable c p) → Allowed c (if_places_left c x v p)
   room_for x v p h = allowed (places_refusal c x.removes v.sends) (Ok p) (λ u e. h (places_there c x.removes v.sends u e))
 
-  moves : (x : Step) (v : Move) (f : Effect) → Measured c → Placed c x → Allowed c (move_plan c x v f)
+  moves : (x : Step) (v : Move) (f : Effect) → Measured c → Placed c x → Allowed c (move_if_places_left c x v f)
   moves x v f m h = room_for x v _ (carriable m h)
 
   takes : (x : Step) (w : Words) (v : Move) (f : Effect) → Measured c → Placed c x → Allowed c (take_plan c x w v f)

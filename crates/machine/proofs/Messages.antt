@@ -18,7 +18,7 @@ use Rattle.views.specs.Memory.{Memory, memory, local_at, standing}
 use Rattle.plans.specs.declared.Step.{Step}
 use Rattle.plans.specs.declared.Plan.{Plan}
 use Rattle.plans.specs.declared.Plan.TheVariants.{Loses, Moves}
-use Rattle.plans.specs.Plans.{no_effect, carried, unless, move_plan, message_step, lost_step, gone, receiver_at, hand_plan, hand_at}
+use Rattle.plans.specs.Plans.{no_effect, carried, unless, move_if_places_left, message_step, lost_step, gone, receiver_at, hand_plan, hand_at}
 use Rattle.plans.specs.Arrays.{Measured, asked_at}
 use Rattle.runs.specs.declared.Report.{Report}
 use Rattle.runs.specs.Carrying.{Losable, Carriable}

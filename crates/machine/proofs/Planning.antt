@@ -191,7 +191,7 @@ module _ (m : Memory) (l : List ℕ) (x : Line) where
   unfolding run_by
   malformed_run e = by_kind K.Malformed e no_effect (λ _. tt) refl
 
-  cluster_run_lem : (m' : Memory) (l' : List ℕ) (q : Result (Unit {0}) Refusal) (r : Result Report Refusal) → x.kind ≡ K.Cluster
+  pub cluster_run_lem : (m' : Memory) (l' : List ℕ) (q : Result (Unit {0}) Refusal) (r : Result Report Refusal) → x.kind ≡ K.Cluster
       → ran m' l' (cluster_told q) ≡ cluster_run m l x.first x.second → r ≡ cluster_told q → RanLine m l x m' l' r
   unfolding run_by
   cluster_run_lem m' l' q r e y h = by_kind K.Cluster e no_effect (λ _. tt) (ap (ran m' l') h ∙ y)
@@ -206,7 +206,7 @@ module _ (m : Memory) (l : List ℕ) (x : Line) where
   unfolding cluster_told
   cluster_refused m' l' q a e y z = cluster_run_lem m' l' q (Err a) e y (ap cluster_told (sym z))
 
-  other_run : (m' : Memory) (l' : List ℕ) (r : Result Report Refusal) (k : Kind) → x.kind ≡ k → is_planned k ≡ true → RanPlan m l x m' l' r → RanLine m l x m' l' r
+  pub other_run : (m' : Memory) (l' : List ℕ) (r : Result Report Refusal) (k : Kind) → x.kind ≡ k → is_planned k ≡ true → RanPlan m l x m' l' r → RanLine m l x m' l' r
   unfolding run_by is_planned
   other_run m' l' r K.Malformed e z h = absurd (true≢false (sym z))
   other_run m' l' r K.Cluster e z h = absurd (true≢false (sym z))

@@ -21,7 +21,7 @@ use Rattle.flight.specs.Flown.{Flown}
 use Rattle.plans.specs.declared.Step.{Step}
 use Rattle.plans.specs.declared.Plan.{Plan}
 use Rattle.plans.specs.declared.Plan.TheVariants.{Loses, Moves, Takes}
-use Rattle.plans.specs.Plans.{no_effect, move_plan, message_step, gone, receiver_at, hand_plan, hand_at}
+use Rattle.plans.specs.Plans.{no_effect, move_if_places_left, message_step, gone, receiver_at, hand_plan, hand_at}
 use Rattle.plans.specs.Arrays.{Measured, asked_at}
 use Rattle.runs.specs.declared.Report.{Report}
 use Rattle.runs.specs.declared.Told.{Told}
@@ -78,7 +78,7 @@ pub record Handable (c : Counts) (x : Step) : Type 0 where
 
 -- the run of message y at its receiver, with the effect f
 abbrev pub handled_run : Memory → List ℕ → Counts → Step → Message → Local → Effect → Ran
-handled_run m l c x y to f = executed m l c (move_plan c x (handled_move c.servers x.server f.result y to) f)
+handled_run m l c x y to f = executed m l c (move_if_places_left c x (handled_move c.servers x.server f.result y to) f)
 
 -- message i of the list, with the effect where it asks for one
 pub record HandedListed (m : Memory) (l : List ℕ) (c : Counts) (i : ℕ) (removes : Bool) (m' : Memory) (l' : List ℕ) (r : Result Report Refusal) : Type 0 where

@@ -1,4 +1,5 @@
 -- The parts of a move, put together, are the run of crates/runs/specs/Runs.antt.
+use Rattle.server.specs.declared.Effect.{Effect}
 use Rattle.std.proofs.Common.{◌≡◌, ℕ, ◌+◌, ◌-◌, ◌≤◌, Bool, true, false, leb, List, sym, ap, ◌∙◌, arith}
 use native.Mathlib.Decide.{dec_le}
 use borrow.Author.Tests.{lt-leb}
@@ -9,14 +10,13 @@ use Rattle.memory.specs.Layout.{message_room, slot_of, place_at}
 use Rattle.refusals.specs.Refusals.{send_count, places_left}
 use Rattle.moves.specs.declared.Move.{Move}
 use Rattle.plans.specs.declared.Step.{Step}
-use Rattle.plans.specs.Plans.{no_effect}
 use Rattle.views.specs.Memory.{Memory}
 use Rattle.views.specs.Changes.{moved}
 use Rattle.views.specs.Queue.{flight, without_message, sent}
 use Rattle.machine_flight.specs.Flown.{Flown, sent_by}
 use Rattle.machine_flight.proofs.Sends.{flown_next}
 use Rattle.runs.specs.declared.Report.{Report}
-use Rattle.runs.specs.Runs.{next_counts, left_flight, carried_run, lost_run}
+use Rattle.runs.specs.Runs.{next_counts, bare_report, left_flight, carried_run, lost_run}
 use Rattle.runs.specs.declared.Told.{Told}
 use Rattle.runs.specs.Carrying.{CarriedOut}
 use Rattle.machine_carrying.specs.Carried.{with_filled, with_counted, flown_by, flown_counted, ServerChanged, CarriedOn, Lost}
@@ -72,7 +72,14 @@ module _ (c : Counts) (x : Step) (v : Move) where
       record { is = λ f. rw (g.is, g.messages, g.sends, ap (λ a. a.answers) g.listed.is, ap (λ a. a.count) g.listed.is, e, p) }
 
 -- a message left, then the counts
-pub lost_out : (c : Counts) (x : Step) (m m1 m2 : Memory) (n : ℕ) (r : Report) → Flown m (left_flight m c x) m1 n → m2 ≡ with_counted m1 (next_counts c n x.calls)
-    → r ≡ record { effect = no_effect; answers = 0; sent = 0; copied = x.copied; delivered = 0; lost = 1; messages = n } → Lost m c x m2 r
+pub lost_out : (c : Counts) (x : Step) (f : Effect) (m m1 m2 : Memory) (n : ℕ) (r : Report) → Flown m (left_flight m c x) m1 n → m2 ≡ with_counted m1 (next_counts c n x.calls)
+    → r ≡ record { effect = f; answers = 0; sent = 0; copied = x.copied; delivered = 0; lost = 1; messages = n } → Lost m c x f m2 r
 unfolding lost_run
-lost_out c x m m1 m2 n r h e q = record { is = λ l. rw (q, e, h.is, h.count) }
+lost_out c x f m m1 m2 n r h e q = record { is = λ l. rw (q, e, h.is, h.count); effect = ap (λ y. y.effect) q }
+
+-- the report of a lost message with the effect f, by a bare one
+abbrev pub lost_with : Effect → (copied count : ℕ) → Report → Report
+lost_with f k n b = record { effect = f; answers = b.answers; sent = b.sent; copied = k; delivered = b.delivered; lost = 1; messages = n }
+
+pub lost_report : (f : Effect) (k n : ℕ) (b : Report) → b ≡ bare_report → lost_with f k n b ≡ lost_with f k n bare_report
+lost_report f k n b e = ap (lost_with f k n) e

@@ -1,15 +1,19 @@
 -- What each part of carrying a move out leaves in the two arrays. The runs, and what a move asks for, are those of crate `runs`.
-use Rattle.std.specs.Prelude.{◌≡◌, ℕ, List, Ok}
+use Rattle.std.specs.Prelude.{◌≡◌, ◌<◌, ℕ, List, Ok}
 use Rattle.entries.specs.Decoded.{table_in}
 use Rattle.entries.specs.Entries.{Entry}
 use Rattle.entries.specs.declared.Decoded.{Decoded}
+use Rattle.server.specs.declared.Effect.{Effect}
 use Rattle.memory.specs.declared.Counts.{Counts}
-use Rattle.memory.specs.Layout.{slot_of, put_counts}
+use Rattle.memory.specs.Layout.{server_room, bucket_room, slot_of, put_counts}
 use Rattle.memory.specs.Lent.{Lent, was, is}
 use Rattle.refusals.specs.Refusals.{send_count}
 use Rattle.moves.specs.declared.Filling.{Filling}
 use Rattle.moves.specs.declared.Move.{Move}
+use Rattle.plans.specs.declared.Plan.{Plan}
+use Rattle.plans.specs.declared.Plan.TheVariants as plan
 use Rattle.plans.specs.declared.Step.{Step}
+use Rattle.plans.specs.Plans.{no_effect}
 use Rattle.views.specs.Memory.{Memory, memory}
 use Rattle.views.specs.Arrays.{old_memory, new_memory}
 use Rattle.views.specs.Changes.{filled, answered}
@@ -20,7 +24,7 @@ use Rattle.machine_flight.specs.Flown.{with_flight}
 use Rattle.runs.specs.declared.Report.{Report}
 use Rattle.runs.specs.declared.Told.{Told}
 use Rattle.runs.specs.Carrying.{CarriedOut}
-use Rattle.runs.specs.Runs.{ran, next_counts, left_flight, carried_run, lost_run}
+use Rattle.runs.specs.Runs.{ran, next_counts, left_flight, carried_run, lost_run, taken}
 
 -- ---- parts of a memory that a move changes
 
@@ -55,9 +59,27 @@ pub record CarriedOn (m : Memory) (l : List ℕ) (c : Counts) (x : Step) (v : Mo
   pub messages : r.messages ≡ (flown_by c x v (moved_filled m c.buckets x.server x.bucket i v)).count
   pub sends : r.sent ≡ send_count c.servers v.sends
 
--- a message is lost, and the answers stay as they are
-pub record Lost (m : Memory) (c : Counts) (x : Step) (m' : Memory) (r : Report) : Type 0 where
-  pub is : (l : List ℕ) → ran m' l (Ok r) ≡ lost_run m l c x
+-- the report without its effect
+abbrev pub without_effect : Report → Report
+without_effect r =
+    record { effect = no_effect; answers = r.answers; sent = r.sent; copied = r.copied; delivered = r.delivered; lost = r.lost; messages = r.messages }
+
+-- a message is lost, and the answers stay as they are; the report has this effect
+pub record Lost (m : Memory) (c : Counts) (x : Step) (f : Effect) (m' : Memory) (r : Report) : Type 0 where
+  pub is : (l : List ℕ) → ran m' l (Ok (without_effect r)) ≡ lost_run m l c x
+  pub effect : r.effect ≡ f
+
+-- the words of a call that is taken have a slot; other plans take none
+abbrev pub Takable : Plan → Type 0
+Takable (plan.Loses x) = Unit {0}
+Takable (plan.Moves p) = Unit {0}
+Takable (plan.Takes w p) = (p.step.server < server_room) × (p.step.bucket < bucket_room)
+
+-- the words of a call that is taken are stored; other plans leave the memory
+abbrev pub taken_by : Memory → Plan → Memory
+taken_by m (plan.Loses x) = m
+taken_by m (plan.Moves p) = m
+taken_by m (plan.Takes w p) = taken m w p.step
 
 -- ---- the same of lent arrays
 
@@ -71,5 +93,8 @@ abbrev pub CarriesOut : (words bytes answers : Lent) → Counts → Step → Mov
 CarriesOut words bytes answers c x v table r =
     CarriedOut (carried_run (old_memory words bytes) (was answers) c x v (table_in table)) x (new_memory words bytes) (is answers) r
 
-abbrev pub Loses : (words bytes : Lent) → Counts → Step → Report → Type 0
-Loses words bytes c x r = Lost (old_memory words bytes) c x (new_memory words bytes) r
+abbrev pub Loses : (words bytes : Lent) → Counts → Step → Effect → Report → Type 0
+Loses words bytes c x f r = Lost (old_memory words bytes) c x f (new_memory words bytes) r
+
+abbrev pub Takes : (words bytes : Lent) → Plan → Type 0
+Takes words bytes p = new_memory words bytes ≡ taken_by (old_memory words bytes) p

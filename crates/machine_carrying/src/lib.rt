@@ -3,13 +3,13 @@
 #![tactic(auto)]
 
 ghost use Rattle.memory.specs.Lent.{read_only};
-ghost use Rattle.std.specs.Prelude.{◌≡◌, ◌<◌, ◌≤◌};
+ghost use Rattle.std.specs.Prelude.{◌≡◌, ◌<◌};
 ghost use Rattle.memory.specs.Layout.{server_room, bucket_room, message_room};
 ghost use Rattle.views.specs.Arrays.{old_memory, new_memory};
 ghost use Rattle.machine_flight.specs.Flown.{Flies};
 ghost use Rattle.runs.specs.Runs.{left_flight, taken};
 ghost use Rattle.runs.specs.Carrying.{Losable, Carriable};
-ghost use Rattle.machine_carrying.specs.Carried.{ChangesServer, flown_by, CarriesOn, CarriesOut, Loses};
+ghost use Rattle.machine_carrying.specs.Carried.{ChangesServer, flown_by, CarriesOn, CarriesOut, Loses, Takable, Takes};
 
 use entries::Decoded;
 use machine_answers::answer;
@@ -22,9 +22,10 @@ use memory_records::counters::store_counts;
 use memory_records::words::store_words;
 use memory_regions::{Bytes, Words};
 use moves::Move;
-use plans::Step;
+use plans::{Plan, Step};
 use refusals::send_count;
 use runs::{Report, Told, bare_report, next_counts};
+use server::Effect;
 
 pub mod fresh;
 
@@ -119,14 +120,15 @@ pub fn carry_out(
     carry_on(words, bytes, answers, cluster, step, next, place)
 }
 
-// A message is lost.
-pub fn lose(words: &mut Words, bytes: &Bytes, cluster: Counts, step: Step) -> Report
+// A message is lost; the report has this effect.
+pub fn lose(words: &mut Words, bytes: &Bytes, cluster: Counts, step: Step, effect: Effect) -> Report
     requires { Losable cluster step }
-    ensures { Loses words (read_only bytes) cluster step result }
+    ensures { Loses words (read_only bytes) cluster step effect result }
 {
     let count = leave(words, bytes, cluster, step);
     store_counts(words, next_counts(cluster, count, step.calls));
     Report {
+        effect,
         copied: step.copied,
         lost: 1,
         messages: count as u32,
@@ -134,11 +136,22 @@ pub fn lose(words: &mut Words, bytes: &Bytes, cluster: Counts, step: Step) -> Re
     }
 }
 
-// The words of a call that is taken are stored.
-pub fn take(words: &mut Words, bytes: &mut Bytes, call: server::Words, step: Step)
+// The words of a call are stored in the slot of its step.
+fn store_call(words: &mut Words, bytes: &mut Bytes, call: server::Words, step: Step)
     requires { (step.server < server_room) × (step.bucket < bucket_room) }
     ensures { new_memory words bytes ≡ taken (old_memory words bytes) call step }
 {
     let slot = slot_of(step.server as usize, step.bucket as usize);
     store_words(words, bytes, slot, call);
+}
+
+// The words of a call that is taken are stored; any other plan takes none.
+pub fn take(words: &mut Words, bytes: &mut Bytes, plan: Plan)
+    requires { Takable plan }
+    ensures { Takes words bytes plan }
+{
+    match plan {
+        Plan::Takes(call, carried) => store_call(words, bytes, call, carried.step),
+        _ => {}
+    }
 }

@@ -8,11 +8,8 @@ use lib.ListN.{length}
 use Rattle.entries.specs.Decoded.{table_in, value_bytes}
 use Rattle.model.specs.Lines.{refusal}
 use Rattle.model.specs.Print.{outcome_text}
-use Rattle.refusals.specs.declared.Refusal.{Refusal}
-use Rattle.refusals.specs.declared.Refusal.TheVariants.{Malformed, ClusterWrong, NotThere, BadLength, LinesSpent, ServerStopped, NoSuchMessage, NotLeading, BucketOccupied, NoRoundOpen, LastElection, NoPlaces, BadCutOrStart}
-use Rattle.refusals.specs.Refusals.{number}
 use Rattle.runs.specs.declared.Report.{Report}
-use Rattle.runs.specs.Meaning.{outcome_in}
+use Rattle.runs.specs.Meaning.{outcome_of}
 use Rattle.print.specs.Printed.{Printed}
 use Rattle.print.proofs.Room.{refusal_room}
 use Rattle.print.proofs.Printing.{printed_none}
@@ -25,34 +22,15 @@ below n h = omega arith
 pub refusal_fits : (line r : ℕ) → line < 2 ^ 32 → r < 2 ^ 32 → length (outcome_text line (refusal r)) ≤ 35
 refusal_fits line r h g = omega (arith, refusal_room 10 10 line r (omega arith) (omega arith) (below line h) (below r g))
 
-number_low : (e : Refusal) → number e < 2 ^ 32
-number_low Malformed = omega arith
-number_low ClusterWrong = omega arith
-number_low NotThere = omega arith
-number_low BadLength = omega arith
-number_low LinesSpent = omega arith
-number_low ServerStopped = omega arith
-number_low NoSuchMessage = omega arith
-number_low NotLeading = omega arith
-number_low BucketOccupied = omega arith
-number_low NoRoundOpen = omega arith
-number_low LastElection = omega arith
-number_low NoPlaces = omega arith
-number_low BadCutOrStart = omega arith
-
--- a refusal has room, and is what is told
-pub number_fits : (line : ℕ) (e : Refusal) (n : ℕ) → line < 2 ^ 32 → n ≡ number e → length (outcome_text line (refusal n)) ≤ 35
-number_fits line e n h g = rw g (refusal_fits line (number e) h (number_low e))
-
 module _ (line : ℕ) (l : List ℕ) where
-  pub refusal_told : {q : Result Report Refusal} {e : Refusal} {n : ℕ} {out after : List ℕ} {at p : ℕ} → q ≡ Err e → line < 2 ^ 32 → n ≡ number e
-      → Printed (outcome_text line (refusal n)) out at after p → Told (outcome_text line (outcome_in q l)) out at after p
-  unfolding outcome_in
-  refusal_told {e = e} {n = n} {at = at} i h g d =
-      rw (i, ← g) (record { printed = d; within = omega (arith, number_fits line e n h g, d.ends) })
+  -- a refusal has room, and is what is told
+  pub refusal_told : {q : Result Report ℕ} {n : ℕ} {out after : List ℕ} {at p : ℕ} → q ≡ Err n → line < 2 ^ 32 → n < 2 ^ 32
+      → Printed (outcome_text line (refusal n)) out at after p → Told (outcome_text line (outcome_of q l)) out at after p
+  unfolding outcome_of
+  refusal_told {n = n} {at = at} i h g d = rw i (record { printed = d; within = omega (arith, refusal_fits line n h g, d.ends) })
 
-  pub report_told : {q : Result Report Refusal} {r : Report} {out after : List ℕ} {at p : ℕ} → q ≡ Ok r → Told (report_text r l) out at after p → Told (outcome_text line (outcome_in q l)) out at after p
-  unfolding outcome_in outcome_text
+  pub report_told : {q : Result Report ℕ} {r : Report} {out after : List ℕ} {at p : ℕ} → q ≡ Ok r → Told (report_text r l) out at after p → Told (outcome_text line (outcome_of q l)) out at after p
+  unfolding outcome_of outcome_text
   report_told i d = rw i d
 
 pub none_told : (r : Report) (l out : List ℕ) (at : ℕ) → r.answers ≡ 0 → Told (report_text r l) out at out at

@@ -5,7 +5,7 @@ ghost use Rattle.std.specs.Prelude.{◌≤◌, ◌+◌, length, IfOk};
 ghost use Rattle.model.specs.Measures.{most_answers};
 ghost use Rattle.model.specs.Print.{outcome_text, tally_text};
 ghost use Rattle.memory.specs.Lent.{was, is};
-ghost use Rattle.runs.specs.Meaning.{outcome_in, tally_in};
+ghost use Rattle.runs.specs.Meaning.{outcome_of, tally_in};
 ghost use Rattle.print.specs.Printed.{Printed};
 ghost use Rattle.print.specs.Room.{line_room, tally_room};
 ghost use Rattle.output.specs.Told.{Told, report_text};
@@ -13,24 +13,23 @@ ghost use Rattle.output.specs.Told.{Told, report_text};
 use crate::answer_list::put_answers;
 use memory::AnswerWords;
 use print::other_lines::{put_refusal, put_tally};
-use refusals::Refusal;
 use runs::{Report, Tally};
 
 mod answer_list;
 
-// The refusal, or the answers.
+// The refusal, which is told by its number, or the answers.
 pub fn put_outcome(
     out: &mut [u8],
     at: usize,
     line: u32,
-    told: Result<Report, Refusal>,
+    told: Result<Report, u32>,
     answers: &AnswerWords,
 ) -> usize
     requires { (at + line_room ≤ length out.old) × IfOk told (λ report. report.answers ≤ most_answers) }
-    ensures { Told (outcome_text line (outcome_in told answers.now)) (was out) at (is out) result }
+    ensures { Told (outcome_text line (outcome_of told answers.now)) (was out) at (is out) result }
 {
     match told {
-        Err(refusal) => put_refusal(out, at, line, refusal.number()),
+        Err(refusal) => put_refusal(out, at, line, refusal),
         Ok(report) => put_report(out, at, report, answers),
     }
 }

@@ -50,8 +50,12 @@ carried x v f = record { step = x; next = v; effect = f }
 abbrev pub if_places_left : Counts → Step → Move → Plan → Result Plan Refusal
 if_places_left c x v p = unless (places_refusal c x.removes v.sends) (Ok p)
 
-abbrev pub move_plan : Counts → Step → Move → Effect → Result Plan Refusal
-move_plan c x v f = if_places_left c x v (Moves (carried x v f))
+-- a move is carried out
+abbrev pub move_plan : Step → Move → Effect → Plan
+move_plan x v f = Moves (carried x v f)
+
+abbrev pub move_if_places_left : Counts → Step → Move → Effect → Result Plan Refusal
+move_if_places_left c x v f = if_places_left c x v (move_plan x v f)
 
 -- ---- lines that name a server
 
@@ -62,18 +66,18 @@ line_step c s b =
 unfoldable pub elect_plan : Counts → ℕ → Local → Result Plan Refusal
 elect_plan c s l =
     unless (server_refusal c l.head)
-    (elim (nat_le max_election (larger_number_of l.head)) [ true ↦ Err LastElection | false ↦ move_plan c (line_step c s 0) (elected_move c.servers s l) no_effect ])
+    (elim (nat_le max_election (larger_number_of l.head)) [ true ↦ Err LastElection | false ↦ move_if_places_left c (line_step c s 0) (elected_move c.servers s l) no_effect ])
 
 unfoldable pub timeout_plan : Counts → ℕ → ℕ → Local → Result Plan Refusal
 timeout_plan c s b l =
     unless (server_refusal c l.head)
-    (elim (among 4 l.round.purpose) [ true ↦ move_plan c (line_step c s b) (ceased_move l) no_effect | false ↦ Err NoRoundOpen ])
+    (elim (among 4 l.round.purpose) [ true ↦ move_if_places_left c (line_step c s b) (ceased_move l) no_effect | false ↦ Err NoRoundOpen ])
 
 unfoldable pub stop_plan : Counts → ℕ → Local → Result Plan Refusal
-stop_plan c s l = unless (server_refusal c l.head) (move_plan c (line_step c s 0) (stopped_move l) no_effect)
+stop_plan c s l = unless (server_refusal c l.head) (move_if_places_left c (line_step c s 0) (stopped_move l) no_effect)
 
 unfoldable pub start_plan : Counts → ℕ → Local → Result Plan Refusal
-start_plan c s l = unless (start_refusal c l.head) (move_plan c (line_step c s 0) (restarted_move l) no_effect)
+start_plan c s l = unless (start_refusal c l.head) (move_if_places_left c (line_step c s 0) (restarted_move l) no_effect)
 
 unfoldable pub elect_at : Memory → Counts → ℕ → Result Plan Refusal
 elect_at m c s = elim (inside c s 0) [ true ↦ elect_plan c s (local_at m s (slot_of s 0)) | false ↦ Err NotThere ]
@@ -169,7 +173,7 @@ unfoldable pub hand_plan : Counts → Step → Message → Local → Effect → 
 hand_plan c x m l f =
     elim (gone c x l) [
       | true ↦ Ok (Loses (lost_step c x.index x.removes))
-      | false ↦ move_plan c x (handled_move c.servers x.server f.result m l) f
+      | false ↦ move_if_places_left c x (handled_move c.servers x.server f.result m l) f
     ]
 
 abbrev pub receiver_at : Memory → ℕ → Local
@@ -205,7 +209,7 @@ unfoldable pub cut_plan : Counts → Step → ℕ → Message → Local → Resu
 cut_plan c x k m l =
     elim (gone c x l) [
       | true ↦ Err BadCutOrStart
-      | false ↦ elim (cuttable k m l) [ true ↦ move_plan c x (cut_move k m l) no_effect | false ↦ Err BadCutOrStart ]
+      | false ↦ elim (cuttable k m l) [ true ↦ move_if_places_left c x (cut_move k m l) no_effect | false ↦ Err BadCutOrStart ]
     ]
 
 unfoldable pub cut_at : Memory → Counts → ℕ → ℕ → Result Plan Refusal

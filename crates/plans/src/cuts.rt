@@ -4,7 +4,8 @@ ghost use Rattle.plans.specs.Plans.{cut_step, cut_plan};
 ghost use Rattle.plans.specs.Arrays.{Measured};
 
 use crate::deliveries::{is_gone, message_step};
-use crate::parts::{move_plan, no_effect};
+use crate::parts::no_effect;
+use crate::room::move_if_places_left;
 use crate::{Plan, Step};
 use memory::Counts;
 use moves::Local;
@@ -39,5 +40,5 @@ pub fn cut_plan(
     if is_gone(cluster, step, local) || !can_cut(stores, message, local) {
         return Err(Refusal::BadCutOrStart);
     }
-    move_plan(cluster, step, cut_move(stores, message, local), no_effect())
+    move_if_places_left(cluster, step, cut_move(stores, message, local), no_effect())
 }

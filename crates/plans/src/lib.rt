@@ -9,6 +9,7 @@ pub mod calls;
 pub mod cuts;
 pub mod deliveries;
 pub mod parts;
+mod room;
 pub mod servers;
 
 // Where a move happens, what hands it over, and what it adds to the tally beside the messages sent.

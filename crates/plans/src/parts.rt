@@ -1,13 +1,11 @@
-// The parts of a plan: where it happens, and what stands where there is nothing.
-ghost use Rattle.std.specs.Prelude.{◌≡◌, ◌≤◌};
-ghost use Rattle.memory.specs.Layout.{server_room, message_room};
+// The parts of a plan: where it happens, what is carried out, and what stands where there is nothing.
+ghost use Rattle.std.specs.Prelude.{◌≡◌};
 ghost use Rattle.plans.specs.Plans.{no_words, no_message, no_effect, line_step, move_plan};
 
 use crate::{Carried, Plan, Step};
 use entries::{Decoded, Key, Slot, TABLE_ROOM, Value};
 use memory::Counts;
 use moves::Move;
-use refusals::{Refusal, places_refusal};
 use rounds::opening::no_version;
 use server::codes::{NO_CALL, NO_MESSAGE, NO_RESULT};
 use server::{Effect, Message, Words};
@@ -75,12 +73,9 @@ pub fn line_step(cluster: Counts, server: u32, bucket: u32) -> Step
     }
 }
 
-// 12, or the move.
-#[tactic(auto, unfolding(crate::specs::Plans::unless))]
-pub fn move_plan(cluster: Counts, step: Step, next: Move, effect: Effect) -> Result<Plan, Refusal>
-    requires { (cluster.servers ≤ server_room) × (cluster.messages ≤ message_room) }
-    ensures { result ≡ move_plan cluster step next effect }
+// A move is carried out.
+pub fn move_plan(step: Step, next: Move, effect: Effect) -> Plan
+    ensures { result ≡ move_plan step next effect }
 {
-    places_refusal(cluster, step.removes, next.sends)?;
-    Ok(Plan::Moves(Carried { step, next, effect }))
+    Plan::Moves(Carried { step, next, effect })
 }

@@ -7,7 +7,8 @@ ghost use Rattle.plans.specs.Plans.{elect_plan, timeout_plan, stop_plan, start_p
 ghost use Rattle.plans.specs.Arrays.{Measured, elect_in, timeout_in, stop_in, start_in};
 
 use crate::Plan;
-use crate::parts::{line_step, move_plan, no_effect};
+use crate::parts::{line_step, no_effect};
+use crate::room::move_if_places_left;
 use memory::{Counts, HeadWords, SlotWords, slot_of};
 use moves::Local;
 use moves::roles::{ceased_move, elected_move, stopped_move};
@@ -43,7 +44,7 @@ fn elect_plan(cluster: Counts, server: u32, local: Local) -> Result<Plan, Refusa
     }
     let step = line_step(cluster, server, 0);
     let next = elected_move(cluster.servers, server, local);
-    move_plan(cluster, step, next, no_effect())
+    move_if_places_left(cluster, step, next, no_effect())
 }
 
 #[tactic(auto, unfolding(crate::specs::Plans::elect_at))]
@@ -75,7 +76,7 @@ fn timeout_plan(cluster: Counts, server: u32, bucket: u32, local: Local) -> Resu
         return Err(Refusal::NoRoundOpen);
     }
     let step = line_step(cluster, server, bucket);
-    move_plan(cluster, step, ceased_move(local), no_effect())
+    move_if_places_left(cluster, step, ceased_move(local), no_effect())
 }
 
 #[tactic(auto, unfolding(crate::specs::Plans::timeout_at))]
@@ -105,7 +106,7 @@ fn stop_plan(cluster: Counts, server: u32, local: Local) -> Result<Plan, Refusal
 {
     server_refusal(cluster, local.head)?;
     let step = line_step(cluster, server, 0);
-    move_plan(cluster, step, stopped_move(local), no_effect())
+    move_if_places_left(cluster, step, stopped_move(local), no_effect())
 }
 
 #[tactic(auto, unfolding(crate::specs::Plans::stop_at))]
@@ -134,7 +135,7 @@ fn start_plan(cluster: Counts, server: u32, local: Local) -> Result<Plan, Refusa
 {
     start_refusal(cluster, local.head)?;
     let step = line_step(cluster, server, 0);
-    move_plan(cluster, step, restarted_move(local), no_effect())
+    move_if_places_left(cluster, step, restarted_move(local), no_effect())
 }
 
 #[tactic(auto, unfolding(crate::specs::Plans::start_at))]

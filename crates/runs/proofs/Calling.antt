@@ -251,6 +251,6 @@ module _ (m : Memory) (l : List ℕ) (t : lines.Tally) (ready : Ready m l t) (s 
       ∙ place_judged m l t _ _ _ s part _ (said.buckets (cluster_at m) counts refl (measured ready).some_buckets) (λ server bucket.
       rw said.bad (condition_judged m l t counts BadLength _ _ _ _ (λ lengths.
       rw (unless_leader local plan, leading_seen server bucket lengths, call_seen server bucket lengths)
-      (server_judged m l t _ _ _ s server
-      (condition_judged m l t counts NotLeading _ _ _ _ (λ leading.
+      (server_judged m l t _ _ _ s server (λ running.
+      condition_judged m l t counts NotLeading _ _ _ _ (λ leading.
       condition_judged m l t counts BucketOccupied _ _ _ _ (λ free. begins server bucket lengths leading free)))))))

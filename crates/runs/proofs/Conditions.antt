@@ -21,7 +21,7 @@ use Rattle.views.proofs.Queue.{length_flight}
 use Rattle.plans.specs.declared.Step.{Step}
 use Rattle.plans.specs.declared.Plan.{Plan}
 use Rattle.plans.specs.declared.Plan.TheVariants.{Loses, Moves}
-use Rattle.plans.specs.Plans.{carried, move_plan, lost_step, if_places_left, unless}
+use Rattle.plans.specs.Plans.{carried, move_if_places_left, lost_step, if_places_left, unless}
 use Rattle.runs.specs.Runs.{accepted, executed}
 use Rattle.runs.specs.Meaning.{state_in, result_by, result_of}
 use Rattle.runs.proofs.Accepting.{Ready, Possible, work_of, reaction_of, kept_messages}
@@ -163,14 +163,15 @@ module _ (m : Memory) (l : List ℕ) (t : lines.Tally) (rest : List lines.Condit
 
   -- 5 and 6
   pub server_judged : (s : ℕ) → s < (counts_in m).servers
-      → judged (state_in m t) rest w ≡ planned m l t (counts_in m) p
+      → (server_refusal (counts_in m) (head_at m.heads s) ≡ Ok tt → judged (state_in m t) rest w ≡ planned m l t (counts_in m) p)
       → judged (state_in m t) (lines.when 5 (lines.limit_reached (cluster_at m)) ∷ lines.when 6 (lines.stopped_at (cluster_at m) s) ∷ rest) w
       ≡ planned m l t (counts_in m) (unless (server_refusal (counts_in m) (head_at m.heads s)) p)
   unfolding lines.limit_reached
   server_judged s h e =
       rw (stopped_seen m s h, unless_server)
       (condition_judged m l t (counts_in m) LinesSpent (leb max_accepted (counts_in m).lines) _ w _
-      (λ a. condition_judged m l t (counts_in m) ServerStopped (flag_in (head_at m.heads s).stopped) rest w p (λ b. e)))
+      (λ a. condition_judged m l t (counts_in m) ServerStopped (flag_in (head_at m.heads s).stopped) rest w p
+      (λ b. e (unfold server_refusal in rw (server_refusal, a, b)))))
 
   -- 5 and 18
   pub start_judged : (s : ℕ) → s < (counts_in m).servers
@@ -199,7 +200,7 @@ module _ (m : Memory) (l : List ℕ) (t : lines.Tally) (rest : List lines.Condit
 
 -- a move, refused where places lack
 pub moved_run : (m : Memory) (l : List ℕ) (t : lines.Tally) (c : Counts) (x : Step) (v : Move) (f : Effect) → Ready m l t → Possible m c x v f
-    → lines.accept_line (state_in m t) (work_of m x (reaction_of m c x v f)) ≡ planned m l t c (move_plan c x v f)
+    → lines.accept_line (state_in m t) (work_of m x (reaction_of m c x v f)) ≡ planned m l t c (move_if_places_left c x v f)
 unfolding executed accepted
 moved_run m l t c x v f ready possible =
     places_judged m l t c x v (Moves (carried x v f)) _ (carries_out m l t c x v f ready possible) (lacks_room m l t c x v f ready possible)

@@ -25,7 +25,7 @@ use Rattle.views.proofs.Seen.{server_seen}
 use Rattle.views.proofs.Whole.{whole_at, whole_cut}
 use Rattle.plans.specs.declared.Step.{Step}
 use Rattle.plans.specs.declared.Plan.{Plan}
-use Rattle.plans.specs.Plans.{no_effect, move_plan, gone, receiver_at, cut_step, cut_plan, cut_at}
+use Rattle.plans.specs.Plans.{no_effect, move_if_places_left, gone, receiver_at, cut_step, cut_plan, cut_at}
 use Rattle.runs.specs.Runs.{executed}
 use Rattle.runs.specs.Meaning.{state_in, result_of}
 use Rattle.runs.proofs.Filling.{apart}
@@ -123,15 +123,15 @@ module _ (m : Memory) (l : List ℕ) (t : lines.Tally) (ready : Ready m l t) (i 
     unfolding gone no_receiver
     gone_is = rw (gone, no_receiver, among_servers) refl
 
-    plan_is : plan ≡ refusing BadCutOrStart bad (move_plan counts step move no_effect)
+    plan_is : plan ≡ refusing BadCutOrStart bad (move_if_places_left counts step move no_effect)
     unfolding cut_plan
     plan_is =
-        ap (λ z. elim z as (λ _. Result Plan Refusal) [ true ↦ Err BadCutOrStart | false ↦ elim (cuttable k asked here_local) [ true ↦ move_plan counts step move no_effect | false ↦ Err BadCutOrStart ] ]) gone_is
+        ap (λ z. elim z as (λ _. Result Plan Refusal) [ true ↦ Err BadCutOrStart | false ↦ elim (cuttable k asked here_local) [ true ↦ move_if_places_left counts step move no_effect | false ↦ Err BadCutOrStart ] ]) gone_is
         ∙ go stopped (cuttable k asked here_local)
       where
         go : (z y : Bool)
-            → ◌≡◌ {A = Result Plan Refusal} (elim z [ true ↦ Err BadCutOrStart | false ↦ elim y [ true ↦ move_plan counts step move no_effect | false ↦ Err BadCutOrStart ] ])
-            (refusing BadCutOrStart (elim z [ true ↦ true | false ↦ elim y [ true ↦ false | false ↦ true ] ]) (move_plan counts step move no_effect))
+            → ◌≡◌ {A = Result Plan Refusal} (elim z [ true ↦ Err BadCutOrStart | false ↦ elim y [ true ↦ move_if_places_left counts step move no_effect | false ↦ Err BadCutOrStart ] ])
+            (refusing BadCutOrStart (elim z [ true ↦ true | false ↦ elim y [ true ↦ false | false ↦ true ] ]) (move_if_places_left counts step move no_effect))
         go true y = refl
         go false true = refl
         go false false = refl
@@ -201,7 +201,7 @@ module _ (m : Memory) (l : List ℕ) (t : lines.Tally) (ready : Ready m l t) (i 
     unfolding lines.first_of
     cuts =
         ap (λ z. judged (state_in m t) (lines.when 18 z ∷ []) (lines.cutting (cluster_at m) (message ready i here) (lines.drop_at i (cluster_at m).messages) k)) bad_seen
-        ∙ (condition_judged m l t counts BadCutOrStart bad [] _ (move_plan counts step move no_effect)
+        ∙ (condition_judged m l t counts BadCutOrStart bad [] _ (move_if_places_left counts step move no_effect)
         (λ e. ap (lines.accept_line (state_in m t)) (work_is (broadcast_then e)) ∙ moved_run m l t counts step move no_effect ready possible)
         ∙ ap (planned m l t counts) (sym plan_is))
 

@@ -17,3 +17,4 @@ pub mod LineMeans
 pub mod Reading
 pub mod Ordering
 pub mod Reporting
+pub mod Numbers

@@ -25,7 +25,7 @@ use Rattle.views.specs.Memory.{Memory, WholeLocal, local_at, cluster_at}
 use Rattle.views.proofs.Seen.{length_servers, larger_there, round_there, server_seen}
 use Rattle.views.proofs.Whole.{whole_at, whole_elected_move, whole_ceased, whole_stopped, whole_restarted}
 use Rattle.plans.specs.declared.Plan.{Plan}
-use Rattle.plans.specs.Plans.{no_effect, line_step, move_plan, elect_plan, timeout_plan, stop_plan, start_plan, elect_at, timeout_at, stop_at, start_at, lose_at}
+use Rattle.plans.specs.Plans.{no_effect, line_step, move_if_places_left, elect_plan, timeout_plan, stop_plan, start_plan, elect_at, timeout_at, stop_at, start_at, lose_at}
 use Rattle.runs.specs.Runs.{executed}
 use Rattle.runs.specs.Meaning.{state_in, result_of}
 use Rattle.runs.proofs.Filling.{apart}
@@ -94,7 +94,7 @@ module _ (m : Memory) (l : List ℕ) (t : lines.Tally) (ready : Ready m l t) whe
   line_moves : (s b : ℕ) (v : Move) (r : Reaction) → s < (counts_in m).servers → b < (counts_in m).buckets → WholeLocal v.local → v.fills ≡ filling.Stays
       → r ≡ reaction_of m (counts_in m) (line_step (counts_in m) s b) v no_effect
       → judged (state_in m t) [] (lines.by_line (cluster_at m) s (counts_in m).calls r)
-      ≡ planned m l t (counts_in m) (move_plan (counts_in m) (line_step (counts_in m) s b) v no_effect)
+      ≡ planned m l t (counts_in m) (move_if_places_left (counts_in m) (line_step (counts_in m) s b) v no_effect)
   unfolding lines.first_of
   line_moves s b v r server bucket whole fills means =
       let possible : Possible m (counts_in m) (line_step (counts_in m) s b) v no_effect =
@@ -111,7 +111,7 @@ module _ (m : Memory) (l : List ℕ) (t : lines.Tally) (ready : Ready m l t) whe
 
   elect_moves : (s : ℕ) → s < (counts_in m).servers → 0 < (counts_in m).buckets → larger_number_of (head_at m.heads s) < max_election
       → judged (state_in m t) [] (lines.work (cluster_at m) (lines.elect s))
-      ≡ planned m l t (counts_in m) (move_plan (counts_in m) (line_step (counts_in m) s 0) (elected_move (counts_in m).servers s (local_at m s (slot_of s 0))) no_effect)
+      ≡ planned m l t (counts_in m) (move_if_places_left (counts_in m) (line_step (counts_in m) s 0) (elected_move (counts_in m).servers s (local_at m s (slot_of s 0))) no_effect)
   unfolding lines.work elected_move
   elect_moves s h k low =
       let n = (counts_in m).servers in
@@ -123,12 +123,12 @@ module _ (m : Memory) (l : List ℕ) (t : lines.Tally) (ready : Ready m l t) whe
   unfolding lines.conditions_up_to elect_at elect_plan
   elect_runs s =
       ready_perform ready (lines.elect s)
-      ∙ server_named m l t _ _ s _ (measured ready).some_buckets (λ h k. server_judged m l t _ _ _ s h
-      (rw (last_number_seen m s h) (condition_judged m l t (counts_in m) LastElection _ [] _ _ (λ e. elect_moves s h k (leb-false _ _ e)))))
+      ∙ server_named m l t _ _ s _ (measured ready).some_buckets (λ h k. server_judged m l t _ _ _ s h (λ free.
+      rw (last_number_seen m s h) (condition_judged m l t (counts_in m) LastElection _ [] _ _ (λ e. elect_moves s h k (leb-false _ _ e)))))
 
   timeout_moves : (s b : ℕ) → s < (counts_in m).servers → b < (counts_in m).buckets
       → judged (state_in m t) [] (lines.work (cluster_at m) (lines.timeout s b))
-      ≡ planned m l t (counts_in m) (move_plan (counts_in m) (line_step (counts_in m) s b) (ceased_move (local_at m s (slot_of s b))) no_effect)
+      ≡ planned m l t (counts_in m) (move_if_places_left (counts_in m) (line_step (counts_in m) s b) (ceased_move (local_at m s (slot_of s b))) no_effect)
   unfolding lines.work
   timeout_moves s b h k =
       let n = (counts_in m).servers in
@@ -139,12 +139,12 @@ module _ (m : Memory) (l : List ℕ) (t : lines.Tally) (ready : Ready m l t) whe
   unfolding lines.conditions_up_to lines.no_bucket timeout_at timeout_plan
   timeout_runs s b =
       ready_perform ready (lines.timeout s b)
-      ∙ place_judged m l t _ _ _ s b _ refl (λ h k. server_judged m l t _ _ _ s h
-      (rw (round_seen m s b h k) (open_judged m l t _ _ (among 4 (round_at m.slots (slot_of s b)).purpose) (timeout_moves s b h k))))
+      ∙ place_judged m l t _ _ _ s b _ refl (λ h k. server_judged m l t _ _ _ s h (λ free.
+      rw (round_seen m s b h k) (open_judged m l t _ _ (among 4 (round_at m.slots (slot_of s b)).purpose) (timeout_moves s b h k))))
 
   stop_moves : (s : ℕ) → s < (counts_in m).servers → 0 < (counts_in m).buckets
       → judged (state_in m t) [] (lines.work (cluster_at m) (lines.stop s))
-      ≡ planned m l t (counts_in m) (move_plan (counts_in m) (line_step (counts_in m) s 0) (stopped_move (local_at m s (slot_of s 0))) no_effect)
+      ≡ planned m l t (counts_in m) (move_if_places_left (counts_in m) (line_step (counts_in m) s 0) (stopped_move (local_at m s (slot_of s 0))) no_effect)
   unfolding lines.work
   stop_moves s h k =
       let n = (counts_in m).servers in
@@ -155,11 +155,11 @@ module _ (m : Memory) (l : List ℕ) (t : lines.Tally) (ready : Ready m l t) whe
   unfolding lines.conditions_up_to stop_at stop_plan
   stop_runs s =
       ready_perform ready (lines.stop s)
-      ∙ server_named m l t _ _ s _ (measured ready).some_buckets (λ h k. server_judged m l t [] _ _ s h (stop_moves s h k))
+      ∙ server_named m l t _ _ s _ (measured ready).some_buckets (λ h k. server_judged m l t [] _ _ s h (λ free. stop_moves s h k))
 
   start_moves : (s : ℕ) → s < (counts_in m).servers → 0 < (counts_in m).buckets
       → judged (state_in m t) [] (lines.work (cluster_at m) (lines.start s))
-      ≡ planned m l t (counts_in m) (move_plan (counts_in m) (line_step (counts_in m) s 0) (restarted_move (local_at m s (slot_of s 0))) no_effect)
+      ≡ planned m l t (counts_in m) (move_if_places_left (counts_in m) (line_step (counts_in m) s 0) (restarted_move (local_at m s (slot_of s 0))) no_effect)
   unfolding lines.work restarted_move
   start_moves s h k =
       let n = (counts_in m).servers in

@@ -54,6 +54,16 @@ result_by t m l (Err e) = lines.refuse (state_in m t) (number e)
 abbrev pub result_of : lines.Tally → Ran → lines.LineResult
 result_of t x = result_by t x.memory x.answers x.told
 
+-- a refusal by its number
+unfoldable pub numbered : Result Report Refusal → Result Report ℕ
+numbered (Ok r) = Ok r
+numbered (Err e) = Err (number e)
+
+-- what is told of a report, or of a refusal by its number
+unfoldable pub outcome_of : Result Report ℕ → List ℕ → lines.Outcome
+outcome_of (Ok r) l = printed_in r l
+outcome_of (Err n) l = lines.refusal n
+
 -- what a line tells: the refusal, or the answers
 unfoldable pub outcome_in : Result Report Refusal → List ℕ → lines.Outcome
 outcome_in (Ok r) l = printed_in r l
@@ -66,7 +76,7 @@ pub record WholeLine (x : Line) : Type 0 where
   pub value : length x.value.bytes ≡ 16
 
 -- the tally after a line, number by number; the counts wrap at 2 ^ 32
-unfoldable pub tally_after : Tally → Result Report Refusal → Tally
+unfoldable pub tally_after : {E : Type 0} → Tally → Result Report E → Tally
 tally_after t (Ok r) =
     record {
       sent = (t.sent + r.sent) % 2 ^ 32;

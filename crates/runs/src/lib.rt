@@ -6,7 +6,7 @@ ghost use Rattle.std.specs.Prelude.{◌≡◌, ◌≤◌};
 ghost use Rattle.memory.specs.Layout.{message_room};
 ghost use Rattle.runs.specs.Runs.{next_counts, bare_report};
 ghost use Rattle.runs.specs.Carrying.{carried_report};
-ghost use Rattle.runs.specs.Meaning.{tally_after};
+ghost use Rattle.runs.specs.Meaning.{numbered, tally_after};
 
 use memory::Counts;
 use plans::Step;
@@ -89,9 +89,21 @@ pub fn bare_report() -> Report
     }
 }
 
-// The tally after a line: a refused one leaves it as it was.
+// What a line came to, a refusal by its number.
+#[inline(always)]
+#[tactic(auto, unfolding(crate::specs::Meaning::numbered))]
+pub fn numbered(told: Result<Report, Refusal>) -> Result<Report, u32>
+    ensures { result ≡ numbered told }
+{
+    match told {
+        Ok(report) => Ok(report),
+        Err(refusal) => Err(refusal.number()),
+    }
+}
+
+// The tally after a line: a refused one leaves it as it was, whatever says why it is refused.
 #[tactic(auto, unfolding(crate::specs::Meaning::tally_after))]
-pub fn tally_after(tally: Tally, told: Result<Report, Refusal>) -> Tally
+pub fn tally_after<E: Copy>(tally: Tally, told: Result<Report, E>) -> Tally
     ensures { result ≡ tally_after tally told }
 {
     match told {

@@ -40,24 +40,32 @@ fn read_full<R: Read>(reading: &mut R, input: &mut [u8]) -> io::Result<usize>
     Ok(len)
 }
 
+// The room for the bytes of a line's words is made once, since zeros in it would take most of the time of a line.
 fn cases<W: Write>(to: &mut W, input: &[u8]) -> io::Result<()> {
+    let mut first = [0u8; ROOM];
+    let mut second = [0u8; ROOM];
+    let mut out = [0u8; ROOM];
     for line in input.split_inclusive(|byte| *byte == b'\n') {
-        case(to, line.strip_suffix(b"\n").unwrap_or(line))?;
+        let line = line.strip_suffix(b"\n").unwrap_or(line);
+        case(to, line, &mut first, &mut second, &mut out)?;
     }
     Ok(())
 }
 
-fn case<W: Write>(to: &mut W, line: &[u8]) -> io::Result<()> {
-    let mut first = [0u8; ROOM];
-    let mut second = [0u8; ROOM];
-    let mut out = [0u8; ROOM];
-    let Some(first_len) = bytes(word(line, 1), &mut first) else {
+fn case<W: Write>(
+    to: &mut W,
+    line: &[u8],
+    first: &mut [u8],
+    second: &mut [u8],
+    out: &mut [u8],
+) -> io::Result<()> {
+    let Some(first_len) = bytes(word(line, 1), first) else {
         return showing::unknown(to);
     };
-    let Some(second_len) = bytes(word(line, 2), &mut second) else {
+    let Some(second_len) = bytes(word(line, 2), second) else {
         return showing::unknown(to);
     };
-    let Some(out_len) = bytes(word(line, 3), &mut out) else {
+    let Some(out_len) = bytes(word(line, 3), out) else {
         return showing::unknown(to);
     };
     calls::run(

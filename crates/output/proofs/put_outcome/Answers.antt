@@ -1,14 +1,14 @@
 -- `put_outcome` meets its contract: the refusal, or the answers.
 use native.Mathlib.Omega.{arith}
-use Rattle.output.proofs.Outcomes.{number_fits, refusal_told, report_told}
+use Rattle.output.proofs.Outcomes.{refusal_fits, refusal_told, report_told}
 use borrow.Author.Rules.{rules}
 use Rattle.output.proofs.put_outcome.Goals as goal
 
 pub put_refusal-requires : goal.put_refusal-requires
-put_refusal-requires c = omega (arith, c.requires.0, number_fits c.args.line _ _ (search rules) c.number.ensures)
+put_refusal-requires c = omega (arith, c.requires.0, refusal_fits c.args.line c.in-Err.refusal (search rules) (search rules))
 
 pub returns-in-Err : goal.returns-in-Err
-returns-in-Err c = refusal_told c.args.line _ c.in-Err.is (search rules) c.number.ensures c.put_refusal.ensures
+returns-in-Err c = refusal_told c.args.line _ c.in-Err.is (search rules) (search rules) c.put_refusal.ensures
 
 pub put_report-requires : goal.put_report-requires
 put_report-requires c = (c.requires.0, rw c.in-Ok.is at c.requires.1)

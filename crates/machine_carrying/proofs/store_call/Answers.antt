@@ -1,6 +1,6 @@
--- `machine_carrying::take` meets its contract: the words lie at the step's slot.
+-- `machine_carrying::store_call` meets its contract: the words lie at the step's slot.
 use Rattle.runs.specs.Runs.{taken}
-use Rattle.machine_carrying.proofs.take.Goals as goal
+use Rattle.machine_carrying.proofs.store_call.Goals as goal
 
 pub returns : goal.returns
 unfolding taken
