@@ -10,7 +10,6 @@ use memory::Arrays;
 use output::put_outcome;
 use parse::Line;
 use progress::{Ending, Progress};
-use runs::numbered;
 
 // A line that was read is run and told.
 pub fn end_line(arrays: &mut Arrays<'_>, out: &mut [u8], line: Line, progress: Progress) -> Ending
@@ -24,7 +23,7 @@ pub fn end_line(arrays: &mut Arrays<'_>, out: &mut [u8], line: Line, progress: P
         out,
         progress.written,
         number,
-        numbered(stepped.report),
+        stepped.report,
         arrays.answers,
     );
     Ending {

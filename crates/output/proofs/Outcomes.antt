@@ -22,14 +22,14 @@ below n h = omega arith
 pub refusal_fits : (line r : ℕ) → line < 2 ^ 32 → r < 2 ^ 32 → length (outcome_text line (refusal r)) ≤ 35
 refusal_fits line r h g = omega (arith, refusal_room 10 10 line r (omega arith) (omega arith) (below line h) (below r g))
 
-module _ (line : ℕ) (l : List ℕ) where
+module _ {E : Type 0} (f : E → ℕ) (line : ℕ) (l : List ℕ) where
   -- a refusal has room, and is what is told
-  pub refusal_told : {q : Result Report ℕ} {n : ℕ} {out after : List ℕ} {at p : ℕ} → q ≡ Err n → line < 2 ^ 32 → n < 2 ^ 32
-      → Printed (outcome_text line (refusal n)) out at after p → Told (outcome_text line (outcome_of q l)) out at after p
+  pub refusal_told : {q : Result Report E} {e : E} {n : ℕ} {out after : List ℕ} {at p : ℕ} → q ≡ Err e → line < 2 ^ 32 → n < 2 ^ 32 → n ≡ f e
+      → Printed (outcome_text line (refusal n)) out at after p → Told (outcome_text line (outcome_of f q l)) out at after p
   unfolding outcome_of
-  refusal_told {n = n} {at = at} i h g d = rw i (record { printed = d; within = omega (arith, refusal_fits line n h g, d.ends) })
+  refusal_told {n = n} {at = at} i h g k d = rw (i, ← k) (record { printed = d; within = omega (arith, refusal_fits line n h g, d.ends) })
 
-  pub report_told : {q : Result Report ℕ} {r : Report} {out after : List ℕ} {at p : ℕ} → q ≡ Ok r → Told (report_text r l) out at after p → Told (outcome_text line (outcome_of q l)) out at after p
+  pub report_told : {q : Result Report E} {r : Report} {out after : List ℕ} {at p : ℕ} → q ≡ Ok r → Told (report_text r l) out at after p → Told (outcome_text line (outcome_of f q l)) out at after p
   unfolding outcome_of outcome_text
   report_told i d = rw i d
 

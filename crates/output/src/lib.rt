@@ -13,23 +13,24 @@ ghost use Rattle.output.specs.Told.{Told, report_text};
 use crate::answer_list::put_answers;
 use memory::AnswerWords;
 use print::other_lines::{put_refusal, put_tally};
+use refusals::Numbered;
 use runs::{Report, Tally};
 
 mod answer_list;
 
 // The refusal, which is told by its number, or the answers.
-pub fn put_outcome(
+pub fn put_outcome<E: Numbered>(
     out: &mut [u8],
     at: usize,
     line: u32,
-    told: Result<Report, u32>,
+    told: Result<Report, E>,
     answers: &AnswerWords,
 ) -> usize
     requires { (at + line_room ≤ length out.old) × IfOk told (λ report. report.answers ≤ most_answers) }
-    ensures { Told (outcome_text line (outcome_of told answers.now)) (was out) at (is out) result }
+    ensures { Told (outcome_text line (outcome_of E.told_number told answers.now)) (was out) at (is out) result }
 {
     match told {
-        Err(refusal) => put_refusal(out, at, line, refusal),
+        Err(refusal) => put_refusal(out, at, line, refusal.told_number()),
         Ok(report) => put_report(out, at, report, answers),
     }
 }

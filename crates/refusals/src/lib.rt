@@ -2,7 +2,7 @@
 // counts of a cluster, 6 and 18 with a server's head, 12 with the kind of message that is sent.
 #![tactic(auto)]
 
-ghost use Rattle.std.specs.Prelude.{◌≡◌, ◌≤◌};
+ghost use Rattle.std.specs.Prelude.{◌≡◌, ◌≤◌, ℕ};
 ghost use Rattle.memory.specs.Layout.{server_room, message_room};
 ghost use Rattle.refusals.specs.Refusals.{number, send_count, places_left, places_refusal, server_refusal, start_refusal, no_receiver, inside, message_refusal};
 
@@ -50,6 +50,30 @@ impl Refusal {
             Refusal::NoPlaces => 12,
             Refusal::BadCutOrStart => 18,
         }
+    }
+}
+
+// What says why a line is refused, told by a number: a refusal, or any number itself.
+pub trait Numbered: Copy {
+    ghost told_number: { Self → ℕ };
+
+    fn told_number(self) -> u32
+        ensures { result ≡ told_number self };
+}
+
+impl Numbered for Refusal {
+    ghost told_number = { number };
+
+    fn told_number(self) -> u32 {
+        self.number()
+    }
+}
+
+impl Numbered for u32 {
+    ghost told_number = { λ number. number };
+
+    fn told_number(self) -> u32 {
+        self
     }
 }
 

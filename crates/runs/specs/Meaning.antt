@@ -54,15 +54,10 @@ result_by t m l (Err e) = lines.refuse (state_in m t) (number e)
 abbrev pub result_of : lines.Tally → Ran → lines.LineResult
 result_of t x = result_by t x.memory x.answers x.told
 
--- a refusal by its number
-unfoldable pub numbered : Result Report Refusal → Result Report ℕ
-numbered (Ok r) = Ok r
-numbered (Err e) = Err (number e)
-
--- what is told of a report, or of a refusal by its number
-unfoldable pub outcome_of : Result Report ℕ → List ℕ → lines.Outcome
-outcome_of (Ok r) l = printed_in r l
-outcome_of (Err n) l = lines.refusal n
+-- what is told of a report, or of what says why a line is refused, by the number of each
+unfoldable pub outcome_of : {E : Type 0} → (E → ℕ) → Result Report E → List ℕ → lines.Outcome
+outcome_of f (Ok r) l = printed_in r l
+outcome_of f (Err e) l = lines.refusal (f e)
 
 -- what a line tells: the refusal, or the answers
 unfoldable pub outcome_in : Result Report Refusal → List ℕ → lines.Outcome

@@ -6,7 +6,7 @@ ghost use Rattle.std.specs.Prelude.{◌≡◌, ◌≤◌};
 ghost use Rattle.memory.specs.Layout.{message_room};
 ghost use Rattle.runs.specs.Runs.{next_counts, bare_report};
 ghost use Rattle.runs.specs.Carrying.{carried_report};
-ghost use Rattle.runs.specs.Meaning.{numbered, tally_after};
+ghost use Rattle.runs.specs.Meaning.{tally_after};
 
 use memory::Counts;
 use plans::Step;
@@ -86,18 +86,6 @@ pub fn bare_report() -> Report
         delivered: 0,
         lost: 0,
         messages: 0,
-    }
-}
-
-// What a line came to, a refusal by its number.
-#[inline(always)]
-#[tactic(auto, unfolding(crate::specs::Meaning::numbered))]
-pub fn numbered(told: Result<Report, Refusal>) -> Result<Report, u32>
-    ensures { result ≡ numbered told }
-{
-    match told {
-        Ok(report) => Ok(report),
-        Err(refusal) => Err(refusal.number()),
     }
 }
 
