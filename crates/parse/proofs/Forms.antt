@@ -5,7 +5,6 @@ use mathlib.Core.Bool.{Bool, true, false}
 use mathlib.Core.Option.{Option, none, some}
 use mathlib.Core.Logic.{◌⊎◌, inl, inr}
 use Rattle.std.specs.Prelude as O
-use Rattle.std.specs.Option.{unwrap_or}
 use Rattle.std.proofs.lemmas.Option.{same_Some}
 use Rattle.entries.specs.Decoded.{Key, Item}
 use Prim.Native.Nat.{ℕ, ◌+◌, ◌*◌}
@@ -245,7 +244,11 @@ setif_line (some s) (some k) (some e) (some v) = refl
 
 -- ---- a line that was read, or that it is malformed
 
-pub parsed_or : (o : Option Line) {r : O.Option Parsed} {m l : Parsed} → r ≡ optional_by parsed_line o → m ≡ line_with_numbers K.Malformed 0 0 → l ≡ unwrap_or r m → l ≡ parsed o
+pub parsed_some : (o : Option Line) {r : Parsed} → O.Some r ≡ optional_by parsed_line o → r ≡ parsed o
 unfolding parsed
-parsed_or none h e k = rw (k, h, e)
-parsed_or (some l) h e k = rw (k, h)
+parsed_some none h = cc
+parsed_some (some l) h = same_Some _ _ h
+
+pub parsed_none : (o : Option Line) {r : Parsed} → O.None ≡ optional_by parsed_line o → r ≡ parsed none → r ≡ parsed o
+parsed_none none h k = k
+parsed_none (some l) h k = cc

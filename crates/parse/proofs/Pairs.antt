@@ -1,11 +1,11 @@
 -- Keys and values: which words are pairs of hexadecimal digits, and the bytes that pairs stand for.
 use mathlib.Core.Path.{◌≡◌, refl, sym, ap, ◌∙◌}
 use mathlib.Core.List.{List, [], ◌∷◌, map}
-use mathlib.Core.Bool.{Bool, true, false, not, ◌&&◌, ◌||◌, and-false}
+use mathlib.Core.Bool.{Bool, true, false, not, ◌&&◌, ◌||◌, and-true, and-false, and_assoc}
 use Rattle.std.specs.Prelude as O
 use Rattle.std.specs.Prelude.{IfSome, is_some}
 use Rattle.std.specs.Option.{unwrap_or}
-use Rattle.std.specs.List.{list_all, range_with_len}
+use Rattle.std.specs.List.{fold, list_all, range_with_len}
 use Rattle.std.proofs.lemmas.Option.{same_Some}
 use mathlib.Core.Option.{Option, none, some}
 use Prim.Native.Nat.{ℕ, zero, suc, ◌≤◌, ◌<◌, ◌+◌, ◌*◌, ◌/◌, ◌%◌}
@@ -57,11 +57,11 @@ joined_good x y none = refl
 joined_good x y (some r) = refl
 
 -- pairs are an even number of digits
-pub pairs_present : (l : List ℕ) → present (pairs l) ≡ (eqb (length l % 2) 0 && list_all (λ b. is_some (optional (hex_digit b))) l)
+pairs_all : (l : List ℕ) → present (pairs l) ≡ (eqb (length l % 2) 0 && list_all (λ b. is_some (optional (hex_digit b))) l)
 unfolding pairs present
-pairs_present [] = refl
-pairs_present (a ∷ []) = refl
-pairs_present (a ∷ (b ∷ l)) = pair (hex_digit a) refl (hex_digit b) refl (pairs_present l)
+pairs_all [] = refl
+pairs_all (a ∷ []) = refl
+pairs_all (a ∷ (b ∷ l)) = pair (hex_digit a) refl (hex_digit b) refl (pairs_all l)
   where
     even : length (a ∷ (b ∷ l)) % 2 ≡ length l % 2
     even = omega arith
@@ -70,6 +70,14 @@ pairs_present (a ∷ (b ∷ l)) = pair (hex_digit a) refl (hex_digit b) refl (pa
     pair none e y f ih = rw (pair_step a b l, e) (unfold joined in sym (and-false (eqb (length (a ∷ (b ∷ l)) % 2) 0)))
     pair (some x) e none f ih = rw (pair_step a b l, e, f) (unfold joined in sym (and-false (eqb (length (a ∷ (b ∷ l)) % 2) 0)))
     pair (some x) e (some y) f ih = rw (pair_step a b l, e, f, even) (joined_good x y (pairs l) ∙ ih)
+
+-- whether all of them pass, from the first to the last
+fold_from : (f : ℕ → Bool) (r : Bool) (l : List ℕ) → fold (λ r b. r && f b) r l ≡ (r && list_all f l)
+fold_from f r [] = sym (and-true r)
+fold_from f r (b ∷ l) = fold_from f (r && f b) l ∙ and_assoc r (f b) (list_all f l)
+
+pub pairs_present : (l : List ℕ) → present (pairs l) ≡ (eqb (length l % 2) 0 && fold (λ r b. r && is_some (optional (hex_digit b))) true l)
+pairs_present l = rw (fold_from (λ b. is_some (optional (hex_digit b))) true l) (pairs_all l)
 
 -- ---- which words stand for bytes
 

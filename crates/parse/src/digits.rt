@@ -25,9 +25,8 @@ pub fn hex_digit(byte: u8) -> Option<u8>
     ensures low { IfSome result (λ figure. figure ≤ 15) }
 {
     match byte {
-        b'0'..=b'9' => Some(byte - b'0'),
         b'a'..=b'f' => Some(byte - b'a' + 10),
-        _ => None,
+        _ => digit(byte),
     }
 }
 

@@ -1,6 +1,6 @@
 // Keys and values in hexadecimal: whether a word is one, and the bytes that it stands for.
-ghost use Rattle.std.specs.Prelude.{◌≡◌, get_or, map, is_some};
-ghost use Rattle.std.specs.List.{list_all, range_with_len};
+ghost use Rattle.std.specs.Prelude.{◌≡◌, ◌&&◌, true, get_or, map, is_some};
+ghost use Rattle.std.specs.List.{fold, range_with_len};
 ghost use Rattle.model.specs.Parse.{hex_digit, pairs, hexadecimal, item};
 ghost use Rattle.parse.specs.Digits.{optional, optional_by, present, pair_bytes, item_bytes, Nibble};
 ghost use Rattle.parse.specs.Kept.{text_for, key_for, item_for};
@@ -9,11 +9,12 @@ use crate::digits::hex_digit;
 use crate::words::same_word;
 use entries::{Key, Text, Value};
 
-// Whether the bytes of a word are digits.
+// Whether the bytes of a word are digits. It doesn't stop at one that is none: so the compiler can test many at once.
 fn all_digits(word: &[u8]) -> bool
-    ensures { result ≡ list_all (λ byte. is_some (optional (hex_digit byte))) word.now }
+    ensures { result ≡ fold (λ all byte. all && is_some (optional (hex_digit byte))) true word.now }
 {
-    word.iter().all(|byte| hex_digit(*byte).is_some())
+    word.iter()
+        .fold(true, |all, byte| all & hex_digit(*byte).is_some())
 }
 
 // Whether a word is made of pairs of digits.
@@ -62,7 +63,7 @@ fn bytes_in<const ROOM: usize>(word: &[u8]) -> [u8; ROOM]
     ensures { result ≡ map (λ i. get_or (pair_bytes word.now) i 0) (range_with_len 0 ROOM) }
 {
     let mut bytes = [0; ROOM];
-    for i in 0..ROOM {
+    for i in 0..ROOM.min(word.len() / 2) {
         bytes[i] = pair_at(word, i);
     }
     bytes
@@ -100,7 +101,8 @@ pub fn key(word: &[u8]) -> Option<Key>
     }
 }
 
-// The value that a word is.
+// The value that a word is. Always inlined, so that it isn't handed back through memory.
+#[inline(always)]
 pub fn item(word: &[u8]) -> Option<Option<Value>>
     ensures { result ≡ optional_by item_for (item word.now) }
 {

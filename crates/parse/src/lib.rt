@@ -2,9 +2,9 @@
 #![tactic(auto)]
 
 ghost use Rattle.std.specs.Prelude.{◌≡◌};
+ghost use Rattle.std.proofs.Math.Option.{none};
 ghost use Rattle.model.specs.Parse.{parse};
-ghost use Rattle.parse.specs.Digits.{optional_by};
-ghost use Rattle.parse.specs.Meaning.{parsed_line, parsed};
+ghost use Rattle.parse.specs.Meaning.{parsed};
 
 use crate::shapes::{of_numbers, with_word};
 use crate::words::first_space;
@@ -54,20 +54,26 @@ pub struct Line {
 // The most bytes of a line (RULES, Lines 2).
 pub const MAX_LINE: usize = 120;
 
-// The line of these bytes, none where it is malformed (RULES, Lines 2).
-fn accepted(line: &[u8]) -> Option<Line>
-    ensures { result ≡ optional_by parsed_line (parse line.now) }
+// A line that is malformed (RULES, Lines 2).
+#[tactic(auto, unfolding(crate::specs::Meaning::parsed))]
+fn malformed() -> Line
+    ensures { result ≡ parsed none }
 {
-    if MAX_LINE < line.len() {
-        return None;
-    }
-    let end = first_space(line)?;
-    with_word(&line[..end], &line[end + 1..])
+    of_numbers(Kind::Malformed, 0, 0)
 }
 
 // The line of these bytes, which end before its line feed.
 pub fn parse_line(line: &[u8]) -> Line
     ensures { result ≡ parsed (parse line.now) }
 {
-    accepted(line).unwrap_or(of_numbers(Kind::Malformed, 0, 0))
+    if MAX_LINE < line.len() {
+        return malformed();
+    }
+    let Some(end) = first_space(line) else {
+        return malformed();
+    };
+    if let Some(read) = with_word(&line[..end], &line[end + 1..]) {
+        return read;
+    }
+    malformed()
 }

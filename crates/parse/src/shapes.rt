@@ -1,4 +1,5 @@
-// Lines by the number of their words, and by the first of them: none where a line is malformed.
+// Lines by the number of their words, and by the first of them: none where a line is malformed. Each is returned where it is found: as the
+// value of an `if` or a `match` it was copied once more, by each function that hands it up.
 ghost use Rattle.std.specs.Prelude.{◌≡◌, ◌∷◌};
 ghost use Rattle.model.specs.Text.{bytes};
 ghost use Rattle.model.specs.Parse.{number, hexadecimal, item, words, line_of1, line_of2, line_of3, line_of4, line_of};
@@ -11,6 +12,8 @@ use crate::words::{first_space, same_word};
 use crate::{Kind, Line};
 use entries::{Key, Value};
 
+// A line by its parts. Always inlined: as a call of its own it had the values copied once more.
+#[inline(always)]
 fn of_words(
     kind: Kind,
     first: u32,
@@ -77,20 +80,24 @@ fn line_of_1(word: &[u8], first: &[u8]) -> Option<Line>
     ensures { result ≡ optional_by parsed_line (line_of1 word.now first.now) }
 {
     if same_word(word, b"elect") {
-        number_line(Kind::Elect, first)
-    } else if same_word(word, b"deliver") {
-        number_line(Kind::Deliver, first)
-    } else if same_word(word, b"copy") {
-        number_line(Kind::Copy, first)
-    } else if same_word(word, b"lose") {
-        number_line(Kind::Lose, first)
-    } else if same_word(word, b"stop") {
-        number_line(Kind::Stop, first)
-    } else if same_word(word, b"start") {
-        number_line(Kind::Start, first)
-    } else {
-        None
+        return number_line(Kind::Elect, first);
     }
+    if same_word(word, b"deliver") {
+        return number_line(Kind::Deliver, first);
+    }
+    if same_word(word, b"copy") {
+        return number_line(Kind::Copy, first);
+    }
+    if same_word(word, b"lose") {
+        return number_line(Kind::Lose, first);
+    }
+    if same_word(word, b"stop") {
+        return number_line(Kind::Stop, first);
+    }
+    if same_word(word, b"start") {
+        return number_line(Kind::Start, first);
+    }
+    None
 }
 
 // A call with a key and no values.
@@ -105,86 +112,86 @@ fn two_numbers_line(word: &[u8], first: &[u8], second: &[u8]) -> Option<Line>
     ensures { result ≡ optional_by parsed_line (two_numbers_line word.now first.now second.now) }
 {
     if same_word(word, b"keys") {
-        numbers_line(Kind::Keys, first, second)
-    } else if same_word(word, b"timeout") {
-        numbers_line(Kind::Timeout, first, second)
-    } else if same_word(word, b"cut") {
-        numbers_line(Kind::Cut, first, second)
-    } else {
-        None
+        return numbers_line(Kind::Keys, first, second);
     }
+    if same_word(word, b"timeout") {
+        return numbers_line(Kind::Timeout, first, second);
+    }
+    if same_word(word, b"cut") {
+        return numbers_line(Kind::Cut, first, second);
+    }
+    None
 }
 
 fn line_of_2(word: &[u8], first: &[u8], second: &[u8]) -> Option<Line>
     ensures { result ≡ optional_by parsed_line (line_of2 word.now first.now second.now) }
 {
     if same_word(word, b"cluster") {
-        numbers_line(Kind::Cluster, first, second)
-    } else if same_word(word, b"get") {
-        key_line(Kind::Get, first, second)
-    } else if same_word(word, b"del") {
-        key_line(Kind::Del, first, second)
-    } else {
-        two_numbers_line(word, first, second)
+        return numbers_line(Kind::Cluster, first, second);
     }
+    if same_word(word, b"get") {
+        return key_line(Kind::Get, first, second);
+    }
+    if same_word(word, b"del") {
+        return key_line(Kind::Del, first, second);
+    }
+    two_numbers_line(word, first, second)
 }
 
 fn line_of_3(word: &[u8], first: &[u8], second: &[u8], third: &[u8]) -> Option<Line>
     ensures { result ≡ optional_by parsed_line (line_of3 word.now first.now second.now third.now) }
 {
     if same_word(word, b"set") {
-        call_line(Kind::Set, first, second, b"-", third)
-    } else {
-        None
+        return call_line(Kind::Set, first, second, b"-", third);
     }
+    None
 }
 
 fn line_of_4(word: &[u8], first: &[u8], second: &[u8], third: &[u8], fourth: &[u8]) -> Option<Line>
     ensures { result ≡ optional_by parsed_line (line_of4 word.now first.now second.now third.now fourth.now) }
 {
     if same_word(word, b"setif") {
-        call_line(Kind::SetIf, first, second, third, fourth)
-    } else {
-        None
+        return call_line(Kind::SetIf, first, second, third, fourth);
     }
+    None
 }
 
 // The words before `rest` are read, and `rest` holds one more, or several.
 fn with_four(word: &[u8], first: &[u8], second: &[u8], third: &[u8], rest: &[u8]) -> Option<Line>
     ensures { result ≡ optional_by parsed_line (line_of (word.now ∷ (first.now ∷ (second.now ∷ (third.now ∷ (words rest.now)))))) }
 {
-    match first_space(rest) {
-        None => line_of_4(word, first, second, third, rest),
-        Some(_) => None,
-    }
+    let Some(_) = first_space(rest) else {
+        return line_of_4(word, first, second, third, rest);
+    };
+    None
 }
 
 // The words before `rest` are read, and `rest` holds one more, or several.
 fn with_three(word: &[u8], first: &[u8], second: &[u8], rest: &[u8]) -> Option<Line>
     ensures { result ≡ optional_by parsed_line (line_of (word.now ∷ (first.now ∷ (second.now ∷ (words rest.now))))) }
 {
-    match first_space(rest) {
-        None => line_of_3(word, first, second, rest),
-        Some(end) => with_four(word, first, second, &rest[..end], &rest[end + 1..]),
-    }
+    let Some(end) = first_space(rest) else {
+        return line_of_3(word, first, second, rest);
+    };
+    with_four(word, first, second, &rest[..end], &rest[end + 1..])
 }
 
 // The words before `rest` are read, and `rest` holds one more, or several.
 fn with_two(word: &[u8], first: &[u8], rest: &[u8]) -> Option<Line>
     ensures { result ≡ optional_by parsed_line (line_of (word.now ∷ (first.now ∷ (words rest.now)))) }
 {
-    match first_space(rest) {
-        None => line_of_2(word, first, rest),
-        Some(end) => with_three(word, first, &rest[..end], &rest[end + 1..]),
-    }
+    let Some(end) = first_space(rest) else {
+        return line_of_2(word, first, rest);
+    };
+    with_three(word, first, &rest[..end], &rest[end + 1..])
 }
 
 // The words before `rest` are read, and `rest` holds one more, or several.
 pub fn with_word(word: &[u8], rest: &[u8]) -> Option<Line>
     ensures { result ≡ optional_by parsed_line (line_of (word.now ∷ (words rest.now))) }
 {
-    match first_space(rest) {
-        None => line_of_1(word, rest),
-        Some(end) => with_two(word, &rest[..end], &rest[end + 1..]),
-    }
+    let Some(end) = first_space(rest) else {
+        return line_of_1(word, rest);
+    };
+    with_two(word, &rest[..end], &rest[end + 1..])
 }

@@ -3,7 +3,7 @@ use mathlib.Core.Path.{◌≡◌, refl, sym, ap, subst, ◌∙◌}
 use mathlib.Core.List.{List, [], ◌∷◌, ◌++◌}
 use mathlib.Core.Bool.{Bool, true, false}
 use mathlib.Core.Option.{Option, none, some}
-use Prim.Native.Nat.{ℕ, suc, ◌≤◌, ◌<◌, ◌+◌, ◌-◌, ◌*◌}
+use Prim.Native.Nat.{ℕ, zero, suc, ◌≤◌, ◌<◌, ◌+◌, ◌-◌, ◌*◌}
 use native.Mathlib.Omega.{arith}
 use native.Mathlib.Decide.{dec_lt}
 use lib.Dec.{eqb, ltb}
@@ -14,7 +14,7 @@ use Rattle.std.proofs.lemmas.Slice.Eq.{strip_prefix_is}
 use Rattle.std.proofs.lemmas.Bool.Decides.{Decides-eqb}
 use Rattle.std.specs.List.{position_or_len}
 use Rattle.std.proofs.lemmas.Option.{cond_some}
-use lib.ListN.{length, take, drop, get_or, length-append, length-drop}
+use lib.ListN.{length, take, drop, get_or, length-append, length-drop, length-take}
 use lib.Seq.{take_all, take-add, drop-drop, get_or-drop, length-take-le}
 use borrow.Author.Tests.{ne_eqb, eqb-true, ltb-false, lt-ltb}
 use Rattle.entries.specs.Entries.{order}
@@ -131,6 +131,21 @@ pub feed_place : (l : List ℕ) {e : ℕ} → Some e ≡ position (λ b. eqb b 1
 unfolding first_feed
 feed_place l h = (cond_some _ _ _ (sym h)).1
 
+-- where one is found in the first n bytes it is the first of all
+first_early : (n : ℕ) (l : List ℕ) → first_feed (take n l) < length (take n l) → first_feed l ≡ first_feed (take n l)
+first_early zero l h = absurd (omega arith)
+first_early (suc n) [] h = absurd (omega arith)
+first_early (suc n) (b ∷ l) h = go (eqb b 10) refl (first_early n l)
+  where
+    go : (t : Bool) → eqb b 10 ≡ t → (first_feed (take n l) < length (take n l) → first_feed l ≡ first_feed (take n l)) → first_feed (b ∷ l) ≡ first_feed (b ∷ take n l)
+    go true e ih = first_here b l e ∙ sym (first_here b (take n l) e)
+    go false e ih = first_later b l e ∙ ap suc (ih (omega (arith, first_later b (take n l) e))) ∙ sym (first_later b (take n l) e)
+
+pub feed_early : (n : ℕ) (l : List ℕ) {e : ℕ} → Some e ≡ position (λ b. eqb b 10) (take n l) → e < length (take n l) → (first_feed l ≡ e) × (e < length l)
+feed_early n l {e} h k =
+    let f : first_feed (take n l) ≡ e = feed_place (take n l) h in
+    (first_early n l (omega (arith, f)) ∙ f, omega (arith, length-take n l))
+
 pub no_feed_there : (l : List ℕ) → None ≡ position (λ b. eqb b 10) l → NoFeed l
 unfolding first_feed
 no_feed_there l h = go (ltb (first_feed l) (length l)) refl
@@ -174,14 +189,13 @@ word_past : (l : List ℕ) → drop 8 (bytes "deliver " ++ l) ≡ l
 unfolding bytes
 word_past l = refl
 
-pub deliver_read : (input : List ℕ) (from : ℕ) (rest : List ℕ) {e n next : ℕ} → from ≤ length input → take (length input - from) (drop from input) ≡ bytes "deliver " ++ rest → Some e ≡ position (λ b. eqb b 10) rest → e < length rest → Some n ≡ optional (number (take e rest)) → next ≡ from + 8 + e + 1 → DeliverRead input from (record { number = n; next = next })
-deliver_read input from rest {e} {n} {next} h v p q r s =
+pub deliver_read : (input : List ℕ) (from : ℕ) (rest : List ℕ) {e n next : ℕ} → from ≤ length input → take (length input - from) (drop from input) ≡ bytes "deliver " ++ rest → first_feed rest ≡ e → e < length rest → Some n ≡ optional (number (take e rest)) → next ≡ from + 8 + e + 1 → DeliverRead input from (record { number = n; next = next })
+deliver_read input from rest {e} {n} {next} h v f q r s =
     let w : drop from input ≡ bytes "deliver " ++ rest = sym (take_all (length input - from) (drop from input) (rw length-drop (omega arith))) ∙ v in
     let past : drop (from + 8) input ≡ rest = sym (drop-drop 8 from input) ∙ ap (drop 8) w ∙ word_past rest in
     let size : length (drop from input) ≡ 8 + length rest = rw w (omega (arith, length-append (bytes "deliver ") rest, word_length)) in
     let k : from + 8 + e - (from + 8) ≡ e = omega arith in
     let l : between input (from + 8) (from + 8 + e) ≡ take e rest = rw (k, past) in
-    let f : first_feed rest ≡ e = feed_place rest p in
     let m : number (take e rest) ≡ some n = was_some (number (take e rest)) r in
     let d : (length (take e rest) ≤ 9) × (decimal_from 0 (take e rest) ≡ some n) = number_digits (take e rest) m in
     let number_there : NumberAt input (from + 8) n (from + 8 + e) =

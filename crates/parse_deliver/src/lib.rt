@@ -17,6 +17,9 @@ use progress::LINE_FEED;
 // The bytes of `deliver` and a space.
 const WORD_LEN: usize = 8;
 
+// The most bytes of a number with its line feed.
+const NUMBER_LEN: usize = 10;
+
 // The number of a line `deliver I`, and the place behind its line feed.
 #[derive(Clone, Copy)]
 pub struct Quick {
@@ -45,7 +48,7 @@ pub fn quick_deliver(input: &[u8], from: usize) -> Option<Quick>
     ensures { IfSome result (λ quick. DeliverRead input.now from quick) }
 {
     let rest = after_word(&input[from..])?;
-    let end = line_feed(rest)?;
+    let end = line_feed(&rest[..NUMBER_LEN.min(rest.len())])?;
     let number = number(&rest[..end])?;
     let next = from + WORD_LEN + end + 1;
     Some(Quick { number, next })

@@ -13,14 +13,14 @@ returns-then-same_word c = c.numbers_line.ensures ∙ cluster_line_lem _ _ ∙ r
 pub returns-then-same_word-2 : goal.returns-then-same_word-2
 unfolding line_of2 bytes
 returns-then-same_word-2 c =
-    c.key_line.ensures ∙ get_line _ _ ∙ rw (line_of2, sym c.same_word.ensures ∙ c.if-same_word.false, sym c.same_word-else-same_word.ensures ∙ c.if-same_word-2.true)
+    c.key_line.ensures ∙ get_line _ _ ∙ rw (line_of2, sym c.same_word.ensures ∙ c.if-same_word.false, sym c.same_word-2.ensures ∙ c.if-same_word-2.true)
 
 pub returns-then-same_word-3 : goal.returns-then-same_word-3
 unfolding line_of2 bytes
 returns-then-same_word-3 c =
-    c.key_line-then-same_word-3.ensures ∙ del_line _ _ ∙ rw (line_of2, sym c.same_word.ensures ∙ c.if-same_word.false, sym c.same_word-else-same_word.ensures ∙ c.if-same_word-2.false, sym c.same_word-else-same_word-2.ensures ∙ c.if-same_word-3.true)
+    c.key_line-then-same_word-3.ensures ∙ del_line _ _ ∙ rw (line_of2, sym c.same_word.ensures ∙ c.if-same_word.false, sym c.same_word-2.ensures ∙ c.if-same_word-2.false, sym c.same_word-3.ensures ∙ c.if-same_word-3.true)
 
-pub returns-else-same_word-3 : goal.returns-else-same_word-3
+pub returns : goal.returns
 unfolding two_numbers_line line_of2 bytes
-returns-else-same_word-3 c =
-    c.two_numbers_line.ensures ∙ rw (line_of2, sym c.same_word.ensures ∙ c.if-same_word.false, sym c.same_word-else-same_word.ensures ∙ c.if-same_word-2.false, sym c.same_word-else-same_word-2.ensures ∙ c.if-same_word-3.false)
+returns c =
+    c.two_numbers_line.ensures ∙ rw (line_of2, sym c.same_word.ensures ∙ c.if-same_word.false, sym c.same_word-2.ensures ∙ c.if-same_word-2.false, sym c.same_word-3.ensures ∙ c.if-same_word-3.false)

@@ -9,6 +9,6 @@ pub returns-then-same_word : goal.returns-then-same_word
 unfolding line_of4 bytes
 returns-then-same_word c = c.call_line.ensures ∙ setif_line _ _ _ _ ∙ rw (line_of4, sym c.same_word.ensures ∙ c.if-same_word.true)
 
-pub returns-else-same_word : goal.returns-else-same_word
+pub returns : goal.returns
 unfolding line_of4 bytes
-returns-else-same_word c = rw (line_of4, sym c.same_word.ensures ∙ c.if-same_word.false)
+returns c = rw (line_of4, sym c.same_word.ensures ∙ c.if-same_word.false)

@@ -12,14 +12,14 @@ returns-then-same_word c = c.numbers_line.ensures ∙ keys_line _ _ ∙ rw (two_
 pub returns-then-same_word-2 : goal.returns-then-same_word-2
 unfolding two_numbers_line bytes
 returns-then-same_word-2 c =
-    c.numbers_line-then-same_word-2.ensures ∙ timeout_line _ _ ∙ rw (two_numbers_line, sym c.same_word.ensures ∙ c.if-same_word.false, sym c.same_word-else-same_word.ensures ∙ c.if-same_word-2.true)
+    c.numbers_line-then-same_word-2.ensures ∙ timeout_line _ _ ∙ rw (two_numbers_line, sym c.same_word.ensures ∙ c.if-same_word.false, sym c.same_word-2.ensures ∙ c.if-same_word-2.true)
 
 pub returns-then-same_word-3 : goal.returns-then-same_word-3
 unfolding two_numbers_line bytes
 returns-then-same_word-3 c =
-    c.numbers_line-then-same_word-3.ensures ∙ cut_line _ _ ∙ rw (two_numbers_line, sym c.same_word.ensures ∙ c.if-same_word.false, sym c.same_word-else-same_word.ensures ∙ c.if-same_word-2.false, sym c.same_word-else-same_word-2.ensures ∙ c.if-same_word-3.true)
+    c.numbers_line-then-same_word-3.ensures ∙ cut_line _ _ ∙ rw (two_numbers_line, sym c.same_word.ensures ∙ c.if-same_word.false, sym c.same_word-2.ensures ∙ c.if-same_word-2.false, sym c.same_word-3.ensures ∙ c.if-same_word-3.true)
 
-pub returns-else-same_word-3 : goal.returns-else-same_word-3
+pub returns : goal.returns
 unfolding two_numbers_line bytes
-returns-else-same_word-3 c =
-    rw (two_numbers_line, sym c.same_word.ensures ∙ c.if-same_word.false, sym c.same_word-else-same_word.ensures ∙ c.if-same_word-2.false, sym c.same_word-else-same_word-2.ensures ∙ c.if-same_word-3.false)
+returns c =
+    rw (two_numbers_line, sym c.same_word.ensures ∙ c.if-same_word.false, sym c.same_word-2.ensures ∙ c.if-same_word-2.false, sym c.same_word-3.ensures ∙ c.if-same_word-3.false)

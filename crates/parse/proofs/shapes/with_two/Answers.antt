@@ -4,9 +4,9 @@ use Rattle.model.specs.Parse.{line_of}
 use Rattle.parse.proofs.Splitting.{words_cut, words_whole}
 use Rattle.parse.proofs.shapes.with_two.Goals as goal
 
-pub returns-in-None : goal.returns-in-None
+pub returns-in_default : goal.returns-in_default
 unfolding line_of
-returns-in-None c = c.line_of_2.ensures ∙ rw (← words_whole _ c.in-None.ensures.is)
+returns-in_default c = c.line_of_2.ensures ∙ rw (← words_whole _ c.in_default.ensures.is)
 
-pub returns-in-Some : goal.returns-in-Some
-returns-in-Some c = rw (words_cut _ c.in-Some.ensures.is) at c.with_three.ensures
+pub returns : goal.returns
+returns c = rw (words_cut _ c.in-Some.ensures.is) at c.with_three.ensures
