@@ -48,7 +48,7 @@ dash_bytes : pair_bytes (bytes "-") ≡ []
 unfolding pair_bytes bytes
 dash_bytes = refl
 
-hexadecimal_bytes : (l : List ℕ) → present (hexadecimal l) ≡ true → hexadecimal l ≡ some (pair_bytes l)
+pub hexadecimal_bytes : (l : List ℕ) → present (hexadecimal l) ≡ true → hexadecimal l ≡ some (pair_bytes l)
 hexadecimal_bytes [] h = unfold hexadecimal present in cc
 hexadecimal_bytes (b ∷ l) h = go (same_bytes (b ∷ l) (bytes "-")) refl
   where
@@ -65,7 +65,7 @@ unfolding pair_bytes bytes
 dot_bytes = refl
 
 -- the value of a word that is one
-item_bytes_lem : (l : List ℕ) → present (item l) ≡ true → item l ≡ some (item_bytes l)
+pub item_bytes_lem : (l : List ℕ) → present (item l) ≡ true → item l ≡ some (item_bytes l)
 item_bytes_lem [] h = unfold item present in cc
 item_bytes_lem (b ∷ l) h = go (same_bytes (b ∷ l) (bytes "-")) refl
   where

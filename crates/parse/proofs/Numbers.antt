@@ -73,12 +73,12 @@ module _ {l : List ℕ} {n i : ℕ} (c : Reading l n i) where
 
 -- ---- which words are numbers
 
-number_none : (l : List ℕ) → length l ≡ 0 → M.none ≡ number l
+pub number_none : (l : List ℕ) → length l ≡ 0 → M.none ≡ number l
 unfolding number
 number_none [] h = refl
 number_none (b ∷ l) h = absurd (omega arith)
 
-number_long : (l : List ℕ) → 9 < length l → M.none ≡ number l
+pub number_long : (l : List ℕ) → 9 < length l → M.none ≡ number l
 number_long [] h = absurd (omega arith)
 number_long (b ∷ []) h = absurd (omega arith)
 number_long (b ∷ (c ∷ l)) h = go (eqb b 48) refl
@@ -95,7 +95,7 @@ number_zero [] h e = absurd (omega arith)
 number_zero (b ∷ []) h e = absurd (omega arith)
 number_zero (b ∷ (c ∷ l)) h e = unfold number in rw (number, eq-eqb b 48 e)
 
-number_one : (b : ℕ) (o : M.Option ℕ) → digit b ≡ o → decimal_from 0 (b ∷ []) ≡ digit b
+pub number_one : (b : ℕ) (o : M.Option ℕ) → digit b ≡ o → decimal_from 0 (b ∷ []) ≡ digit b
 number_one b M.none e = unfold decimal_from in rw (decimal_from, e)
 number_one b (M.some d) e = unfold decimal_from in rw (decimal_from, e, zero-add)
 

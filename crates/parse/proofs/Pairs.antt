@@ -57,7 +57,7 @@ joined_good x y none = refl
 joined_good x y (some r) = refl
 
 -- pairs are an even number of digits
-pairs_all : (l : List ℕ) → present (pairs l) ≡ (eqb (length l % 2) 0 && list_all (λ b. is_some (optional (hex_digit b))) l)
+pub pairs_all : (l : List ℕ) → present (pairs l) ≡ (eqb (length l % 2) 0 && list_all (λ b. is_some (optional (hex_digit b))) l)
 unfolding pairs present
 pairs_all [] = refl
 pairs_all (a ∷ []) = refl
@@ -81,7 +81,7 @@ pairs_present l = rw (fold_from (λ b. is_some (optional (hex_digit b))) true l)
 
 -- ---- which words stand for bytes
 
-hexadecimal_dash : (l : List ℕ) → (length l ≡ 0 → ⊥) → same_bytes l (bytes "-") ≡ true → present (hexadecimal l) ≡ true
+pub hexadecimal_dash : (l : List ℕ) → (length l ≡ 0 → ⊥) → same_bytes l (bytes "-") ≡ true → present (hexadecimal l) ≡ true
 unfolding hexadecimal present
 hexadecimal_dash [] h e = absurd (h refl)
 hexadecimal_dash (b ∷ l) h e = rw (hexadecimal, e)

@@ -79,7 +79,7 @@ words_from_last w (b ∷ l) h = go (eqb b 32) refl (words_from_last (b ∷ w) l)
     go false e ih = cut_later w b l e ∙ ih (omega (arith, end_later b l e)) ∙ rw (reverse-cons b w, append_assoc)
 
 -- a space ends the first word
-words_next : (l : List ℕ) → word_end l < length l → words l ≡ take (word_end l) l ∷ words (drop (word_end l + 1) l)
+pub words_next : (l : List ℕ) → word_end l < length l → words l ≡ take (word_end l) l ∷ words (drop (word_end l + 1) l)
 unfolding words
 words_next l h = words_from_next [] l h
 
