@@ -4,4 +4,4 @@ use Rattle.parse_deliver.proofs.Delivering.{deliver_read}
 use Rattle.parse_deliver.proofs.quick_deliver.Goals as goal
 
 pub returns : goal.returns
-returns c = deliver_read c.args.input.now c.args.from _ c.requires c.in_ok-rest.ensures c.in_ok-end.ensures.is c.in_ok-end.ensures.within c.in_ok-number.ensures (omega arith)
+returns c = deliver_read c.args.input.now c.args.from _ c.in_ok-figures.figures c.requires c.in_ok-rest.ensures c.in_ok-figures.ensures (omega arith)
