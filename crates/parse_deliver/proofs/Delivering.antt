@@ -1,10 +1,12 @@
--- A line `deliver I` that is read where it lies is what the general reader reads.
+-- A line `deliver I` that is read in one pass is what the general reader reads.
 use mathlib.Core.Path.{◌≡◌, refl, sym, ap, subst, ◌∙◌}
 use mathlib.Core.List.{List, [], ◌∷◌, ◌++◌}
 use mathlib.Core.Bool.{Bool, true, false}
 use mathlib.Core.Option.{Option, none, some}
-use Prim.Native.Nat.{ℕ, zero, suc, ◌≤◌, ◌<◌, ◌+◌, ◌-◌, ◌*◌}
+use Prim.Native.Nat.{ℕ, suc, ◌≤◌, ◌<◌, ◌+◌, ◌-◌, ◌*◌, ◌^◌}
 use native.Mathlib.Omega.{arith}
+use native.Mathlib.Numerals.{add-one}
+use native.Mathlib.Nat.{pow-suc, pow-le-pow_right}
 use native.Mathlib.Decide.{dec_lt}
 use lib.Dec.{eqb, ltb}
 use Rattle.std.specs.Prelude.{Option as Maybe, Some, None, position, IfSome, MatchOption}
@@ -14,9 +16,9 @@ use Rattle.std.proofs.lemmas.Slice.Eq.{strip_prefix_is}
 use Rattle.std.proofs.lemmas.Bool.Decides.{Decides-eqb}
 use Rattle.std.specs.List.{position_or_len}
 use Rattle.std.proofs.lemmas.Option.{cond_some}
-use lib.ListN.{length, take, drop, get_or, length-append, length-drop, length-take}
-use lib.Seq.{take_all, take-add, drop-drop, get_or-drop, length-take-le}
-use borrow.Author.Tests.{ne_eqb, eqb-true, ltb-false, lt-ltb}
+use lib.ListN.{length, take, drop, get_or, length-append, length-drop}
+use lib.Seq.{take_all, take-add, take-suc, drop-drop, get_or-take, get_or-drop, length-take-le}
+use borrow.Author.Tests.{ne_eqb, eqb-true, ltb-false, lt-ltb, le-ltb}
 use Rattle.entries.specs.Entries.{order}
 use Rattle.table.specs.Form.{same_bytes}
 use Rattle.model.specs.Text.{bytes}
@@ -24,10 +26,10 @@ use Rattle.model.specs.Lines.{deliver}
 use Rattle.model.specs.Parse.{words_from, words, digit, decimal_from, number, made, line_of1, line_of, parse}
 use Rattle.input.specs.Reading.{NoFeed}
 use Rattle.input.proofs.Parts.{no_feed_append}
-use Rattle.parse.specs.Digits.{optional}
-use Rattle.parse.proofs.Numbers.{was_some, number_digits}
+use Rattle.parse.proofs.Numbers.{number_digits, number_read as digits_number}
 use Rattle.parse.proofs.Splitting.{word_end, no_end, end_later, words_last, parse_short}
-use Rattle.parse_deliver.specs.Deliver.{between, Begun, NumberAt, DeliverAt, DeliverRead}
+use Rattle.parse_deliver.specs.declared.Figures.{Figures}
+use Rattle.parse_deliver.specs.Deliver.{between, Begun, MayFollow, NumberRead, NumberAt, DeliverAt, DeliverRead}
 
 no_number : {A : Type 0} {n : ℕ} {o : Option ℕ} → o ≡ none → o ≡ some n → A
 no_number {n = n} e f =
@@ -131,21 +133,6 @@ pub feed_place : (l : List ℕ) {e : ℕ} → Some e ≡ position (λ b. eqb b 1
 unfolding first_feed
 feed_place l h = (cond_some _ _ _ (sym h)).1
 
--- where one is found in the first n bytes it is the first of all
-first_early : (n : ℕ) (l : List ℕ) → first_feed (take n l) < length (take n l) → first_feed l ≡ first_feed (take n l)
-first_early zero l h = absurd (omega arith)
-first_early (suc n) [] h = absurd (omega arith)
-first_early (suc n) (b ∷ l) h = go (eqb b 10) refl (first_early n l)
-  where
-    go : (t : Bool) → eqb b 10 ≡ t → (first_feed (take n l) < length (take n l) → first_feed l ≡ first_feed (take n l)) → first_feed (b ∷ l) ≡ first_feed (b ∷ take n l)
-    go true e ih = first_here b l e ∙ sym (first_here b (take n l) e)
-    go false e ih = first_later b l e ∙ ap suc (ih (omega (arith, first_later b (take n l) e))) ∙ sym (first_later b (take n l) e)
-
-pub feed_early : (n : ℕ) (l : List ℕ) {e : ℕ} → Some e ≡ position (λ b. eqb b 10) (take n l) → e < length (take n l) → (first_feed l ≡ e) × (e < length l)
-feed_early n l {e} h k =
-    let f : first_feed (take n l) ≡ e = feed_place (take n l) h in
-    (first_early n l (omega (arith, f)) ∙ f, omega (arith, length-take n l))
-
 pub no_feed_there : (l : List ℕ) → None ≡ position (λ b. eqb b 10) l → NoFeed l
 unfolding first_feed
 no_feed_there l h = go (ltb (first_feed l) (length l)) refl
@@ -189,26 +176,96 @@ word_past : (l : List ℕ) → drop 8 (bytes "deliver " ++ l) ≡ l
 unfolding bytes
 word_past l = refl
 
-pub deliver_read : (input : List ℕ) (from : ℕ) (rest : List ℕ) {e n next : ℕ} → from ≤ length input → take (length input - from) (drop from input) ≡ bytes "deliver " ++ rest → first_feed rest ≡ e → e < length rest → Some n ≡ optional (number (take e rest)) → next ≡ from + 8 + e + 1 → DeliverRead input from (record { number = n; next = next })
-deliver_read input from rest {e} {n} {next} h v f q r s =
+-- ---- digits one after the other: n is the number of those before i, at most nine, and no needless zero is the first
+
+pub record Figuring (l : List ℕ) (n i : ℕ) : Type 0 where
+  pub inside : i ≤ length l
+  pub size : n < 10 ^ i
+  pub short : i ≤ 9
+  pub means : decimal_from 0 (take i l) ≡ some n
+  pub alone : i ≡ 1 → n ≡ get_or l 0 0 - 48
+  pub no_zero : 1 < i → get_or l 0 0 ≡ 48 → ⊥
+
+pub figuring_starts : (l : List ℕ) → Figuring l 0 0
+figuring_starts l = record { inside = omega arith; size = omega arith; short = omega arith; means = unfold decimal_from in refl; alone = λ e. omega arith; no_zero = λ h e. omega arith }
+
+decimal_last : (n m d : ℕ) → decimal_from n [] ≡ some m → decimal_from (n * 10 + d) [] ≡ some (m * 10 + d)
+unfolding decimal_from
+decimal_last n m d e =
+    let j : n ≡ m = cc in
+    rw j
+
+decimal_append : (n m b d : ℕ) (l : List ℕ) → decimal_from n l ≡ some m → digit b ≡ some d → decimal_from n (l ++ (b ∷ [])) ≡ some (m * 10 + d)
+decimal_append n m b d [] e f = decimal_next n b d [] f ∙ decimal_last n m d e
+decimal_append n m b d (c ∷ l) e f = go (digit c) refl (λ k g. decimal_append k m b d l g f)
+  where
+    go : (o : Option ℕ) → digit c ≡ o → ((k : ℕ) → decimal_from k l ≡ some m → decimal_from k (l ++ (b ∷ [])) ≡ some (m * 10 + d)) → decimal_from n ((c ∷ l) ++ (b ∷ [])) ≡ some (m * 10 + d)
+    go none g ih = no_number (decimal_none n c l g) e
+    go (some x) g ih = decimal_next n c x (l ++ (b ∷ [])) g ∙ ih (n * 10 + x) (sym (decimal_next n c x l g) ∙ e)
+
+digit_of : (b : ℕ) → 48 ≤ b → b ≤ 57 → digit b ≡ some (b - 48)
+unfolding digit
+digit_of b h k = rw (digit, le-ltb b 48 h, lt-ltb b 58 (omega arith))
+
+module _ {l : List ℕ} {n i : ℕ} (c : Figuring l n i) where
+  -- there is room for one digit more
+  pub figuring_small : MayFollow n i → n < 100000000
+  figuring_small m = go (dec_lt 0 i)
+    where
+      go : Dec (0 < i) → n < 100000000
+      go (yes h) = omega (arith, c.size, (m h).1, pow-le-pow_right {n = 10} (omega arith) {i = i} {j = 8} (omega (arith, (m h).1)))
+      go (no h) = omega (arith, c.size, pow-le-pow_right {n = 10} (omega arith) {i = i} {j = 8} (omega arith))
+
+  pub figuring_goes_on : i < length l → MayFollow n i → 48 ≤ get_or l i 0 → get_or l i 0 ≤ 57 → Figuring l (n * 10 + (get_or l i 0 - 48)) (i + 1)
+  figuring_goes_on h m a b =
+      record {
+        inside = omega arith;
+        size = rw (add-one i, pow-suc 10 i) (omega (arith, c.size));
+        short = elim (dec_lt 0 i) [ yes k ↦ omega (arith, (m k).1) | no k ↦ omega arith ];
+        means = rw (add-one i, take-suc l i 0 h) (decimal_append 0 n (get_or l i 0) (get_or l i 0 - 48) (take i l) c.means (digit_of (get_or l i 0) a b));
+        alone = alone_next;
+        no_zero = no_zero_next;
+      }
+    where
+      alone_next : i + 1 ≡ 1 → n * 10 + (get_or l i 0 - 48) ≡ get_or l 0 0 - 48
+      alone_next e =
+          let z : i ≡ 0 = omega arith in
+          omega (arith, ap (λ (j : ℕ). get_or l j 0) z, c.size, pow-le-pow_right {n = 10} (omega arith) {i = i} {j = 0} (omega arith))
+
+      no_zero_next : 1 < i + 1 → get_or l 0 0 ≡ 48 → ⊥
+      no_zero_next k e = elim (dec_lt 1 i) [ yes j ↦ c.no_zero j e | no j ↦ omega (arith, c.alone (omega arith), (m (omega arith)).0) ]
+
+-- a number and the line feed behind it
+pub number_read : {l : List ℕ} {n i : ℕ} → Figuring l n i → 0 < i → i < length l → get_or l i 0 ≡ 10 → NumberRead l (record { number = n; count = i })
+number_read {l} {n} {i} c k w e =
+    let size : length (take i l) ≡ i = length-take-le i l c.inside in
+    record {
+      within = w;
+      feed = e;
+      reads =
+          sym (digits_number (take i l) (omega arith) (omega (arith, c.short)) (λ h g. c.no_zero (omega arith) (sym (get_or-take i l 0 0 (omega arith)) ∙ g)))
+          ∙ c.means;
+    }
+
+pub deliver_read : (input : List ℕ) (from : ℕ) (rest : List ℕ) (f : Figures) {next : ℕ} → from ≤ length input → take (length input - from) (drop from input) ≡ bytes "deliver " ++ rest → NumberRead rest f → next ≡ from + 8 + f.count + 1 → DeliverRead input from (record { number = f.number; next = next })
+deliver_read input from rest f {next} h v r s =
     let w : drop from input ≡ bytes "deliver " ++ rest = sym (take_all (length input - from) (drop from input) (rw length-drop (omega arith))) ∙ v in
     let past : drop (from + 8) input ≡ rest = sym (drop-drop 8 from input) ∙ ap (drop 8) w ∙ word_past rest in
     let size : length (drop from input) ≡ 8 + length rest = rw w (omega (arith, length-append (bytes "deliver ") rest, word_length)) in
-    let k : from + 8 + e - (from + 8) ≡ e = omega arith in
-    let l : between input (from + 8) (from + 8 + e) ≡ take e rest = rw (k, past) in
-    let m : number (take e rest) ≡ some n = was_some (number (take e rest)) r in
-    let d : (length (take e rest) ≤ 9) × (decimal_from 0 (take e rest) ≡ some n) = number_digits (take e rest) m in
-    let number_there : NumberAt input (from + 8) n (from + 8 + e) =
+    let k : from + 8 + f.count - (from + 8) ≡ f.count = omega arith in
+    let l : between input (from + 8) (from + 8 + f.count) ≡ take f.count rest = rw (k, past) in
+    let d : (length (take f.count rest) ≤ 9) × (decimal_from 0 (take f.count rest) ≡ some f.number) = number_digits (take f.count rest) r.reads in
+    let number_there : NumberAt input (from + 8) f.number (from + 8 + f.count) =
     record {
       onward = omega arith;
-      short = omega (arith, d.0, length-take-le e rest (omega arith));
-      within = omega (arith, size, length-drop from input);
-      feed = sym (get_or-drop (from + 8) input e 0) ∙ rw past (rw f at (there rest (rw f q)));
+      short = omega (arith, d.0, length-take-le f.count rest (omega (arith, r.within)));
+      within = omega (arith, r.within, size, length-drop from input);
+      feed = sym (get_or-drop (from + 8) input f.count 0) ∙ rw past r.feed;
       digits = rw l d.1;
-      reads = rw l m;
+      reads = rw l r.reads;
     } in
     record {
-      to = from + 8 + e;
+      to = from + 8 + f.count;
       next = s;
-      at = deliver_at input from n (from + 8 + e) (record { inside = omega (arith, size, length-drop from input); word = rw w (word_first rest) }) number_there;
+      at = deliver_at input from f.number (from + 8 + f.count) (record { inside = omega (arith, size, length-drop from input); word = rw w (word_first rest) }) number_there;
     }

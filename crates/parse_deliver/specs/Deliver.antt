@@ -5,6 +5,7 @@ use Rattle.model.specs.Lines.{deliver}
 use Rattle.model.specs.Parse.{decimal_from, number, parse}
 use Rattle.model.specs.Text.{bytes}
 use Rattle.input.specs.Reading.{NoFeed}
+use Rattle.parse_deliver.specs.declared.Figures.{Figures}
 use Rattle.parse_deliver.specs.declared.Quick.{Quick}
 
 -- the bytes from `from` to `to`
@@ -15,6 +16,16 @@ between l from to = take (to - from) (drop from l)
 pub record Begun (input : List ℕ) (from : ℕ) : Type 0 where
   pub inside : from + 8 ≤ length input
   pub word : take 8 (drop from input) ≡ bytes "deliver "
+
+-- one more digit may stand behind `count` digits of the number n: they are fewer than nine, and no zero stands alone
+abbrev pub MayFollow : (n count : ℕ) → Type 0
+MayFollow n count = 0 < count → (0 < n) × (count < 9)
+
+-- l begins with a number and a line feed behind it: its number, and how many digits it has
+pub record NumberRead (l : List ℕ) (f : Figures) : Type 0 where
+  pub within : f.count < length l
+  pub feed : get_or l f.count 0 ≡ 10
+  pub reads : number (take f.count l) ≡ some f.number
 
 -- the number n stands from `start` to `end`, and a line feed behind it
 pub record NumberAt (input : List ℕ) (start n end : ℕ) : Type 0 where

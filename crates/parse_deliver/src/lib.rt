@@ -1,24 +1,30 @@
-// A line `deliver I` and its line feed, read where they lie in the input: most lines of a script are such. Every other line
+// A line `deliver I` and its line feed, read in one pass where they lie in the input: most lines of a script are such. Every other line
 // is left to `parse`.
 #![tactic(auto)]
 
-ghost use Rattle.std.specs.Prelude.{◌≡◌, ◌++◌, ◌≤◌, ◌<◌, ◌==◌, length, drop, position, IfSome};
+ghost use Rattle.std.specs.Prelude.{◌≡◌, ◌++◌, ◌≤◌, ◌<◌, ◌==◌, length, drop, position, IfSome, IsTrue, ◌↔◌};
 ghost use Rattle.std.proofs.Math.Option.{some};
 ghost use Rattle.model.specs.Lines.{deliver};
 ghost use Rattle.model.specs.Text.{bytes};
 ghost use Rattle.parse.specs.Meaning.{parsed};
-ghost use Rattle.parse_deliver.specs.Deliver.{DeliverRead};
+ghost use Rattle.parse_deliver.specs.Deliver.{MayFollow, NumberRead, DeliverRead};
 
 use entries::{Key, Value};
-use parse::digits::number;
 use parse::{Kind, Line};
 use progress::LINE_FEED;
 
 // The bytes of `deliver` and a space.
 const WORD_LEN: usize = 8;
 
-// The most bytes of a number with its line feed.
-const NUMBER_LEN: usize = 10;
+// The most digits of a number (RULES, Lines 3).
+const MOST_DIGITS: usize = 9;
+
+// A number, and how many digits it has.
+#[derive(Clone, Copy)]
+struct Figures {
+    number: u32,
+    count: usize,
+}
 
 // The number of a line `deliver I`, and the place behind its line feed.
 #[derive(Clone, Copy)]
@@ -42,16 +48,41 @@ pub fn line_feed(input: &[u8]) -> Option<usize>
     input.iter().position(|byte| *byte == LINE_FEED)
 }
 
+// Whether one more digit may stand behind `count` digits of this number: nine are the most, and none follows a leading zero.
+fn may_follow(number: u32, count: usize) -> bool
+    ensures { IsTrue result ↔ MayFollow number count }
+{
+    count == 0 || (number != 0 && count < MOST_DIGITS)
+}
+
+// The number that these bytes begin with, if a line feed stands behind it: no byte after that is looked at, nor one after the tenth.
+fn number_and_feed(bytes: &[u8]) -> Option<Figures>
+    ensures { IfSome result (λ figures. NumberRead bytes.now figures) }
+{
+    let mut number: u32 = 0;
+    for (count, byte) in bytes.iter().enumerate() {
+        match *byte {
+            b'0'..=b'9' if may_follow(number, count) => {
+                number = number * 10 + u32::from(*byte - b'0');
+            }
+            LINE_FEED if 0 < count => return Some(Figures { number, count }),
+            _ => return None,
+        }
+    }
+    None
+}
+
 // The line that begins at `from`, if it is `deliver` with a number.
 pub fn quick_deliver(input: &[u8], from: usize) -> Option<Quick>
     requires { from ≤ length input.now }
     ensures { IfSome result (λ quick. DeliverRead input.now from quick) }
 {
     let rest = after_word(&input[from..])?;
-    let end = line_feed(&rest[..NUMBER_LEN.min(rest.len())])?;
-    let number = number(&rest[..end])?;
-    let next = from + WORD_LEN + end + 1;
-    Some(Quick { number, next })
+    let figures = number_and_feed(rest)?;
+    Some(Quick {
+        number: figures.number,
+        next: from + WORD_LEN + figures.count + 1,
+    })
 }
 
 // That line as the general reader gives it.
