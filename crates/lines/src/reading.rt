@@ -27,7 +27,7 @@ fn any_line(line: &mut KeptLine, input: &[u8], progress: Progress) -> Option<Rea
     }
 }
 
-// Most lines are `deliver` with a number and lie whole in the part: these are tried first.
+// Most lines are `deliver` with a number and lie whole in the part: these are tried first, in one pass.
 fn whole_line(line: &mut KeptLine, input: &[u8], progress: Progress) -> Option<Read>
     requires { progress.taken ≤ length input.now }
     ensures { ReadsWhole line (read_only input) progress result }
