@@ -3,7 +3,7 @@
 /// Words before the name in a definition of the logic.
 const MARKS: [&str; 5] = ["pub", "abbrev", "unfoldable", "record", "data"];
 /// Words before the name in a definition of the code.
-const KINDS: [&str; 5] = ["fn", "struct", "enum", "const", "mod"];
+const KINDS: [&str; 6] = ["fn", "struct", "enum", "trait", "const", "mod"];
 
 /// Names defined in the logic: `name : ..`, also of fields, constructors and
 /// what stands in a module, and `record Name ..`, `data Name ..`.
@@ -22,7 +22,7 @@ pub fn of_logic(text: &str) -> Vec<&str> {
         .collect()
 }
 
-/// Names defined in the code: functions, types, constants and modules, the
+/// Names defined in the code: functions, types, traits, constants and modules, the
 /// fields and variants of a struct or an enum, and parameters, where each has a
 /// line of its own.
 pub fn of_code(text: &str) -> Vec<&str> {
