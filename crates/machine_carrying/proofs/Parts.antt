@@ -16,7 +16,7 @@ use Rattle.views.specs.Queue.{flight, without_message, sent}
 use Rattle.machine_flight.specs.Flown.{Flown, sent_by}
 use Rattle.machine_flight.proofs.Sends.{flown_next}
 use Rattle.runs.specs.declared.Report.{Report}
-use Rattle.runs.specs.Runs.{next_counts, bare_report, left_flight, carried_run, lost_run}
+use Rattle.runs.specs.Runs.{next_counts, left_flight, carried_run, lost_run}
 use Rattle.runs.specs.declared.Told.{Told}
 use Rattle.runs.specs.Carrying.{CarriedOut}
 use Rattle.machine_carrying.specs.Carried.{with_filled, with_counted, flown_by, flown_counted, ServerChanged, CarriedOn, Lost}
@@ -76,10 +76,3 @@ pub lost_out : (c : Counts) (x : Step) (f : Effect) (m m1 m2 : Memory) (n : ℕ)
     → r ≡ record { effect = f; answers = 0; sent = 0; copied = x.copied; delivered = 0; lost = 1; messages = n } → Lost m c x f m2 r
 unfolding lost_run
 lost_out c x f m m1 m2 n r h e q = record { is = λ l. rw (q, e, h.is, h.count); effect = ap (λ y. y.effect) q }
-
--- the report of a lost message with the effect f, by a bare one
-abbrev pub lost_with : Effect → (copied count : ℕ) → Report → Report
-lost_with f k n b = record { effect = f; answers = b.answers; sent = b.sent; copied = k; delivered = b.delivered; lost = 1; messages = n }
-
-pub lost_report : (f : Effect) (k n : ℕ) (b : Report) → b ≡ bare_report → lost_with f k n b ≡ lost_with f k n bare_report
-lost_report f k n b e = ap (lost_with f k n) e

@@ -24,7 +24,7 @@ use memory_regions::{Bytes, Words};
 use moves::Move;
 use plans::{Plan, Step};
 use refusals::send_count;
-use runs::{Report, Told, bare_report, next_counts};
+use runs::{Report, Told, next_counts};
 use server::Effect;
 
 pub mod fresh;
@@ -129,10 +129,12 @@ pub fn lose(words: &mut Words, bytes: &Bytes, cluster: Counts, step: Step, effec
     store_counts(words, next_counts(cluster, count, step.calls));
     Report {
         effect,
+        answers: 0,
+        sent: 0,
         copied: step.copied,
+        delivered: 0,
         lost: 1,
         messages: count as u32,
-        ..bare_report()
     }
 }
 

@@ -11,7 +11,6 @@ ghost use Rattle.runs.specs.Meaning.{tally_after};
 use memory::Counts;
 use plans::Step;
 use plans::parts::no_effect;
-use refusals::Refusal;
 use server::Effect;
 
 // What a line that is accepted came to: how many answers it wrote; what it adds to the tally; the messages in flight after it; the effect of
