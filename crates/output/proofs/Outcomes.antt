@@ -9,7 +9,7 @@ use Rattle.entries.specs.Decoded.{table_in, value_bytes}
 use Rattle.model.specs.Lines.{refusal}
 use Rattle.model.specs.Print.{outcome_text}
 use Rattle.runs.specs.declared.Report.{Report}
-use Rattle.runs.specs.Meaning.{outcome_of}
+use Rattle.runs.specs.Meaning.{outcome_by}
 use Rattle.print.specs.Printed.{Printed}
 use Rattle.print.proofs.Room.{refusal_room}
 use Rattle.print.proofs.Printing.{printed_none}
@@ -25,12 +25,12 @@ refusal_fits line r h g = omega (arith, refusal_room 10 10 line r (omega arith) 
 module _ {E : Type 0} (f : E → ℕ) (line : ℕ) (l : List ℕ) where
   -- a refusal has room, and is what is told
   pub refusal_told : {q : Result Report E} {e : E} {n : ℕ} {out after : List ℕ} {at p : ℕ} → q ≡ Err e → line < 2 ^ 32 → n < 2 ^ 32 → n ≡ f e
-      → Printed (outcome_text line (refusal n)) out at after p → Told (outcome_text line (outcome_of f q l)) out at after p
-  unfolding outcome_of
+      → Printed (outcome_text line (refusal n)) out at after p → Told (outcome_text line (outcome_by f q l)) out at after p
+  unfolding outcome_by
   refusal_told {n = n} {at = at} i h g k d = rw (i, ← k) (record { printed = d; within = omega (arith, refusal_fits line n h g, d.ends) })
 
-  pub report_told : {q : Result Report E} {r : Report} {out after : List ℕ} {at p : ℕ} → q ≡ Ok r → Told (report_text r l) out at after p → Told (outcome_text line (outcome_of f q l)) out at after p
-  unfolding outcome_of outcome_text
+  pub report_told : {q : Result Report E} {r : Report} {out after : List ℕ} {at p : ℕ} → q ≡ Ok r → Told (report_text r l) out at after p → Told (outcome_text line (outcome_by f q l)) out at after p
+  unfolding outcome_by outcome_text
   report_told i d = rw i d
 
 pub none_told : (r : Report) (l out : List ℕ) (at : ℕ) → r.answers ≡ 0 → Told (report_text r l) out at out at

@@ -5,7 +5,7 @@ ghost use Rattle.std.specs.Prelude.{◌≤◌, ◌+◌, length, IfOk};
 ghost use Rattle.model.specs.Measures.{most_answers};
 ghost use Rattle.model.specs.Print.{outcome_text, tally_text};
 ghost use Rattle.memory.specs.Lent.{was, is};
-ghost use Rattle.runs.specs.Meaning.{outcome_of, tally_in};
+ghost use Rattle.runs.specs.Meaning.{outcome_by, tally_in};
 ghost use Rattle.print.specs.Printed.{Printed};
 ghost use Rattle.print.specs.Room.{line_room, tally_room};
 ghost use Rattle.output.specs.Told.{Told, report_text};
@@ -27,7 +27,7 @@ pub fn put_outcome<E: Numbered>(
     answers: &AnswerWords,
 ) -> usize
     requires { (at + line_room ≤ length out.old) × IfOk told (λ report. report.answers ≤ most_answers) }
-    ensures { Told (outcome_text line (outcome_of E.told_number told answers.now)) (was out) at (is out) result }
+    ensures { Told (outcome_text line (outcome_by E.told_number told answers.now)) (was out) at (is out) result }
 {
     match told {
         Err(refusal) => put_refusal(out, at, line, refusal.told_number()),

@@ -4,10 +4,10 @@ use mathlib.Core.Path.{refl}
 use Rattle.refusals.specs.declared.Refusal.{Refusal}
 use Rattle.refusals.specs.Refusals.{number}
 use Rattle.runs.specs.declared.Report.{Report}
-use Rattle.runs.specs.Meaning.{outcome_of, outcome_in}
+use Rattle.runs.specs.Meaning.{outcome_by, outcome_in}
 
 -- what is told of a line by the number of its refusal is what the line tells
-pub outcome_numbered : (q : Result Report Refusal) (l : List ℕ) → outcome_of number q l ≡ outcome_in q l
-unfolding outcome_of outcome_in
+pub outcome_numbered : (q : Result Report Refusal) (l : List ℕ) → outcome_by number q l ≡ outcome_in q l
+unfolding outcome_by outcome_in
 outcome_numbered (Ok r) l = refl
 outcome_numbered (Err e) l = refl

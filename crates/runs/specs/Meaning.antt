@@ -55,9 +55,9 @@ abbrev pub result_of : lines.Tally → Ran → lines.LineResult
 result_of t x = result_by t x.memory x.answers x.told
 
 -- what is told of a report, or of what says why a line is refused, by the number of each
-unfoldable pub outcome_of : {E : Type 0} → (E → ℕ) → Result Report E → List ℕ → lines.Outcome
-outcome_of f (Ok r) l = printed_in r l
-outcome_of f (Err e) l = lines.refusal (f e)
+unfoldable pub outcome_by : {E : Type 0} → (E → ℕ) → Result Report E → List ℕ → lines.Outcome
+outcome_by f (Ok r) l = printed_in r l
+outcome_by f (Err e) l = lines.refusal (f e)
 
 -- what a line tells: the refusal, or the answers
 unfoldable pub outcome_in : Result Report Refusal → List ℕ → lines.Outcome
