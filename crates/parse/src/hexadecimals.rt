@@ -1,5 +1,5 @@
 // Keys and values in hexadecimal: whether a word is one, and the bytes that it stands for.
-ghost use Rattle.std.specs.Prelude.{◌≡◌, ◌&&◌, true, get_or, map, is_some};
+ghost use Rattle.std.specs.Prelude.{◌≡◌, ◌<◌, ◌+◌, ◌*◌, ◌&&◌, true, length, get_or, map, is_some};
 ghost use Rattle.std.specs.List.{fold, range_with_len};
 ghost use Rattle.model.specs.Parse.{hex_digit, pairs, hexadecimal, item};
 ghost use Rattle.parse.specs.Digits.{optional, optional_by, present, pair_bytes, item_bytes, Nibble};
@@ -48,13 +48,11 @@ fn nibble(byte: u8) -> u8
     hex_digit(byte).unwrap_or(0)
 }
 
-// The byte that pair i stands for, 0 behind the last pair.
+// The byte that pair i stands for.
 fn pair_at(word: &[u8], i: usize) -> u8
+    requires { 2 * i + 1 < length word.now }
     ensures { result ≡ get_or (pair_bytes word.now) i 0 }
 {
-    if word.len() / 2 <= i {
-        return 0;
-    }
     nibble(word[2 * i]) * 16 + nibble(word[2 * i + 1])
 }
 

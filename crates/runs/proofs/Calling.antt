@@ -1,5 +1,5 @@
 -- The five calls: the run of a call is what the definitions make of its line.
-use Rattle.std.specs.Prelude.{Result, Ok, Err}
+use Rattle.std.specs.Prelude.{Result, Err}
 use Rattle.std.proofs.Common.{◌≡◌, ℕ, ◌+◌, ◌%◌, ◌^◌, ◌<◌, ◌≤◌, Bool, true, false, not, eqb, leb, ◌⊎◌, List, [], sym, refl, ap, ◌∙◌, subst, ap₂, subst₂, inl, inr, mod-eq_of_lt, arith, eqb-true, leb-true}
 use mathlib.Core.Option.{some}
 use borrow.Author.Tests.{lt-leb}
@@ -14,7 +14,7 @@ use Rattle.limits.proofs.Tables.{EffectWithin, effect_within}
 use Rattle.server.specs.declared.Call.{Call}
 use Rattle.server.specs.declared.Words.{Words}
 use Rattle.server.specs.declared.Effect.{Effect}
-use Rattle.server.specs.Views.{among, role_in, call_in, effect_in, chosen}
+use Rattle.server.specs.Views.{among, role_in, call_in, effect_in}
 use Rattle.memory.specs.declared.Counts.{Counts}
 use Rattle.memory.specs.Layout.{slot_of, counts_at, place_at}
 use Rattle.refusals.specs.declared.Refusal.{Refusal}
@@ -33,7 +33,7 @@ use Rattle.views.proofs.Whole.{whole_at, whole_begun}
 use Rattle.plans.specs.declared.Step.{Step}
 use Rattle.plans.specs.declared.Plan.{Plan}
 use Rattle.plans.specs.declared.Plan.TheVariants.{Takes}
-use Rattle.plans.specs.Plans.{no_message, carried, if_places_left, unless, bad_lengths, call_bucket, call_step, leader_refusal, take_plan, call_plan, call_at}
+use Rattle.plans.specs.Plans.{no_message, carried, unless, bad_lengths, call_bucket, call_step, leader_refusal, take_plan, call_plan, call_at}
 use Rattle.runs.specs.Runs.{taken, accepted, executed, CallEffect}
 use Rattle.runs.specs.Meaning.{state_in, result_of}
 use Rattle.runs.proofs.Filling.{apart}

@@ -1,6 +1,6 @@
 -- The order of the messages names no place twice after any line, whatever the line does.
 use Rattle.std.specs.Prelude.{Result, Ok, Err}
-use Rattle.std.proofs.Common.{◌≡◌, ℕ, ◌≤◌, Bool, true, false, eqb, List, length, sym, refl, ap, ◌∙◌, subst}
+use Rattle.std.proofs.Common.{◌≡◌, ℕ, ◌≤◌, Bool, true, false, List, length, sym, refl, subst}
 use Rattle.blocks.specs.Order.{Ordered}
 use Rattle.table.specs.Form.{within}
 use Rattle.model.specs.Measures.{max_servers, max_buckets}
@@ -21,7 +21,7 @@ use Rattle.plans.specs.declared.Plan.TheVariants.{Loses, Moves, Takes}
 use Rattle.parse.specs.declared.Kind.{Kind}
 use Rattle.parse.specs.declared.Kind.TheVariants as K
 use Rattle.parse.specs.declared.Line.{Line}
-use Rattle.runs.specs.Runs.{left_flight, moved_at, refused_run, lost_run, carried_run, taken, accepted, executed, fresh_memory, created_run, cluster_run, planned_run, run_by, line_run}
+use Rattle.runs.specs.Runs.{left_flight, moved_at, lost_run, carried_run, taken, accepted, executed, fresh_memory, created_run, cluster_run, planned_run, run_by, line_run}
 use Rattle.runs.proofs.Standing.{standing_measured}
 
 -- ---- where a cluster stands
