@@ -5,6 +5,7 @@ use mathlib.Core.Bool.{Bool, true, false}
 use mathlib.Core.Option.{Option, none, some}
 use mathlib.Core.Logic.{◌⊎◌, inl, inr}
 use Rattle.std.specs.Prelude as O
+use Rattle.std.specs.Option.{unwrap_or}
 use Rattle.std.proofs.lemmas.Option.{same_Some}
 use Rattle.entries.specs.Decoded.{Key, Item}
 use Prim.Native.Nat.{ℕ, ◌+◌, ◌*◌}
@@ -252,3 +253,9 @@ parsed_some (some l) h = same_Some _ _ h
 pub parsed_none : (o : Option Line) {r : Parsed} → O.None ≡ optional_by parsed_line o → r ≡ parsed none → r ≡ parsed o
 parsed_none none h k = k
 parsed_none (some l) h k = cc
+
+-- of both at once: what stands for none is a malformed line
+pub parsed_or : (o : Option Line) {r : O.Option Parsed} {m l : Parsed} → r ≡ optional_by parsed_line o → m ≡ line_with_numbers K.Malformed 0 0 → l ≡ unwrap_or r m → l ≡ parsed o
+unfolding parsed
+parsed_or o {r = O.Some x} h e k = k ∙ parsed_some o h
+parsed_or o {r = O.None} h e k = parsed_none o h (k ∙ e)

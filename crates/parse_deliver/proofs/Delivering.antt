@@ -26,7 +26,8 @@ use Rattle.model.specs.Lines.{deliver}
 use Rattle.model.specs.Parse.{words_from, words, digit, decimal_from, number, made, line_of1, line_of, parse}
 use Rattle.input.specs.Reading.{NoFeed}
 use Rattle.input.proofs.Parts.{no_feed_append}
-use Rattle.parse.proofs.Numbers.{number_digits, number_read as digits_number}
+use Rattle.parse.specs.Digits.{optional}
+use Rattle.parse.proofs.Numbers.{was_some, number_digits, number_read as digits_number}
 use Rattle.parse.proofs.Splitting.{word_end, no_end, end_later, words_last, parse_short}
 use Rattle.parse_deliver.specs.declared.Figures.{Figures}
 use Rattle.parse_deliver.specs.Deliver.{between, Begun, MayFollow, NumberRead, NumberAt, DeliverAt, DeliverRead}
@@ -247,8 +248,8 @@ number_read {l} {n} {i} c k w e =
           ∙ c.means;
     }
 
-pub deliver_read : (input : List ℕ) (from : ℕ) (rest : List ℕ) (f : Figures) {next : ℕ} → from ≤ length input → take (length input - from) (drop from input) ≡ bytes "deliver " ++ rest → NumberRead rest f → next ≡ from + 8 + f.count + 1 → DeliverRead input from (record { number = f.number; next = next })
-deliver_read input from rest f {next} h v r s =
+pub deliver_of_figures : (input : List ℕ) (from : ℕ) (rest : List ℕ) (f : Figures) {next : ℕ} → from ≤ length input → take (length input - from) (drop from input) ≡ bytes "deliver " ++ rest → NumberRead rest f → next ≡ from + 8 + f.count + 1 → DeliverRead input from (record { number = f.number; next = next })
+deliver_of_figures input from rest f {next} h v r s =
     let w : drop from input ≡ bytes "deliver " ++ rest = sym (take_all (length input - from) (drop from input) (rw length-drop (omega arith))) ∙ v in
     let past : drop (from + 8) input ≡ rest = sym (drop-drop 8 from input) ∙ ap (drop 8) w ∙ word_past rest in
     let size : length (drop from input) ≡ 8 + length rest = rw w (omega (arith, length-append (bytes "deliver ") rest, word_length)) in
@@ -269,3 +270,10 @@ deliver_read input from rest f {next} h v r s =
       next = s;
       at = deliver_at input from f.number (from + 8 + f.count) (record { inside = omega (arith, size, length-drop from input); word = rw w (word_first rest) }) number_there;
     }
+
+-- the same by the place of the first line feed and the number before it
+pub deliver_read : (input : List ℕ) (from : ℕ) (rest : List ℕ) {e n next : ℕ} → from ≤ length input → take (length input - from) (drop from input) ≡ bytes "deliver " ++ rest → Some e ≡ position (λ b. eqb b 10) rest → e < length rest → Some n ≡ optional (number (take e rest)) → next ≡ from + 8 + e + 1 → DeliverRead input from (record { number = n; next = next })
+deliver_read input from rest {e} {n} h v p q r s =
+    let f : first_feed rest ≡ e = feed_place rest p in
+    let read : NumberRead rest (record { number = n; count = e }) = record { within = q; feed = rw f at (there rest (rw f q)); reads = was_some (number (take e rest)) r } in
+    deliver_of_figures input from rest (record { number = n; count = e }) h v read s
